@@ -1,0 +1,10 @@
+pub mod Ladder
+pub mod Lattice
+pub mod Numbers
+pub mod Range
+pub mod Relation
+pub mod System
+pub mod Dense
+pub mod Dependency
+pub mod Bound
+pub mod Row

@@ -1,0 +1,5 @@
+pub mod Told
+pub mod Counts
+pub mod Begin
+pub mod Whole
+pub mod Memory
