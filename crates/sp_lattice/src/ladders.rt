@@ -1,7 +1,7 @@
 //! The threshold ladder: the bounds that stored intervals may have.
 //!
 //! Since a ladder has finitely many points, values that only grow come to rest, and no widening is needed.
-ghost use Rattle.std.specs.Prelude.{◌≡◌, ◌++◌, List, ℤ, IfOk, OnOk};
+ghost use Rattle.std.specs.Prelude.{◌≡◌, ◌≤◌, ◌+◌, ◌++◌, List, ℤ, length, IfOk, OnOk};
 ghost use Rattle.sp_lattice.specs.Ladder.{InBounds, IsLadder, IsLadderOf, IsGreatestNotAbove, IsLeastNotBelow, snapped_down, snapped_up, within, beside, HasTaken};
 
 use std::alloc::{AllocError, Global};
@@ -65,7 +65,8 @@ impl Ladder {
     /// The ladder of a program's constants: the base points, and k-1, k and k+1 of the first 256 distinct
     /// constants k by least absolute value, the positive one of two first, each within the bounds.
     pub fn new(alloc: Global, constants: &[i128]) -> Result<Ladder, AllocError>
-        ensures { IfOk result (λ ladder. IsLadderOf constants.now ladder) }
+        ensures points { IfOk result (λ ladder. IsLadderOf constants.now ladder) }
+        ensures few { IfOk result (λ ladder. length ladder ≤ 793) }
     {
         let taken = first_constants(alloc, constants)?;
         let mut points = Vec::from_slice(alloc, &BASE_POINTS)?;
@@ -110,7 +111,8 @@ impl Ladder {
 
 // The first constants in the order in which they are taken, each once.
 fn first_constants(alloc: Global, constants: &[i128]) -> Result<Vec<i128>, AllocError>
-    ensures { IfOk result (λ taken. HasTaken constants.now taken.items) }
+    ensures exact { IfOk result (λ taken. HasTaken constants.now taken.items) }
+    ensures few { IfOk result (λ taken. length taken.items ≤ 256) }
 {
     let mut taken = Vec::from_slice(alloc, constants)?;
     taken.sort_unstable_by_key(|k| (k.unsigned_abs(), *k < 0));
@@ -121,7 +123,8 @@ fn first_constants(alloc: Global, constants: &[i128]) -> Result<Vec<i128>, Alloc
 
 // Adds those of k-1, k and k+1 that lie within the bounds.
 fn push_beside(points: &mut Vec<i128>, k: i128) -> Result<(), AllocError>
-    ensures { OnOk result (points.new.items ≡ points.old.items ++ beside k) }
+    ensures all { OnOk result (points.new.items ≡ points.old.items ++ beside k) }
+    ensures few { OnOk result (length points.new.items ≤ length points.old.items + 3) }
 {
     push_within(points, k.saturating_sub(1))?;
     push_within(points, k)?;
@@ -131,7 +134,8 @@ fn push_beside(points: &mut Vec<i128>, k: i128) -> Result<(), AllocError>
 
 // Adds v where it lies within the bounds.
 fn push_within(points: &mut Vec<i128>, v: i128) -> Result<(), AllocError>
-    ensures { OnOk result (points.new.items ≡ points.old.items ++ within v) }
+    ensures all { OnOk result (points.new.items ≡ points.old.items ++ within v) }
+    ensures few { OnOk result (length points.new.items ≤ length points.old.items + 1) }
 {
     if (LOWEST..=HIGHEST).contains(&v) {
         points.push(v)?;

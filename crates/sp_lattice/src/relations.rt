@@ -1,6 +1,6 @@
 //! The six relations that C compares numbers by.
 ghost use Rattle.std.specs.Prelude.{◌≡◌, ℤ, not};
-ghost use Rattle.sp_lattice.specs.Relation.{holds};
+ghost use Rattle.sp_lattice.specs.Relation.{holds, opposite, flipped};
 
 /// A relation between two numbers (C90 6.3.8, 6.3.9). `holds` of `specs.Relation` says what each means.
 #[derive(Debug, Clone, Copy, PartialEq, Eq)]
@@ -16,7 +16,8 @@ pub enum Relation {
 impl Relation {
     /// The relation that holds exactly where this one does not.
     pub fn negated(self) -> Relation
-        ensures { (a b : ℤ) → holds result a b ≡ not (holds self a b) }
+        ensures value { result ≡ opposite self }
+        ensures meaning { (a b : ℤ) → holds result a b ≡ not (holds self a b) }
     {
         match self {
             Relation::Less => Relation::GreaterEqual,
@@ -30,7 +31,8 @@ impl Relation {
 
     /// The relation that holds of two numbers where this one holds of them the other way round.
     pub fn swapped(self) -> Relation
-        ensures { (a b : ℤ) → holds result a b ≡ holds self b a }
+        ensures value { result ≡ flipped self }
+        ensures meaning { (a b : ℤ) → holds result a b ≡ holds self b a }
     {
         match self {
             Relation::Less => Relation::Greater,

@@ -2,8 +2,7 @@
 use Rattle.std.specs.Prelude.{◌≡◌, ℕ, ◌+◌, ◌<◌, ◌≤◌, List, [], ◌∷◌, ◌++◌, length, map, All}
 use Rattle.std.specs.List.{filter_map}
 use Rattle.sp_small.specs.declared.syntax.Token.{Token}
-use Rattle.sp_lattice.specs.declared.relations.Relation.{Relation}
-use Rattle.sp_lattice.specs.declared.relations.Relation.TheVariants.{Less, LessEqual, Greater, GreaterEqual, Equal, Different}
+use Rattle.sp_lattice.specs.Relation.{opposite}
 use Rattle.sp_small.specs.declared.syntax.Condition.{Condition}
 use Rattle.sp_small.specs.declared.syntax.Command.{Command}
 use Rattle.sp_small.specs.declared.syntax.Command.TheVariants.{Start, Entry, Exit, Skip, Return, Assume}
@@ -29,14 +28,6 @@ edges_to n froms = map (λ m. record { from = m; to = n }) froms
 -- a new node, with an edge from each loose end, is the only loose end
 abbrev pub add : Command → Nodes → Nodes
 add c f = record { commands = f.commands ++ c ∷ []; edges = f.edges ++ edges_to (length f.commands) f.loose; loose = length f.commands ∷ [] }
-
-abbrev pub opposite : Relation → Relation
-opposite Less = GreaterEqual
-opposite LessEqual = Greater
-opposite Greater = LessEqual
-opposite GreaterEqual = Less
-opposite Equal = Different
-opposite Different = Equal
 
 abbrev pub negation : Condition → Condition
 negation c = record { scalar = c.scalar; relation = opposite c.relation; other = c.other }

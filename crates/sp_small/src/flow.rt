@@ -1,7 +1,7 @@
 //! Nodes and edges as statements are lowered, with the loose ends.
 
 ghost use Rattle.std.specs.Prelude.{◌≡◌, ◌+◌, ◌<◌, ◌^◌, ◌++◌, length, OnOk};
-ghost use Rattle.sp_small.specs.Lowering.{Nodes, no_nodes, edges_to, add, opposite, negation, fork, close, loosen};
+ghost use Rattle.sp_small.specs.Lowering.{Nodes, no_nodes, edges_to, add, negation, fork, close, loosen};
 
 use crate::syntax::{Command, Condition, Edge};
 use sp_lattice::Relation;
@@ -22,25 +22,12 @@ impl Model for Flow {
     ghost view = { λ f. record { commands = f.commands.items; edges = f.edges.items; loose = f.loose.items } };
 }
 
-fn opposite(relation: Relation) -> Relation
-    ensures { result ≡ opposite relation }
-{
-    match relation {
-        Relation::Less => Relation::GreaterEqual,
-        Relation::LessEqual => Relation::Greater,
-        Relation::Greater => Relation::LessEqual,
-        Relation::GreaterEqual => Relation::Less,
-        Relation::Equal => Relation::Different,
-        Relation::Different => Relation::Equal,
-    }
-}
-
 fn negation(condition: Condition) -> Condition
     ensures { result ≡ negation condition }
 {
     Condition {
         scalar: condition.scalar,
-        relation: opposite(condition.relation),
+        relation: condition.relation.negated(),
         other: condition.other,
     }
 }

@@ -1,0 +1,5 @@
+pub mod Solution
+pub mod Cause
+pub mod Waiting
+pub mod Visit
+pub mod Examples

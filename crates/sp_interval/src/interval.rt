@@ -1,0 +1,110 @@
+//! The type, the range rule, and the lattice of intervals under inclusion.
+ghost use Rattle.std.specs.Prelude.{◌≡◌};
+ghost use Rattle.sp_lattice.specs.Range.{IsIntegerRange};
+ghost use Rattle.sp_interval.specs.Interval.{IsFormed, between, hull, ranged};
+
+use sp_lattice::{Lattice, Range};
+use std::alloc::{AllocError, Global};
+
+/// An interval of whole numbers: none, or those from `lo` to `hi`.
+///
+/// An interval is formed where `lo` is at most `hi`, and both lie from -2^63 to 2^64-1 (`IsFormed` of
+/// `specs.Interval`). Each call needs formed intervals, and gives one.
+#[derive(Debug, Clone, Copy, PartialEq, Eq)]
+pub enum Interval {
+    Empty,
+    Of { lo: i128, hi: i128 },
+}
+
+impl Interval {
+    /// The numbers that a conversion to the type gives: the range rule alone (C90 6.2.1.2).
+    pub fn convert(self, kind: Range) -> Interval
+        requires range { IsIntegerRange kind }
+        requires formed { IsFormed self }
+        ensures value { result ≡ ranged kind self }
+        ensures formed { IsFormed result }
+    {
+        self.ranged(kind)
+    }
+
+    // The numbers from `lo` to `hi`.
+    pub(crate) fn between(lo: i128, hi: i128) -> Interval
+        ensures { result ≡ between lo hi }
+    {
+        if lo <= hi {
+            Interval::Of { lo, hi }
+        } else {
+            Interval::Empty
+        }
+    }
+
+    // The range rule: an interval that isn't within the range becomes the whole range.
+    pub(crate) fn ranged(self, kind: Range) -> Interval
+        ensures { result ≡ ranged kind self }
+    {
+        match self {
+            Interval::Of { lo, hi } if lo < kind.lo || kind.hi < hi => Interval::Of {
+                lo: kind.lo,
+                hi: kind.hi,
+            },
+            within => within,
+        }
+    }
+
+    // The least interval above both.
+    pub(crate) fn hull(self, other: Interval) -> Interval
+        ensures { result ≡ hull self other }
+    {
+        match (self, other) {
+            (Interval::Empty, _) => other,
+            (_, Interval::Empty) => self,
+            (
+                Interval::Of { lo, hi },
+                Interval::Of {
+                    lo: other_lo,
+                    hi: other_hi,
+                },
+            ) => Interval::Of {
+                lo: lo.min(other_lo),
+                hi: hi.max(other_hi),
+            },
+        }
+    }
+}
+
+impl Lattice for Interval {
+    ghost use Rattle.sp_interval.specs.Interval.{interval_order};
+    ghost use Rattle.sp_interval.specs.Inclusion.{interval_lawful};
+
+    ghost order = { interval_order };
+
+    fn bottom(_alloc: Global) -> Interval {
+        Interval::Empty
+    }
+
+    fn leq(&self, other: &Interval) -> bool {
+        match (*self, *other) {
+            (Interval::Empty, _) => true,
+            (_, Interval::Empty) => false,
+            (
+                Interval::Of { lo, hi },
+                Interval::Of {
+                    lo: other_lo,
+                    hi: other_hi,
+                },
+            ) => other_lo <= lo && hi <= other_hi,
+        }
+    }
+
+    fn join_into(&mut self, _alloc: Global, other: &Interval) -> Result<bool, AllocError> {
+        let grew = !other.leq(self);
+        *self = self.hull(*other);
+        Ok(grew)
+    }
+
+    fn copy(&self, _alloc: Global) -> Result<Interval, AllocError> {
+        Ok(*self)
+    }
+
+    ghost lawful = { interval_lawful };
+}

@@ -1,0 +1,15 @@
+pub mod Cases
+pub mod ByteLaws
+pub mod NumeralLaws
+pub mod LiteralLaws
+pub mod WordLaws
+pub mod MarkTable
+pub mod MarkLaws
+pub mod SpellingLaws
+pub mod ReadLaws
+pub mod TokenLaws
+pub mod PieceLaws
+pub mod UniqueLaws
+pub mod ScanLaws
+pub mod AnswerLaws
+pub mod Examples

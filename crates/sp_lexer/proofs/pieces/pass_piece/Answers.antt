@@ -1,0 +1,16 @@
+use Rattle.sp_lexer.proofs.pieces.pass_piece.Goals as goal
+
+pub returns-in-Blank-clause-step : goal.returns-in-Blank-clause-step
+returns-in-Blank-clause-step c = c.pass_blank.ensures.step c.args.names.now
+
+pub returns-in-LineComment-clause-step : goal.returns-in-LineComment-clause-step
+returns-in-LineComment-clause-step c = c.pass_line_comment.ensures.step c.args.names.now
+
+pub returns-in_ok-next-in-BlockComment-clause-step : goal.returns-in_ok-next-in-BlockComment-clause-step
+returns-in_ok-next-in-BlockComment-clause-step c = c.in_ok-next-in-BlockComment.ensures.step c.args.names.now
+
+pub returns-in_ok-next-in-MarkerLine-clause-step : goal.returns-in_ok-next-in-MarkerLine-clause-step
+returns-in_ok-next-in-MarkerLine-clause-step c = c.in_ok-next-in-MarkerLine.ensures.step
+
+pub returns-in_ok-kind-in-Spelling-clause-step : goal.returns-in_ok-kind-in-Spelling-clause-step
+returns-in_ok-kind-in-Spelling-clause-step c = c.in_ok-kind-in-Spelling.ensures.step

@@ -1,0 +1,8 @@
+use Rattle.std.proofs.Common.{◌≡◌, drop}
+use Rattle.std.specs.Prelude.{bytes_eq}
+use Rattle.std.specs.List.{list_any}
+use Rattle.sp_lexer.proofs.words.is_among.Given as goal
+
+-- whether it is among the words that are left is whether it is among all
+abbrev pub invariant-loop-other : goal.invariant-loop-other
+invariant-loop-other l = list_any (λ other. bytes_eq l.word other.now) (drop l.other-index l.words) ≡ list_any (λ other. bytes_eq l.word other.now) l.words

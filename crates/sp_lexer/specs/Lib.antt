@@ -1,0 +1,11 @@
+pub mod Bytes
+pub mod Spelling
+pub mod Extents
+pub mod Numerals
+pub mod Literals
+pub mod Words
+pub mod Markers
+pub mod Scan
+pub mod Marks
+pub mod Steps
+pub mod Answers

@@ -1,0 +1,4 @@
+use Rattle.sparrow.proofs.command.refusal.Goals as goal
+
+pub returns-clause-text : goal.returns-clause-text
+returns-clause-text c = rw c.code-code.ensures at c.in_ok-text.ensures.ok

@@ -1,0 +1,5 @@
+pub mod Report
+pub mod Line
+pub mod Words
+pub mod Answers
+pub mod Run

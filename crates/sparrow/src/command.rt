@@ -1,0 +1,181 @@
+//! The top call: from the words to the bytes written and the exit status.
+
+ghost use Rattle.std.specs.Prelude.{◌≡◌, ◌≢◌, ◌+◌, ◌*◌, ◌<◌, ◌≤◌, ℕ, List, [], Option, Some, None, Err, length, MatchOption, IfOk, true, false, string_bytes};
+ghost use Rattle.std.specs.Io.KnownBytes.{Appends};
+ghost use Rattle.sp_outside.specs.Told.{missing, IfHeld};
+ghost use Rattle.sp_outside.specs.Counts.{Rose};
+ghost use Rattle.sparrow.specs.Words.{file_of, usage_text};
+ghost use Rattle.sp_scalars.specs.Outcomes.{IsStepped};
+ghost use Rattle.sparrow.specs.Report.{lines_of, report_text};
+ghost use Rattle.sparrow.specs.Answers.{IsAnswer, IsReporting, WithoutSteps, refusal_text};
+ghost use Rattle.sparrow.specs.Run.{World, Ends, IsWhole, IsWriting, IsDone, IsFault};
+ghost use Rattle.sparrow.specs.declared.command.NoAnswer.TheVariants.{NoMemory};
+
+use crate::command_line::file_of;
+use crate::report::{Report, make_report};
+use sp_lattice::Steps;
+use sp_outside::{Files, ReadError, Sink, read_whole, write_whole};
+use sp_scalars::{Alarm, Outcome, analyse};
+use sp_small::MOST_BYTES;
+use sp_tree::FaultKind;
+use std::alloc::{AllocError, Global};
+use std::sync::ledger::Ledger;
+
+/// How a run ended; `as u8` is the exit status.
+#[derive(Clone, Copy, Debug, PartialEq, Eq)]
+pub enum Status {
+    /// The report was written, and lists no alarm.
+    Clean,
+    /// The report was written, and lists alarms.
+    Alarms,
+    /// The text was refused, and the line that says why was written.
+    Refused,
+    /// The words don't fit; the usage line was written, and no file was begun.
+    Usage,
+    /// The file can't be read; nothing was written.
+    ReadFault,
+    /// A write failed; a prefix was written.
+    WriteFault,
+    /// Memory ran out; nothing was written.
+    NoMemory,
+}
+
+/// The text of the answer to a file, and its status.
+#[derive(Drop)]
+struct Answer {
+    status: Status,
+    text: String,
+}
+
+/// The line that refuses a file at its beginning.
+fn refusal(alloc: Global, name: &str, kind: FaultKind) -> Result<Answer, AllocError>
+    ensures status { IfOk result (λ a. a.status ≡ Status.Refused) }
+    ensures text { IfOk result (λ a. string_bytes a.text ≡ refusal_text name.now kind) }
+{
+    let code = kind.code();
+    let text = format!(in alloc; "{name}:1:1: refused {code}: {kind}\n")?;
+    Ok(Answer {
+        status: Status::Refused,
+        text,
+    })
+}
+
+/// The report on alarms.
+fn report_on(alloc: Global, name: &str, alarms: &[Alarm]) -> Result<Answer, AllocError>
+    ensures { IfOk result (λ a. IsReporting a.status (lines_of name.now alarms.now) × (string_bytes a.text ≡ report_text (lines_of name.now alarms.now))) }
+{
+    let Report { text, count } = make_report(alloc, name, alarms)?;
+    let status = if count == 0 {
+        Status::Clean
+    } else {
+        Status::Alarms
+    };
+    Ok(Answer { status, text })
+}
+
+/// The answer to a text.
+fn answer_of<L: Ledger>(
+    alloc: Global,
+    name: &str,
+    text: &[u8],
+    steps: &mut Steps<L>,
+) -> Result<Answer, AllocError>
+    ensures answer { IfOk result (λ a. IsAnswer name.now text.now a.status (string_bytes a.text)) }
+    ensures refused { IfOk result (λ a. WithoutSteps a.status (steps.new ≡ steps.old)) }
+    ensures done { IfOk result (λ a. IsDone a.status) }
+    ensures steps { IsStepped text.now steps.old steps.new }
+{
+    match analyse(alloc, text, steps)? {
+        Outcome::Outside => refusal(alloc, name, FaultKind::Unbuilt),
+        Outcome::TooLarge { cells } => refusal(alloc, name, FaultKind::M8 { cells }),
+        Outcome::Alarms(alarms) => report_on(alloc, name, &alarms),
+    }
+}
+
+/// Why there is no answer to a file.
+#[derive(Clone, Copy)]
+enum NoAnswer {
+    /// The file can't be read.
+    ReadFault,
+    NoMemory,
+}
+
+impl From<AllocError> for NoAnswer {
+    ghost from_gives = { λ _ reason. reason ≡ NoMemory };
+
+    fn from(_error: AllocError) -> NoAnswer {
+        NoAnswer::NoMemory
+    }
+}
+
+/// The answer to a file.
+fn read_and_answer<F: Files, L: Ledger>(
+    alloc: Global,
+    name: &str,
+    files: &mut F,
+    steps: &mut Steps<L>,
+) -> Result<Answer, NoAnswer>
+    ensures answer { IfOk result (λ a. IfHeld (F.text_of files.old name.now) (λ text. IsAnswer name.now text a.status (string_bytes a.text))) }
+    ensures done { IfOk result (λ a. IsDone a.status) }
+    ensures refused { IfOk result (λ a. WithoutSteps a.status (steps.new ≡ steps.old)) }
+    ensures steps { IfHeld (F.text_of files.old name.now) (λ text. IsStepped text steps.old steps.new) }
+    ensures fault { result ≡ Err NoAnswer.ReadFault → IsFault (F.asked files.new) (F.begun files.new) name.now (F.faults files.old) (F.faults files.new) }
+    ensures still { result ≡ Err NoAnswer.ReadFault → steps.new ≡ steps.old }
+    ensures reads { F.failing files.old ≡ Some [] → F.text_of files.old name.now ≢ missing → result ≢ Err NoAnswer.ReadFault }
+{
+    match read_whole(alloc, files, name, MOST_BYTES as u64) {
+        Ok(text) => Ok(answer_of(alloc, name, &text, steps)?),
+        Err(ReadError::TooLong) => Ok(refusal(alloc, name, FaultKind::Unbuilt)?),
+        Err(ReadError::Fault) => Err(NoAnswer::ReadFault),
+        Err(ReadError::NoMemory) => Err(NoAnswer::NoMemory),
+    }
+}
+
+const USAGE: &[u8] = b"usage: sparrow COMMAND [OPTION] WORD..\n";
+
+/// Writes the bytes, and answers `status`, or `WriteFault` where a write failed.
+fn write_out<W: Sink>(out: &mut W, bytes: &[u8], status: Status) -> Status
+    requires { status ≢ Status.WriteFault }
+    ensures room { W.failing out.old ≡ Some [] → (left : ℕ) → W.room out.old ≡ Some left → length bytes.now ≤ left → result ≡ status }
+    ensures written { IsWriting result status bytes.now (W.written out.old) (W.written out.new) (W.faults out.old) (W.faults out.new) }
+{
+    match write_whole(out, bytes) {
+        Ok(()) => status,
+        Err(_) => Status::WriteFault,
+    }
+}
+
+/// Does what the words say: reads the FILE, analyses its text, and writes the answer. The whole answer is made before
+/// its first byte is written.
+///
+/// `Ends` of `specs/Run.antt` says what each status means.
+pub fn run<F: Files, W: Sink, L: Ledger>(
+    alloc: Global,
+    words: &[String],
+    files: &mut F,
+    out: &mut W,
+    steps: &mut Steps<L>,
+) -> Status
+    ensures ends { Ends words.now (F.text_of files.old)
+        (record { asked = F.asked files.old; begun = F.begun files.old; at = F.at files.old; read_faults = F.faults files.old; written = W.written out.old; write_faults = W.faults out.old; steps = steps.old })
+        (record { asked = F.asked files.new; begun = F.begun files.new; at = F.at files.new; read_faults = F.faults files.new; written = W.written out.new; write_faults = W.faults out.new; steps = steps.new })
+        result }
+    ensures unmoved { WithoutSteps result (steps.new ≡ steps.old) }
+    ensures steps { (name : List ℕ) → file_of words.now ≡ Some name → IfHeld (F.text_of files.old name) (λ text. IsStepped text steps.old steps.new) }
+
+    // Where no call of the files is told to fail and the name has a text, it is read.
+    ensures reads { F.failing files.old ≡ Some [] → (name : List ℕ) → file_of words.now ≡ Some name →
+        F.text_of files.old name ≢ missing → result ≢ Status.ReadFault }
+    // Where no call of the sink is told to fail and each answer to the words has room, it is written.
+    ensures writes { W.failing out.old ≡ Some [] → (left : ℕ) → W.room out.old ≡ Some left →
+        ((bytes : List ℕ) → IsWhole words.now (F.text_of files.old) bytes → length bytes ≤ left) → result ≢ Status.WriteFault }
+{
+    let Some(name) = file_of(words) else {
+        return write_out(out, USAGE, Status::Usage);
+    };
+    match read_and_answer(alloc, name, files, steps) {
+        Ok(answer) => write_out(out, answer.text.as_bytes(), answer.status),
+        Err(NoAnswer::ReadFault) => Status::ReadFault,
+        Err(NoAnswer::NoMemory) => Status::NoMemory,
+    }
+}

@@ -1,0 +1,1 @@
+int main(void){char c;return 0;}

@@ -1,0 +1,1 @@
+int main(void){int x;int y;x=0;y=5/x;return 0;}
