@@ -1,16 +1,26 @@
 -- From what was read and written to the end of a run.
-use Rattle.std.proofs.Common.{◌≢◌, ℕ, ◌<◌, inl, inr, List, length, sym, subst, arith, String}
+use Rattle.std.proofs.Common.{◌≡◌, ◌⊎◌, refl, ◌≢◌, ℕ, ◌<◌, inl, inr, List, length, sym, subst, arith, String}
 use Rattle.std.specs.declared.alloc.Global.{Global}
 use Rattle.sp_outside.specs.Told.{Told, untold, missing, held, IfHeld}
 use Rattle.sp_small.specs.Syntax.{IsOutside}
 use Rattle.sparrow.specs.declared.command.Status.{Status}
 use Rattle.sparrow.specs.declared.command.Status.TheVariants.{Clean, Alarms, Refused, Usage, ReadFault, WriteFault, NoMemory}
-use Rattle.sparrow.specs.Run.{World, Answers, Ends, IsWriting, IsDone}
+use Rattle.sparrow.specs.Run.{World, IfReadable, Answers, Ends, IsWriting, IsDone}
 
 pub held_weaker : (t : Told) {P Q : List ℕ → Type 0} → ((text : List ℕ) → P text → Q text) → IfHeld t P → IfHeld t Q
 held_weaker untold f p = tt
 held_weaker missing f p = tt
 held_weaker (held text) f p = f text p
+
+-- what holds of a told text holds of a readable one, where a missing one is ruled out
+pub readable : {A B : Type 0} (P : List ℕ → Type 0) (t : Told) → (t ≡ missing → A ⊎ B) → (A → ⊥) → (B → ⊥) → IfHeld t P → IfReadable t P
+readable P untold none first second p = tt
+readable {A = A} {B = B} P missing none first second p = neither (none refl)
+  where
+    neither : A ⊎ B → ⊥
+    neither (inl a) = first a
+    neither (inr b) = second b
+readable P (held text) none first second p = p
 
 -- a text that is too long is outside the language
 pub long_outside : (text : List ℕ) → 16384 < length text → IsOutside text

@@ -2,7 +2,7 @@
 use Rattle.std.specs.Prelude.{◌≡◌, ◌⊎◌, ℕ, ◌<◌, Bool, false, List, Option, Some, None, length, take, String}
 use Rattle.std.specs.declared.alloc.Global.{Global}
 use Rattle.std.specs.Io.KnownBytes.{Appends}
-use Rattle.sp_outside.specs.Told.{Told, IfHeld}
+use Rattle.sp_outside.specs.Told.{Told, untold, missing, held}
 use Rattle.sp_outside.specs.Counts.{Rose}
 use Rattle.sparrow.specs.declared.command.Status.{Status}
 use Rattle.sparrow.specs.declared.command.Status.TheVariants.{Clean, Alarms, Refused, Usage, ReadFault, WriteFault, NoMemory}
@@ -19,11 +19,17 @@ pub record World : Type 0 where
   pub write_faults : ℕ
   pub steps : ℕ
 
+-- P holds of the text, where it is told; of a name that is told to have none nothing holds
+abbrev pub IfReadable : Told → (List ℕ → Type 0) → Type 0
+IfReadable untold P = Unit {0}
+IfReadable missing P = ⊥
+IfReadable (held text) P = P text
+
 -- the words are a command and this FILE, and the answer to its text, with this status, is these bytes
 pub record Answers (words : List (String Global)) (texts : List ℕ → Told) (status : Status) (bytes : List ℕ) : Type 0 where
   pub name : List ℕ
   pub file : file_of words ≡ Some name
-  pub answer : IfHeld (texts name) (λ text. IsAnswer name text status bytes)
+  pub answer : IfReadable (texts name) (λ text. IsAnswer name text status bytes)
 
 -- the bytes are the answer to the words: the usage line where they don't fit
 abbrev pub IsWhole : List (String Global) → (List ℕ → Told) → List ℕ → Type 0

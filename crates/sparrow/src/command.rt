@@ -8,7 +8,7 @@ ghost use Rattle.sparrow.specs.Words.{file_of, usage_text};
 ghost use Rattle.sp_scalars.specs.Outcomes.{IsStepped};
 ghost use Rattle.sparrow.specs.Report.{lines_of, report_text};
 ghost use Rattle.sparrow.specs.Answers.{IsAnswer, IsReporting, WithoutSteps, refusal_text};
-ghost use Rattle.sparrow.specs.Run.{World, Ends, IsWhole, IsWriting, IsDone, IsFault};
+ghost use Rattle.sparrow.specs.Run.{World, Ends, IfReadable, IsWhole, IsWriting, IsDone, IsFault};
 ghost use Rattle.sparrow.specs.declared.command.NoAnswer.TheVariants.{NoMemory};
 
 use crate::command_line::file_of;
@@ -115,7 +115,7 @@ fn read_and_answer<F: Files, L: Ledger>(
     files: &mut F,
     steps: &mut Steps<L>,
 ) -> Result<Answer, NoAnswer>
-    ensures answer { IfOk result (λ a. IfHeld (F.text_of files.old name.now) (λ text. IsAnswer name.now text a.status (string_bytes a.text))) }
+    ensures answer { IfOk result (λ a. IfReadable (F.text_of files.old name.now) (λ text. IsAnswer name.now text a.status (string_bytes a.text))) }
     ensures done { IfOk result (λ a. IsDone a.status) }
     ensures refused { IfOk result (λ a. WithoutSteps a.status (steps.new ≡ steps.old)) }
     ensures steps { IfHeld (F.text_of files.old name.now) (λ text. IsStepped text steps.old steps.new) }
