@@ -17,6 +17,10 @@ cell rows n l = option_and_then (λ row. slice_get row l) (slice_get rows n)
 abbrev pub cells : {V : Type 0} → Meaning V → ℕ
 cells m = m.nodes * m.locations
 
+-- the most cells of a system that is solved
+abbrev pub most_cells : ℕ
+most_cells = 1048576
+
 -- a value for each node and location of a system, and none past their counts
 abbrev pub within_counts : {V : Type 0} → Meaning V → ℕ → ℕ → V → Option V
 within_counts m n l v = if nat_lt n m.nodes && nat_lt l m.locations then Some v else None

@@ -6,7 +6,7 @@ use sp_lattice::{Lattice, System};
 use std::alloc::{AllocError, Global};
 
 /// For each node the nodes into which an edge leads from it.
-pub(crate) fn successors<S: System>(system: &S, alloc: Global) -> Result<Vec<Vec<u32>>, AllocError>
+pub(crate) fn successors<S: System>(alloc: Global, system: &S) -> Result<Vec<Vec<u32>>, AllocError>
     ensures { IfOk result (λ lists. HasSuccessors (S.meaning system.now) lists.items) }
 {
     let mut lists: Vec<Vec<u32>> = Vec::new(alloc);

@@ -1,4 +1,4 @@
-//! One node's part in a sweep: its input, the effect of that, and what the effect adds to the node's row.
+//! What a visit of a node does: its input, the effect of that, and what the effect adds to the node's row.
 ghost use Rattle.std.specs.Prelude.{◌≡◌, ◌≤◌, ◌<◌, ◌+◌, ℕ, length, vec_len, IfOk, OnOk};
 ghost use Rattle.sp_lattice.specs.System.{AllBelow, Below, written};
 ghost use Rattle.sp_lattice.specs.Dense.{input, Partial, store_of, table_of};
@@ -11,8 +11,8 @@ use std::sync::ledger::Ledger;
 
 /// Raises the row of `node` by the effect of its input, and says whether it grew. Counts at most one step.
 pub(crate) fn visit<S: System, L: Ledger>(
-    system: &S,
     alloc: Global,
+    system: &S,
     rows: &mut Vec<Vec<S::Value>>,
     node: u32,
     steps: &mut Steps<L>,
@@ -24,8 +24,8 @@ pub(crate) fn visit<S: System, L: Ledger>(
         (λ grew. Visits S.Value.order (S.meaning system.now) rows.old.items rows.new.items node grew) }
     ensures ticked { steps.new ≤ steps.old + 1 }
 {
-    let mut effect = input_row(system, alloc, rows, node)?;
-    apply_effect(system, alloc, node, &mut effect, steps)?;
+    let mut effect = input_row(alloc, system, rows, node)?;
+    apply_effect(alloc, system, node, &mut effect, steps)?;
     let row = &mut rows[node as usize];
     let grew = raise(alloc, row, &effect)?;
     Ok(grew)
@@ -33,8 +33,8 @@ pub(crate) fn visit<S: System, L: Ledger>(
 
 /// The input of `node`: at each location the join of its predecessors' rows over the edges that pass it.
 pub(crate) fn input_row<S: System>(
-    system: &S,
     alloc: Global,
+    system: &S,
     rows: &Vec<Vec<S::Value>>,
     node: u32,
 ) -> Result<Vec<S::Value>, AllocError>
@@ -47,15 +47,15 @@ pub(crate) fn input_row<S: System>(
     let edges = system.edges_into(node);
     for from in edges {
         let other = &rows[*from as usize];
-        join_passed(system, alloc, &mut row, other, *from, node)?;
+        join_passed(alloc, system, &mut row, other, *from, node)?;
     }
     Ok(row)
 }
 
 /// Joins the row of `from` into `row`, at the locations that the edge to `node` passes.
 fn join_passed<S: System>(
-    system: &S,
     alloc: Global,
+    system: &S,
     row: &mut Vec<S::Value>,
     other: &Vec<S::Value>,
     from: u32,
@@ -80,8 +80,8 @@ fn join_passed<S: System>(
 /// Makes of the input of `node` its effect: the node is evaluated at what it uses, and what it defines is
 /// written over the row. Counts at most one step.
 fn apply_effect<S: System, L: Ledger>(
-    system: &S,
     alloc: Global,
+    system: &S,
     node: u32,
     row: &mut Vec<S::Value>,
     steps: &mut Steps<L>,

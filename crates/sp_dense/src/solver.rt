@@ -3,7 +3,7 @@ ghost use Rattle.std.specs.Prelude.{◌≡◌, ◌≤◌, ◌<◌, ◌+◌, ℕ,
 ghost use Rattle.sp_lattice.specs.Dense.{input, IsLeast, Partial, table_of};
 ghost use Rattle.sp_lattice.specs.Bound.{most_steps};
 ghost use Rattle.sp_dense.specs.Visit.{IsGrid, HasSuccessors, IsWorking, Works};
-ghost use Rattle.sp_dense.specs.Solution.{IsSolved, cells};
+ghost use Rattle.sp_dense.specs.Solution.{IsSolved, cells, most_cells};
 ghost use Rattle.sp_dense.specs.Cause.{IsCause};
 
 use crate::edges::successors;
@@ -47,12 +47,12 @@ impl From<AllocError> for DenseError {
 /// product. With N nodes, P locations and height H at most N * (1 + N * P * H) evaluations are counted,
 /// also where memory is wanted.
 pub fn solve_dense<S: System, L: Ledger>(
-    system: &S,
     alloc: Global,
+    system: &S,
     steps: &mut Steps<L>,
 ) -> Result<Table<S::Value>, DenseError>
     ensures solved { IfOk result (λ table. IsSolved S.Value.order (S.meaning system.now) table) }
-    ensures fits { OnOk result (cells (S.meaning system.now) ≤ MOST_CELLS) }
+    ensures fits { OnOk result (cells (S.meaning system.now) ≤ most_cells) }
     ensures refused { IfErr result (IsCause (S.meaning system.now) steps.old steps.new) }
     ensures bound { steps.new ≤ steps.old + most_steps (S.meaning system.now) }
 {
@@ -60,15 +60,15 @@ pub fn solve_dense<S: System, L: Ledger>(
     if cells > MOST_CELLS {
         return Err(DenseError::TooLarge { cells });
     }
-    let outputs = solve_rows(system, alloc, steps)?;
-    let inputs = input_rows(system, alloc, &outputs)?;
+    let outputs = solve_rows(alloc, system, steps)?;
+    let inputs = input_rows(alloc, system, &outputs)?;
     Ok(Table::from_rows(inputs, outputs))
 }
 
 /// The rows of the least solution.
 fn solve_rows<S: System, L: Ledger>(
-    system: &S,
     alloc: Global,
+    system: &S,
     steps: &mut Steps<L>,
 ) -> Result<Vec<Vec<S::Value>>, AllocError>
     ensures grid { IfOk result (λ rows. IsGrid (S.meaning system.now) rows.items) }
@@ -76,13 +76,13 @@ fn solve_rows<S: System, L: Ledger>(
         (λ rows. IsLeast S.Value.order (S.meaning system.now) (table_of S.Value.order.bottom rows.items)) }
     ensures bound { steps.new ≤ steps.old + most_steps (S.meaning system.now) }
 {
-    let mut rows = bottom_rows(system, alloc)?;
-    let successors = successors(system, alloc)?;
+    let mut rows = bottom_rows(alloc, system)?;
+    let successors = successors(alloc, system)?;
     let mut waiting = Worklist::all(alloc, system.nodes())?;
     'visits: while let Some(node) = waiting.take() {
         work(
-            system,
             alloc,
+            system,
             &mut rows,
             &successors,
             &mut waiting,
@@ -95,8 +95,8 @@ fn solve_rows<S: System, L: Ledger>(
 
 /// Visits a node that waited. Where its row grew, the nodes behind it wait again.
 fn work<S: System, L: Ledger>(
-    system: &S,
     alloc: Global,
+    system: &S,
     rows: &mut Vec<Vec<S::Value>>,
     successors: &Vec<Vec<u32>>,
     waiting: &mut Worklist,
@@ -114,7 +114,7 @@ fn work<S: System, L: Ledger>(
         rows.old.items rows.new.items waiting.old.waiting waiting.new.waiting) }
     ensures ticked { steps.new ≤ steps.old + 1 }
 {
-    if !visit(system, alloc, rows, node, steps)? {
+    if !visit(alloc, system, rows, node, steps)? {
         return Ok(());
     }
     let next = &successors[node as usize];
@@ -123,7 +123,7 @@ fn work<S: System, L: Ledger>(
 }
 
 /// A row of least values for each node.
-fn bottom_rows<S: System>(system: &S, alloc: Global) -> Result<Vec<Vec<S::Value>>, AllocError>
+fn bottom_rows<S: System>(alloc: Global, system: &S) -> Result<Vec<Vec<S::Value>>, AllocError>
     ensures { IfOk result (λ rows. map (λ row. row.items) rows.items ≡
         replicate (S.meaning system.now).nodes
         (replicate (S.meaning system.now).locations S.Value.order.bottom)) }
@@ -137,8 +137,8 @@ fn bottom_rows<S: System>(system: &S, alloc: Global) -> Result<Vec<Vec<S::Value>
 
 /// The input of each node, where these are the rows of all.
 fn input_rows<S: System>(
-    system: &S,
     alloc: Global,
+    system: &S,
     rows: &Vec<Vec<S::Value>>,
 ) -> Result<Vec<Vec<S::Value>>, AllocError>
     requires { IsGrid (S.meaning system.now) rows.now.items }
@@ -150,7 +150,7 @@ fn input_rows<S: System>(
 {
     let mut inputs = Vec::new(alloc);
     for node in 0..system.nodes() {
-        inputs.push(input_row(system, alloc, rows, node)?)?;
+        inputs.push(input_row(alloc, system, rows, node)?)?;
     }
     Ok(inputs)
 }

@@ -213,7 +213,7 @@ fn solve_ring<L: Ledger>(rt: &impl Abort, alloc: Global, blank: Blank) -> Result
     requires some { 0 < L.parts }
 {
     let mut steps: Steps<L> = Steps::new(blank);
-    let table = solve_dense(&Ring, alloc, &mut steps)?;
+    let table = solve_dense(alloc, &Ring, &mut steps)?;
     let empty = Some(None);
     let seven = Some(Some((7, 7)));
     let cases = [
@@ -243,7 +243,7 @@ fn refuse_wide<L: Ledger>(rt: &impl Abort, alloc: Global, blank: Blank)
 {
     let mut steps: Steps<L> = Steps::new(blank);
     let wide = Wide { nodes: 1_048_577 };
-    let refused = solve_dense(&wide, alloc, &mut steps).err();
+    let refused = solve_dense(alloc, &wide, &mut steps).err();
     assert_eq!(rt; refused, Some(DenseError::TooLarge { cells: 1_048_577 }));
 }
 

@@ -18,17 +18,6 @@ pub fn bottoms<V: Lattice>(alloc: Global, count: usize) -> Result<Vec<V>, AllocE
     Ok(row)
 }
 
-/// A copy of each value, in order.
-pub fn copies<V: Lattice>(alloc: Global, values: &[V]) -> Result<Vec<V>, AllocError>
-    ensures { IfOk result (λ row. row.items ≡ values.now) }
-{
-    let mut row = Vec::new(alloc);
-    for value in values {
-        row.push(value.copy(alloc)?)?;
-    }
-    Ok(row)
-}
-
 /// Copies of the values that a row has at some places.
 pub fn values_of<V: Lattice>(alloc: Global, row: &[V], places: &[u32]) -> Result<Vec<V>, AllocError>
     requires { AllBelow (length row.now) places.now }
@@ -91,7 +80,7 @@ mod tests {
     }
 
     #[test]
-    fn makes_copies_and_raises(rt: HostRuntime) -> Result<(), Fail> {
+    fn raises_and_picks_values(rt: HostRuntime) -> Result<(), Fail> {
         let alloc = rt.alloc();
         let mut row = bottoms::<u8>(alloc, 3)?;
         assert_eq!(rt; row.as_slice(), [0, 0, 0].as_slice());
@@ -99,8 +88,7 @@ mod tests {
         assert_eq!(rt; row.as_slice(), [0, 7, 2].as_slice());
         assert_eq!(rt; row.len(), 3);
         assert_eq!(rt; raise(alloc, &mut row, &[0, 5, 2])?, false);
-        assert_eq!(rt; copies(alloc, &row)?.as_slice(), [0, 7, 2].as_slice());
-        assert_eq!(rt; row.len(), 3);
+        assert_eq!(rt; row.as_slice(), [0, 7, 2].as_slice());
         let picked = values_of(alloc, &row, &[2, 1, 1])?;
         assert_eq!(rt; picked.as_slice(), [2, 7, 7].as_slice());
         Ok(())

@@ -74,8 +74,8 @@ module _ (commands : List Command) (edges : List Edge) (scalars : ℕ) (points :
     alarms_are = are ∙ all_alarms-same commands scalars (grid_inputs grids.inputs) (input interval_order (meaning_of commands edges scalars points) solved.dense) grid_input;
   }
 
-pub stepped : {text numbers : List ℕ} {commands : List Command} {edges : List Edge} {scalars : ℕ} {points : List ℤ} (before after : ℕ) → IsLowered text commands edges scalars numbers → IsLadderOf (map pos numbers) points → after ≤ before + most_steps (meaning_of commands edges scalars points) → IsStepped text before after
-stepped {text} {numbers} {commands} {edges} {scalars} {points} before after lowered of bound =
+pub stepped : {text numbers : List ℕ} {commands : List Command} {edges : List Edge} {scalars : ℕ} {points : List ℤ} (before after : ℕ) → IsLowered text commands edges scalars numbers → IsLadderOf (map pos numbers) points → length commands * scalars ≤ 1048576 → after ≤ before + most_steps (meaning_of commands edges scalars points) → IsStepped text before after
+stepped {text} {numbers} {commands} {edges} {scalars} {points} before after lowered of fits bound =
     inr (
       most_steps (meaning_of commands edges scalars points),
       record {
@@ -84,6 +84,7 @@ stepped {text} {numbers} {commands} {edges} {scalars} {points} before after lowe
         scalars = scalars;
         numbers = numbers;
         lowered = lowered;
+        fits = fits;
         points = points;
         ladder = of;
         bounded = omega arith;

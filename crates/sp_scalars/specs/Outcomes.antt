@@ -33,13 +33,14 @@ IsUnanswered Outside = Unit {0}
 IsUnanswered (TooLarge slots) = Unit {0}
 IsUnanswered (Alarms alarms) = ⊥
 
--- The text is in the language, and so many evaluations are within the bound of its equations.
+-- The text's program has not too many slots, and so many evaluations are within the bound of its equations.
 pub record HasBound (text : List ℕ) (evaluations : ℕ) : Type 0 where
   pub commands : List Command
   pub edges : List Edge
   pub scalars : ℕ
   pub numbers : List ℕ
   pub lowered : IsLowered text commands edges scalars numbers
+  pub fits : length commands * scalars ≤ most_slots
   pub points : List ℤ
   pub ladder : IsLadderOf (map pos numbers) points
   pub bounded : evaluations ≤ most_steps (meaning_of commands edges scalars points)

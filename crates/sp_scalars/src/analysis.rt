@@ -127,7 +127,7 @@ pub fn analyse<L: Ledger>(
         return Ok(Outcome::Outside);
     };
     let system = system_of(alloc, program)?;
-    match solve_dense(&system, alloc, steps) {
+    match solve_dense(alloc, &system, steps) {
         Ok(table) => Ok(Outcome::Alarms(alarms_of(alloc, &system, &table)?)),
         Err(DenseError::TooLarge { cells }) => Ok(Outcome::TooLarge { cells }),
         Err(DenseError::NoMemory) => Err(AllocError),

@@ -1,9 +1,8 @@
 -- The words of the small language: names, numbers, marks.
-use Rattle.std.specs.Prelude.{ℕ, ◌+◌, ◌-◌, ◌*◌, ◌==◌, nat_le, Bool, true, false, ◌&&◌, ◌||◌, not, List, [], ◌∷◌, Option, Some, None, if◌then◌else◌, length, map}
+use Rattle.std.specs.Prelude.{ℕ, ◌+◌, ◌-◌, ◌*◌, ◌==◌, nat_le, Bool, true, false, ◌&&◌, ◌||◌, not, List, [], ◌∷◌, Option, Some, None, if◌then◌else◌, length, codes}
 use Rattle.std.specs.List.{list_all}
 use Rattle.std.specs.Char.{is_ascii_digit, is_ascii_alphabetic}
 use Rattle.std.specs.Str.{bytes_eq}
-use Rattle.sp_small.specs.declared.words.TheConstants.{RESERVED}
 
 -- letters, digits and `_`
 abbrev pub is_word_byte : ℕ → Bool
@@ -13,10 +12,14 @@ abbrev pub is_listed : List (List ℕ) → List ℕ → Bool
 is_listed [] w = false
 is_listed (r ∷ rs) w = if bytes_eq r w then true else is_listed rs w
 
+-- the keywords of C90 (6.1.1), and three words that the language keeps free of
+abbrev pub reserved : List (List ℕ)
+reserved = codes "auto" ∷ codes "break" ∷ codes "case" ∷ codes "char" ∷ codes "const" ∷ codes "continue" ∷ codes "default" ∷ codes "do" ∷ codes "double" ∷ codes "else" ∷ codes "enum" ∷ codes "extern" ∷ codes "float" ∷ codes "for" ∷ codes "goto" ∷ codes "if" ∷ codes "int" ∷ codes "long" ∷ codes "register" ∷ codes "return" ∷ codes "short" ∷ codes "signed" ∷ codes "sizeof" ∷ codes "static" ∷ codes "struct" ∷ codes "switch" ∷ codes "typedef" ∷ codes "union" ∷ codes "unsigned" ∷ codes "void" ∷ codes "volatile" ∷ codes "while" ∷ codes "asm" ∷ codes "setjmp" ∷ codes "longjmp" ∷ []
+
 -- a name: letters, digits and `_`, a letter first, and no reserved word
 abbrev pub is_name : List ℕ → Bool
 is_name [] = false
-is_name (b ∷ bs) = is_ascii_alphabetic b && list_all is_word_byte bs && not (is_listed (map (λ r. r.now) RESERVED) (b ∷ bs))
+is_name (b ∷ bs) = is_ascii_alphabetic b && list_all is_word_byte bs && not (is_listed reserved (b ∷ bs))
 
 -- the value of decimal digits behind a value
 abbrev pub value_from : ℕ → List ℕ → ℕ

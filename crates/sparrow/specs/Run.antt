@@ -9,7 +9,7 @@ use Rattle.sparrow.specs.declared.command.Status.TheVariants.{Clean, Alarms, Ref
 use Rattle.sparrow.specs.Words.{file_of, usage_text}
 use Rattle.sparrow.specs.Answers.{IsAnswer}
 
--- what the files, the sink and the step counter tell
+-- what the files and the sink tell
 pub record World : Type 0 where
   pub asked : Option (List ℕ)
   pub begun : Bool
@@ -17,7 +17,6 @@ pub record World : Type 0 where
   pub read_faults : ℕ
   pub written : Option (List ℕ)
   pub write_faults : ℕ
-  pub steps : ℕ
 
 -- P holds of the text, where it is told; of a name that is told to have none nothing holds
 abbrev pub IfReadable : Told → (List ℕ → Type 0) → Type 0
@@ -73,6 +72,16 @@ Ends words texts old new Usage = IsUsage words old new
 Ends words texts old new ReadFault = IsReadFault words old new
 Ends words texts old new WriteFault = IsWriteFault words texts old new
 Ends words texts old new NoMemory = new.written ≡ old.written
+
+-- the exit status of a program that ends so
+abbrev pub exit_status : Status → ℕ
+exit_status Clean = 0
+exit_status Alarms = 1
+exit_status Refused = 2
+exit_status Usage = 3
+exit_status ReadFault = 4
+exit_status WriteFault = 5
+exit_status NoMemory = 6
 
 -- writing bytes for a status: all were written, or a front, and then it is `WriteFault`
 abbrev pub IsWriting : Status → Status → List ℕ → Option (List ℕ) → Option (List ℕ) → ℕ → ℕ → Type 0

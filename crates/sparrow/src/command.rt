@@ -8,7 +8,7 @@ ghost use Rattle.sparrow.specs.Words.{file_of, usage_text};
 ghost use Rattle.sp_scalars.specs.Outcomes.{IsStepped};
 ghost use Rattle.sparrow.specs.Report.{lines_of, report_text};
 ghost use Rattle.sparrow.specs.Answers.{IsAnswer, IsReporting, WithoutSteps, refusal_text};
-ghost use Rattle.sparrow.specs.Run.{World, Ends, IfReadable, IsWhole, IsWriting, IsDone, IsFault};
+ghost use Rattle.sparrow.specs.Run.{World, Ends, IfReadable, IsWhole, IsWriting, IsDone, IsFault, exit_status};
 ghost use Rattle.sparrow.specs.declared.command.NoAnswer.TheVariants.{NoMemory};
 
 use crate::command_line::file_of;
@@ -21,7 +21,7 @@ use sp_tree::FaultKind;
 use std::alloc::{AllocError, Global};
 use std::sync::ledger::Ledger;
 
-/// How a run ended; `as u8` is the exit status.
+/// How a run ended.
 #[derive(Clone, Copy, Debug, PartialEq, Eq)]
 pub enum Status {
     /// The report was written, and lists no alarm.
@@ -38,6 +38,15 @@ pub enum Status {
     WriteFault,
     /// Memory ran out; nothing was written.
     NoMemory,
+}
+
+impl Status {
+    /// The exit status of the program.
+    pub fn code(self) -> u8
+        ensures { result ≡ exit_status self }
+    {
+        self as u8
+    }
 }
 
 /// The text of the answer to a file, and its status.
@@ -121,6 +130,7 @@ fn read_and_answer<F: Files, L: Ledger>(
     ensures steps { IfHeld (F.text_of files.old name.now) (λ text. IsStepped text steps.old steps.new) }
     ensures fault { result ≡ Err NoAnswer.ReadFault → IsFault (F.asked files.new) (F.begun files.new) name.now (F.faults files.old) (F.faults files.new) }
     ensures still { result ≡ Err NoAnswer.ReadFault → steps.new ≡ steps.old }
+    ensures unread { F.text_of files.old name.now ≡ missing → steps.new ≡ steps.old }
     ensures reads { F.failing files.old ≡ Some [] → F.text_of files.old name.now ≢ missing → result ≢ Err NoAnswer.ReadFault }
 {
     match read_whole(alloc, files, name, MOST_BYTES as u64) {
@@ -157,11 +167,16 @@ pub fn run<F: Files, W: Sink, L: Ledger>(
     steps: &mut Steps<L>,
 ) -> Status
     ensures ends { Ends words.now (F.text_of files.old)
-        (record { asked = F.asked files.old; begun = F.begun files.old; at = F.at files.old; read_faults = F.faults files.old; written = W.written out.old; write_faults = W.faults out.old; steps = steps.old })
-        (record { asked = F.asked files.new; begun = F.begun files.new; at = F.at files.new; read_faults = F.faults files.new; written = W.written out.new; write_faults = W.faults out.new; steps = steps.new })
+        (record { asked = F.asked files.old; begun = F.begun files.old; at = F.at files.old; read_faults = F.faults files.old; written = W.written out.old; write_faults = W.faults out.old })
+        (record { asked = F.asked files.new; begun = F.begun files.new; at = F.at files.new; read_faults = F.faults files.new; written = W.written out.new; write_faults = W.faults out.new })
         result }
     ensures unmoved { WithoutSteps result (steps.new ≡ steps.old) }
     ensures steps { (name : List ℕ) → file_of words.now ≡ Some name → IfHeld (F.text_of files.old name) (λ text. IsStepped text steps.old steps.new) }
+
+    // Nothing is evaluated where the words don't fit, and for a name that is told to have no text.
+    ensures idle { file_of words.now ≡ None → steps.new ≡ steps.old }
+    ensures unread { (name : List ℕ) → file_of words.now ≡ Some name → F.text_of files.old name ≡ missing →
+        steps.new ≡ steps.old }
 
     // Where no call of the files is told to fail and the name has a text, it is read.
     ensures reads { F.failing files.old ≡ Some [] → (name : List ℕ) → file_of words.now ≡ Some name →

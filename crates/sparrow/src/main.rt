@@ -10,8 +10,11 @@
 mod command;
 mod command_line;
 mod report;
+#[cfg(test)]
+mod tests;
 
 ghost use Rattle.std.specs.Prelude.{◌≡◌, ◌<◌};
+ghost use Rattle.sparrow.specs.Run.{Ends, exit_status};
 
 use crate::command::{Status, run};
 use sp_lattice::Steps;
@@ -32,13 +35,17 @@ fn run_counted<F: Files, W: Sink, L: Ledger>(
     files: &mut F,
     out: &mut W,
     blank: Blank,
-) -> Status
+) -> u8
     requires name { blank.name ≡ L.name }
     requires parts { blank.parts ≡ L.parts }
     requires some { 0 < L.parts }
+    ensures ends { (status : Status) × (result ≡ exit_status status) × Ends words.now (F.text_of files.old)
+        (record { asked = F.asked files.old; begun = F.begun files.old; at = F.at files.old; read_faults = F.faults files.old; written = W.written out.old; write_faults = W.faults out.old })
+        (record { asked = F.asked files.new; begun = F.begun files.new; at = F.at files.new; read_faults = F.faults files.new; written = W.written out.new; write_faults = W.faults out.new })
+        status }
 {
     let mut steps = Steps::<L>::new(blank);
-    run(alloc, words, files, out, &mut steps)
+    run(alloc, words, files, out, &mut steps).code()
 }
 
 /// The words behind the program's name.
@@ -51,7 +58,7 @@ fn main(rt: HostRuntime) -> ExitCode {
         return ExitCode::from(NO_WORDS);
     };
     let Ok(words) = words_of(rt.alloc(), args) else {
-        return ExitCode::from(Status::NoMemory as u8);
+        return ExitCode::from(Status::NoMemory.code());
     };
     let mut files = HostFiles::new(&rt);
     let mut out = HostSink::new(&rt);
@@ -62,5 +69,5 @@ fn main(rt: HostRuntime) -> ExitCode {
         &mut out,
         Blank::new(1),
     );
-    ExitCode::from(status as u8)
+    ExitCode::from(status)
 }

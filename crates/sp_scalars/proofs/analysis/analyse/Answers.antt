@@ -9,7 +9,7 @@ pub returns-in_err-alarms_of-in-Ok-clause-steps : goal.returns-in_err-alarms_of-
 returns-in_err-alarms_of-in-Ok-clause-steps g c =
     let read = rw c.in-Some.is at c.in_ok-program.ensures.read in
     let made = c.in_ok-system.ensures in
-    stepped c.args.steps.now c.solve_dense.new.steps (carried made.commands made.edges made.scalars read) made.ladder c.in-Ok.ensures.bound
+    stepped c.args.steps.now c.solve_dense.new.steps (carried made.commands made.edges made.scalars read) made.ladder c.in-Ok.ensures.fits c.in-Ok.ensures.bound
 
 pub returns-in-Ok-clause-outcome : goal.returns-in-Ok-clause-outcome
 returns-in-Ok-clause-outcome g c =
@@ -25,10 +25,10 @@ pub returns-in-Ok-clause-steps : goal.returns-in-Ok-clause-steps
 returns-in-Ok-clause-steps g c =
     let read = rw c.in-Some.is at c.in_ok-program.ensures.read in
     let made = c.in_ok-system.ensures in
-    stepped c.args.steps.now c.solve_dense.new.steps (carried made.commands made.edges made.scalars read) made.ladder c.in-Ok.ensures.bound
+    stepped c.args.steps.now c.solve_dense.new.steps (carried made.commands made.edges made.scalars read) made.ladder c.in-Ok.ensures.fits c.in-Ok.ensures.bound
 
 pub returns-clause-steps : goal.returns-clause-steps
 returns-clause-steps g c =
     let read = rw c.in-Some.is at c.in_ok-program.ensures.read in
     let made = c.in_ok-system.ensures in
-    stepped c.args.steps.now c.solve_dense.new.steps (carried made.commands made.edges made.scalars read) made.ladder c.in-Err-NoMemory.ensures.bound
+    stepped c.args.steps.now c.solve_dense.new.steps (carried made.commands made.edges made.scalars read) made.ladder (rw c.in-Err-NoMemory.field-0-is at c.in-Err-NoMemory.ensures.refused) c.in-Err-NoMemory.ensures.bound

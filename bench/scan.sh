@@ -1,0 +1,32 @@
+#!/bin/sh
+# Megabytes a second of the scanner on ordinary code and on its worst kinds, each beside a text of half the size, and the peak memory.
+# Usage: bench/scan.sh. It builds in a folder of its own, and its first run proves sp_tree and sp_lexer there.
+set -eu
+top=$(cd "$(dirname "$0")/.." && pwd)
+room=${SPARROW_BENCH:-${TMPDIR:-/tmp}/sparrow-bench-scan}
+mkdir -p "$room/crates/scan_bench/src"
+for crate in sp_tree sp_lexer; do
+    mkdir -p "$room/crates/$crate"
+    for part in src specs proofs; do
+        rm -rf "$room/crates/$crate/$part"
+        cp -R "$top/crates/$crate/$part" "$room/crates/$crate/$part"
+    done
+done
+cp "$top/bench/scan/main.rt.in" "$room/crates/scan_bench/src/main.rt"
+printf 'sp_tree: indexmap\nsp_lexer: sp_tree\nscan_bench: sp_tree sp_lexer anyhow\n' > "$room/crates.txt"
+[ -d "$room/.git" ] || git init -q "$room"
+(cd "$room/crates/scan_bench" && rt run) > "$room/built.txt"
+mkdir -p "$room/texts"
+python3 "$top/bench/scan_texts.py" "$room/texts"
+printf '%-9s %10s %9s %8s %8s %9s %7s\n' text bytes tokens ms MB/s KiB ratio
+for kind in ordinary comment blanks newlines marks string names; do
+    last=
+    for size in 8 16; do
+        /usr/bin/time -f '%M' -o "$room/peak" "$room/crates/scan_bench/out/scan_bench" "$room/texts/$kind-$size" > "$room/run"
+        read -r bytes tokens micros < "$room/run"
+        awk -v kind="$kind" -v bytes="$bytes" -v tokens="$tokens" -v micros="$micros" -v last="$last" -v peak="$(cat "$room/peak")" 'BEGIN {
+            ratio = last == "" ? "-" : sprintf("%.2f", micros / last)
+            printf "%-9s %10d %9d %8.1f %8.1f %9d %7s\n", kind, bytes, tokens, micros / 1000, bytes / micros, peak, ratio }'
+        last=$micros
+    done
+done

@@ -1,0 +1,22 @@
+use Rattle.std.proofs.Common.{◌≤◌, ◌<◌, ◌∙◌, length, sym, subst, arith}
+use Rattle.sp_deps.specs.Users.{AreUsers}
+use Rattle.sp_deps.proofs.Views.{row_view}
+use Rattle.sp_deps.proofs.Finding.{upto_all}
+use Rattle.sp_deps.proofs.collect.dependencies.Goals as goal
+
+pub add_location-requires-clause-targets : goal.add_location-requires-clause-targets
+add_location-requires-clause-targets g c =
+    let m = g.S.System.meaning c.args.system.now in
+    let lists = c.in_ok-users.users.items in
+    let l = c.locations.location in
+    let list = c.index-targets.result.now in
+    let l_low : l < m.locations = omega (arith, c.locations-test.true, c.locations-location-end.ensures) in
+    let low : l < length lists = omega (arith, l_low, c.in_ok-users.ensures.long) in
+    subst (λ xs. AreUsers m l xs) (row_view lists l list list low c.index-targets.ensures ∙ sym c.deref.ensures.value) (c.in_ok-users.ensures.each l l_low)
+
+pub returns-clause-exact : goal.returns-clause-exact
+returns-clause-exact g c =
+    let s = c.args.system.now in
+    let m = g.S.System.meaning s in
+    let all : m.locations ≤ c.locations.location = omega (arith, c.locations-test.false, c.locations-location-end.ensures) in
+    upto_all m g.S.Value.Lattice.order (g.met.S.System.lawful s) c.locations.deps c.locations.location all c.locations.invariant.so_far

@@ -1,0 +1,123 @@
+//! The dependencies that are kept, and why they may not be.
+ghost use Rattle.std.specs.Prelude.{◌≡◌, ◌≤◌, ◌<◌, ◌+◌, ℕ, true, length, All, replicate, [], nat_eq, IfOk, OnOk};
+ghost use Rattle.sp_deps.specs.Rows.{leaving, held, total, is_before, Ascends, added, most_dependencies};
+
+use std::alloc::{AllocError, Global};
+use std::marker::Model;
+use thiserror::Error;
+
+/// The most dependencies that are kept.
+pub const MOST_DEPENDENCIES: u64 = 50_000_000;
+
+/// Why the dependencies of a system aren't told.
+#[derive(Clone, Copy, Debug, PartialEq, Eq, Error)]
+pub enum DepError {
+    /// There are more than [`MOST_DEPENDENCIES`]. `count` is one more than that: counting stopped there.
+    #[error("{count} dependencies")]
+    TooMany { count: u64 },
+    /// Memory ran out.
+    #[error("out of memory")]
+    NoMemory,
+}
+
+impl From<AllocError> for DepError {
+    ghost use Rattle.std.specs.Prelude.{◌≡◌};
+    ghost use Rattle.sp_deps.specs.declared.triples.DepError.TheVariants.{NoMemory};
+
+    ghost from_gives = { λ _ error. error ≡ NoMemory };
+
+    fn from(_error: AllocError) -> DepError {
+        DepError::NoMemory
+    }
+}
+
+/// The dependencies of a system, as triples of the node that defines, the location and the node that uses.
+///
+/// Contracts see a row for each node: the pairs of location and target of the triples that leave it,
+/// ascending by location and then by target. There are at most [`MOST_DEPENDENCIES`].
+#[derive(Drop)]
+pub struct Deps {
+    rows: Vec<Vec<(u32, u32)>>,
+    count: u64,
+}
+
+impl Model for Deps {
+    ghost use Rattle.std.specs.Prelude.{List, ℕ, map};
+
+    ghost Value = { List (List (ℕ × ℕ)) };
+
+    ghost use Rattle.sp_deps.specs.Kept.{IsKept};
+
+    ghost view = { λ d. map (λ row. row.items) d.rows.items };
+
+    ghost invariant = { λ d. IsKept (map (λ row. row.items) d.rows.items) d.count };
+}
+
+impl Deps {
+    /// How many dependencies there are.
+    pub fn count(&self) -> u64
+        ensures total { result ≡ total self.now }
+        ensures few { result ≤ most_dependencies }
+    {
+        self.count
+    }
+
+    /// Whether `location` as defined by `from` is used by `to`.
+    pub fn holds(&self, from: u32, location: u32, to: u32) -> bool
+        ensures { result ≡ held self.now from location to }
+    {
+        let row = self.leaving(from);
+        row.binary_search(&(location, to)).is_ok()
+    }
+
+    /// The pairs of location and target of the triples that leave `from`, ascending; none past the last node.
+    pub fn leaving(&self, from: u32) -> &[(u32, u32)]
+        ensures pairs { result.now ≡ leaving self.now from }
+        ensures ascending { Ascends result.now }
+    {
+        match self.rows.get(from as usize) {
+            Some(row) => row,
+            None => &[],
+        }
+    }
+
+    /// A copy of what [`Deps::leaving`] tells.
+    pub fn after(&self, alloc: Global, from: u32) -> Result<Vec<(u32, u32)>, AllocError>
+        ensures pairs { IfOk result (λ pairs. pairs.items ≡ leaving self.now from) }
+        ensures ascending { IfOk result (λ pairs. Ascends pairs.items) }
+    {
+        self.leaving(from).to_vec(alloc)
+    }
+
+    /// No dependencies yet, of this many nodes.
+    pub(crate) fn none(alloc: Global, nodes: u32) -> Result<Deps, AllocError>
+        ensures { IfOk result (λ deps. deps ≡ replicate nodes []) }
+    {
+        let mut rows = Vec::new(alloc);
+        for _ in 0..nodes {
+            rows.push(Vec::new(alloc))?;
+        }
+        Ok(Deps { rows, count: 0 })
+    }
+
+    /// Whether there is no room for one more.
+    pub(crate) fn is_full(&self) -> bool
+        ensures full { result ≡ nat_eq (total self.now) most_dependencies }
+        ensures few { total self.now ≤ most_dependencies }
+    {
+        self.count == MOST_DEPENDENCIES
+    }
+
+    /// Adds a triple, behind those that leave the same node.
+    pub(crate) fn add(&mut self, from: u32, location: u32, to: u32) -> Result<(), AllocError>
+        requires there { from < length self.old }
+        requires room { total self.old < most_dependencies }
+        requires last { All (λ pair. is_before pair (location, to) ≡ true) (leaving self.old from) }
+        ensures { OnOk result (self.new ≡ added self.old from (location, to)) }
+    {
+        let row = &mut self.rows[from as usize];
+        row.push((location, to))?;
+        self.count += 1;
+        Ok(())
+    }
+}

@@ -1,0 +1,168 @@
+-- What a table's rows tell at a location, and how rows of least values begin.
+use Rattle.std.proofs.Common.{◌≡◌, ◌⊎◌, inl, inr, ℕ, zero, suc, ◌+◌, ◌<◌, ◌≤◌, Bool, true, false, cond, ◌&&◌, ◌||◌, nat_eq, nat_lt, if◌then◌else◌, List, [], ◌∷◌, ◌++◌, length, get_or, map, replicate, Vec, Some, None, refl, sym, ap, ◌∙◌, subst, arith}
+use Rattle.std.specs.Prelude.{slice_get, vec_len}
+use Rattle.std.specs.declared.alloc.Global.{Global}
+use Rattle.std.specs.List.Sorted.{IsStrictlyIncreasing}
+use Rattle.std.proofs.lemmas.Bool.{false≢true}
+use Rattle.std.proofs.lemmas.Bool.Decides.{nat_tests}
+use Rattle.std.proofs.lemmas.Option.{slice_get-get_or}
+use Rattle.std.proofs.lemmas.List.{length-map, length-replicate}
+use Rattle.std.proofs.lemmas.List.Kept.{AllPairs-from_increasing}
+use Rattle.sp_lattice.specs.System.{Meaning, has, written}
+use Rattle.sp_sparse.specs.Grid.{row_at, IsGrid, AreLists, table_at}
+use Rattle.sp_sparse.specs.Solution.{cells_of, value_at, cell, IsFormed, within_list}
+use Rattle.sp_sparse.proofs.Few.{rest_rises}
+use Rattle.sp_sparse.proofs.GridLaws.{row_at-get_or, row_at-past, row_at-push_last, row_at-push_other}
+
+near : (a c : ℕ) → (a < c) ⊎ (c ≤ a)
+near a c = grind arith
+
+module _ {V : Type 0} where
+  -- a row has nothing at a location that isn't among its own
+  pub value_at-absent : (ls : List ℕ) (vs : List V) (l : ℕ) → has l ls ≡ false → value_at ls vs l ≡ None
+  value_at-absent [] vs l h = refl
+  value_at-absent (p ∷ ls) [] l h = refl
+  value_at-absent (p ∷ ls) (v ∷ vs) l h = by (nat_eq l p) h (value_at-absent ls vs l)
+    where
+      by : (b : Bool) → (b || has l ls) ≡ false → (has l ls ≡ false → value_at ls vs l ≡ None) → cond b (Some v) (value_at ls vs l) ≡ None
+      by true k more = absurd (false≢true (sym k))
+      by false k more = more k
+
+  -- at one of its own, what a store of the row has there
+  pub value_at-there : (bottom : V) (ls : List ℕ) (vs : List V) (l : ℕ) → length vs ≡ length ls → has l ls ≡ true → value_at ls vs l ≡ Some (written (λ k. bottom) ls vs l)
+  value_at-there bottom [] vs l long h = absurd (false≢true h)
+  value_at-there bottom (p ∷ ls) [] l long h = absurd (omega arith)
+  value_at-there bottom (p ∷ ls) (v ∷ vs) l long h = by (nat_eq l p) h (value_at-there bottom ls vs l (omega arith))
+    where
+      by : (b : Bool) → (b || has l ls) ≡ true → (has l ls ≡ true → value_at ls vs l ≡ Some (written (λ k. bottom) ls vs l)) → cond b (Some v) (value_at ls vs l) ≡ Some (cond b v (written (λ k. bottom) ls vs l))
+      by true k more = refl
+      by false k more = more k
+
+  -- and at the location that stands at a place, the value there
+  pub value_at-place : (ls : List ℕ) (vs : List V) (p : ℕ) → IsStrictlyIncreasing ls → length vs ≡ length ls → p < length ls → value_at ls vs (get_or ls p 0) ≡ slice_get vs p
+  value_at-place [] vs p rises long low = absurd (omega arith)
+  value_at-place (l ∷ ls) [] p rises long low = absurd (omega arith)
+  value_at-place (l ∷ ls) (v ∷ vs) zero rises long low = ap (λ b. cond b (Some v) (value_at ls vs l)) (same l)
+    where
+      same : (n : ℕ) → nat_eq n n ≡ true
+      same n = grind (arith, nat_tests)
+  value_at-place (l ∷ ls) (v ∷ vs) (suc p) rises long low =
+      ap (λ b. cond b (Some v) (value_at ls vs (get_or ls p 0))) (later (get_or ls p 0) l (AllPairs-from_increasing (l ∷ ls) rises 0 (suc p) 0 (omega arith) low))
+      ∙ value_at-place ls vs p (rest_rises l ls rises) (omega arith) (omega arith)
+    where
+      later : (a b : ℕ) → b < a → nat_eq a b ≡ false
+      later a b h = grind (arith, nat_tests)
+
+  written-least : (bottom : V) (ls : List ℕ) (k l : ℕ) → written (λ j. bottom) ls (replicate k bottom) l ≡ bottom
+  written-least bottom [] k l = refl
+  written-least bottom (d ∷ ls) zero l = refl
+  written-least bottom (d ∷ ls) (suc k) l = by (nat_eq l d) (written-least bottom ls k l)
+    where
+      by : (b : Bool) → written (λ j. bottom) ls (replicate k bottom) l ≡ bottom → cond b bottom (written (λ j. bottom) ls (replicate k bottom) l) ≡ bottom
+      by true more = refl
+      by false more = more
+
+  -- rows of least values, one for each list
+  least_row : (bottom : V) (places : List (Vec ℕ Global)) (rows : List (List V)) (n : ℕ) → rows ≡ map (λ (list : Vec ℕ Global). replicate (vec_len list) bottom) places → n < length places → get_or rows n [] ≡ replicate (length (row_at places n)) bottom
+  least_row bottom [] rows n is low = absurd (omega arith)
+  least_row bottom (p ∷ places) rows zero is low = ap (λ rs. get_or rs 0 []) is ∙ ap (λ k. replicate k bottom) p.ok.0
+  least_row bottom (p ∷ places) rows (suc n) is low = ap (λ rs. get_or rs (suc n) []) is ∙ least_row bottom places (map (λ (list : Vec ℕ Global). replicate (vec_len list) bottom) places) n refl (omega arith)
+
+  module _ (bottom : V) (nodes : ℕ) (lists : ℕ → List ℕ) (places : List (Vec ℕ Global)) (rows : List (Vec V Global)) (are : AreLists nodes lists places) (is : map (λ (row : Vec V Global). row.items) rows ≡ map (λ (list : Vec ℕ Global). replicate (vec_len list) bottom) places) where
+    rows_long : length rows ≡ nodes
+    rows_long = sym (length-map rows (λ (row : Vec V Global). row.items)) ∙ ap length is ∙ length-map places (λ (list : Vec ℕ Global). replicate (vec_len list) bottom) ∙ are.long
+
+    row_is : (n : ℕ) → n < nodes → row_at rows n ≡ replicate (length (lists n)) bottom
+    row_is n low = least_row bottom places (map (λ (row : Vec V Global). row.items) rows) n is (omega (arith, low, are.long)) ∙ ap (λ list. replicate (length list) bottom) (are.same n low)
+
+    pub least_grid : IsGrid nodes lists rows
+    least_grid = record { long = rows_long; rows_long = λ n low. ap length (row_is n low) ∙ length-replicate (length (lists n)) bottom }
+
+    pub least_table : (n l : ℕ) → table_at bottom lists rows n l ≡ bottom
+    least_table n l = by (near n nodes)
+      where
+        by : (n < nodes) ⊎ (nodes ≤ n) → table_at bottom lists rows n l ≡ bottom
+        by (inl low) = ap (λ row. written (λ j. bottom) (lists n) row l) (row_is n low) ∙ written-least bottom (lists n) (length (lists n)) l
+        by (inr past) = ap (λ row. written (λ j. bottom) (lists n) row l) (row_at-past rows n (omega (arith, past, rows_long))) ∙ written-least bottom (lists n) 0 l
+
+-- one more list behind the others
+pub lists_more : (lists : ℕ → List ℕ) (rows : List (Vec ℕ Global)) (list : Vec ℕ Global) (n : ℕ) → length rows ≡ n → ((k : ℕ) → k < n → row_at rows k ≡ lists k) → list.items ≡ lists n → (k : ℕ) → k < n + 1 → row_at (rows ++ list ∷ []) k ≡ lists k
+lists_more lists rows list n long so_far is k low = by (split k n low)
+  where
+    split : (a b : ℕ) → a < b + 1 → (a < b) ⊎ (a ≡ b)
+    split a b h = grind arith
+
+    by : (k < n) ⊎ (k ≡ n) → row_at (rows ++ list ∷ []) k ≡ lists k
+    by (inl less) = row_at-push_other rows list k (omega (arith, less, long)) ∙ so_far k less
+    by (inr same) = ap (λ j. row_at (rows ++ list ∷ []) j) (same ∙ sym long) ∙ row_at-push_last rows list ∙ is ∙ ap lists (sym same)
+
+module _ {V : Type 0} (nodes : ℕ) (lists : ℕ → List ℕ) (places : List (Vec ℕ Global)) (rows : List (Vec V Global)) (are : AreLists nodes lists places) (grid : IsGrid nodes lists rows) where
+  -- lists that ascend and rows that fit them
+  pub formed : ((n : ℕ) → n < nodes → IsStrictlyIncreasing (lists n)) → IsFormed (cells_of places rows)
+  formed rises = record {
+    rows = length-map rows (λ (row : Vec V Global). row.items) ∙ grid.long ∙ sym are.long ∙ sym (length-map places (λ (row : Vec ℕ Global). row.items));
+    ascends = λ n. ascends n (near n nodes);
+    long = λ n. long n (near n nodes);
+  }
+    where
+      ascends : (n : ℕ) → (n < nodes) ⊎ (nodes ≤ n) → IsStrictlyIncreasing (row_at places n)
+      ascends n (inl low) = subst IsStrictlyIncreasing (sym (are.same n low)) (rises n low)
+      ascends n (inr past) = subst IsStrictlyIncreasing (sym (row_at-past places n (omega (arith, past, are.long)))) (λ k h. absurd (omega arith))
+
+      long : (n : ℕ) → (n < nodes) ⊎ (nodes ≤ n) → length (row_at rows n) ≡ length (row_at places n)
+      long n (inl low) = grid.rows_long n low ∙ ap length (sym (are.same n low))
+      long n (inr past) = ap length (row_at-past rows n (omega (arith, past, grid.long))) ∙ ap length (sym (row_at-past places n (omega (arith, past, are.long))))
+
+  -- what such rows tell at each node and location
+  pub cells_are : (m : Meaning V) (bottom : V) (dense : ℕ → ℕ → V) → nodes ≡ m.nodes → ((n l : ℕ) → n < nodes → has l (lists n) ≡ true → table_at bottom lists rows n l ≡ dense n l) → (n l : ℕ) → cell (cells_of places rows) n l ≡ within_list m lists n l (dense n l)
+  cells_are m bottom dense same values n l = by (near n nodes)
+    where
+      below : (t : Bool) → n < m.nodes → t ≡ has l (lists n) → within_list m lists n l (dense n l) ≡ (if t then Some (dense n l) else None)
+      below t low is = ap (λ b. if b && has l (lists n) then Some (dense n l) else None) (test n m.nodes low) ∙ ap (λ b. if b then Some (dense n l) else None) (sym is)
+        where
+          test : (a b : ℕ) → a < b → nat_lt a b ≡ true
+          test a b h = grind (arith, nat_tests)
+
+      beyond : m.nodes ≤ n → within_list m lists n l (dense n l) ≡ None
+      beyond past = ap (λ b. if b && has l (lists n) then Some (dense n l) else None) (test n m.nodes past)
+        where
+          test : (a b : ℕ) → b ≤ a → nat_lt a b ≡ false
+          test a b h = grind (arith, nat_tests)
+
+      there : n < nodes → (t : Bool) → t ≡ has l (lists n) → value_at (row_at places n) (row_at rows n) l ≡ within_list m lists n l (dense n l)
+      there low true is =
+          ap (λ ls. value_at ls (row_at rows n) l) (are.same n low) ∙ value_at-there bottom (lists n) (row_at rows n) l (grid.rows_long n low) (sym is)
+          ∙ ap Some (values n l low (sym is)) ∙ sym (below true (omega (arith, low, same)) is)
+      there low false is =
+          ap (λ ls. value_at ls (row_at rows n) l) (are.same n low) ∙ value_at-absent (lists n) (row_at rows n) l (sym is) ∙ sym (below false (omega (arith, low, same)) is)
+
+      by : (n < nodes) ⊎ (nodes ≤ n) → cell (cells_of places rows) n l ≡ within_list m lists n l (dense n l)
+      by (inl low) = there low (has l (lists n)) refl
+      by (inr past) = ap (λ ls. value_at ls (row_at rows n) l) (row_at-past places n (omega (arith, past, are.long))) ∙ sym (beyond (omega (arith, past, same)))
+
+-- the row of a node that is there, with the locations at which its values stand
+module _ {V : Type 0} (places : List (Vec ℕ Global)) (values : List (Vec V Global)) (is : IsFormed (cells_of places values)) (n : ℕ) (list : Vec ℕ Global) (row : Vec V Global) (low : n < length values) (list_is : list ≡ get_or places n list) (row_is : row ≡ get_or values n row) where
+  list_at : row_at places n ≡ list.items
+  list_at =
+      row_at-get_or places n list (omega (arith, low, is.rows, length-map places (λ (r : Vec ℕ Global). r.items), length-map values (λ (r : Vec V Global). r.items)))
+      ∙ ap (λ (r : Vec ℕ Global). r.items) (sym list_is)
+
+  values_at_row : row_at values n ≡ row.items
+  values_at_row = row_at-get_or values n row low ∙ ap (λ (r : Vec V Global). r.items) (sym row_is)
+
+  pub read_rises : IsStrictlyIncreasing list.items
+  read_rises = subst IsStrictlyIncreasing list_at (is.ascends n)
+
+  pub read_long : length row.items ≡ length list.items
+  read_long = ap length (sym values_at_row) ∙ is.long n ∙ ap length list_at
+
+  read : (l : ℕ) → cell (cells_of places values) n l ≡ value_at list.items row.items l
+  read l = ap (λ ls. value_at ls (row_at values n) l) list_at ∙ ap (λ vs. value_at list.items vs l) values_at_row
+
+  pub read_absent : (l : ℕ) → has l list.items ≡ false → cell (cells_of places values) n l ≡ None
+  read_absent l h = read l ∙ value_at-absent list.items row.items l h
+
+  pub read_place : (p l : ℕ) (v : V) → p < length list.items → get_or list.items p 0 ≡ l → v ≡ get_or row.items p v → cell (cells_of places values) n l ≡ Some v
+  read_place p l v p_low at v_is =
+      read l ∙ ap (λ j. value_at list.items row.items j) (sym at) ∙ value_at-place list.items row.items p read_rises read_long p_low
+      ∙ slice_get-get_or row.items p v (omega (arith, p_low, read_long)) ∙ ap Some (sym v_is)

@@ -1,0 +1,14 @@
+mod Chains
+mod Spreading
+mod Working
+mod Summing
+mod Paying
+mod Few
+mod Ordered
+mod GridLaws
+mod Sending
+mod Windows
+mod CellLaws
+mod Turns
+pub mod SetLaws
+pub mod Told

@@ -1,0 +1,43 @@
+-- What the engine keeps between its steps, and what a step does.
+use Rattle.std.specs.Prelude.{◌≡◌, ◌≢◌, ◌⊎◌, ◌<◌, ◌≤◌, ◌+◌, ◌-◌, ℕ, Bool, true, false, not, cond, List, sum_by}
+use Rattle.sp_lattice.specs.Lattice.{Order}
+use Rattle.sp_lattice.specs.System.{Meaning, has}
+use Rattle.sp_lattice.specs.Dense.{Table}
+use Rattle.sp_sparse.specs.Sparse.{SparsePartial, IsEvaluated, IsSent}
+
+-- inputs and outputs on the way to the solution: each node that doesn't wait is evaluated, the values that are due have
+-- been sent, and an input into which no dependency leads is the least value
+pub record IsWorking {V : Type 0} (o : Order V) (m : Meaning V) (test : ℕ → ℕ → ℕ → Bool) (due : ℕ → ℕ → ℕ → Type 0) (ins outs : Table V) (waiting : List ℕ) : Type 0 where
+  pub part : SparsePartial o m ins outs
+  pub evaluated : (n : ℕ) → n < m.nodes → has n waiting ≡ false → IsEvaluated o m ins outs n
+  pub sent : (b l c : ℕ) → due b l c → IsSent o ins outs b l c
+  pub untouched : (n l : ℕ) → n < m.nodes → ((b : ℕ) → b < m.nodes → test b l n ≡ false) → ins n l ≡ o.bottom
+
+-- every dependency is due
+abbrev pub Every : (ℕ → ℕ → ℕ → Bool) → ℕ → ℕ → ℕ → Type 0
+Every test b l c = test b l c ≡ true
+
+-- those that leave another node are
+abbrev pub EveryOther : (ℕ → ℕ → ℕ → Bool) → ℕ → ℕ → ℕ → ℕ → Type 0
+EveryOther test n b l c = (b ≢ n) × (test b l c ≡ true)
+
+-- a node is evaluated: its outputs become the effect of its inputs, those of the others stay
+pub record Evaluates {V : Type 0} (m : Meaning V) (ins before after : Table V) (n : ℕ) : Type 0 where
+  pub made : (l : ℕ) → has l (m.defs n) ≡ true → after n l ≡ m.effect n (ins n) l
+  pub absent : (l : ℕ) → has l (m.defs n) ≡ false → after n l ≡ before n l
+  pub others : (k l : ℕ) → k ≢ n → after k l ≡ before k l
+
+-- a value is sent: one input is raised to the least upper bound with it, the others stay
+pub record Raises {V : Type 0} (o : Order V) (before after : Table V) (n l : ℕ) (v : V) (grew : Bool) : Type 0 where
+  pub raised : after n l ≡ o.join (before n l) v
+  pub others : (k j : ℕ) → (k ≢ n) ⊎ (j ≢ l) → after k j ≡ before k j
+  pub grown : grew ≡ not (o.le v (before n l))
+
+-- how far the ranks of a node's inputs have risen
+abbrev pub risen : {V : Type 0} → Order V → Meaning V → Table V → ℕ → ℕ
+risen o m ins n = sum_by (λ l. m.rank (ins n l) - m.rank o.bottom) (m.uses n)
+
+-- the evaluations of each node, with the one for which it waits, are paid: one to begin with, and one wherever an
+-- input of it rose
+abbrev pub IsPaid : {V : Type 0} → Order V → Meaning V → Table V → List ℕ → (ℕ → ℕ) → Type 0
+IsPaid o m ins waiting counts = (n : ℕ) → n < m.nodes → counts n + cond (has n waiting) 1 0 ≤ 1 + risen o m ins n

@@ -1,0 +1,6 @@
+pub mod Sparse
+pub mod Grid
+pub mod Engine
+pub mod Queue
+pub mod Solution
+pub mod Sets

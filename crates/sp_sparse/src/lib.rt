@@ -1,0 +1,37 @@
+//! The sparse engine: it solves any system of equations with values at the uses and definitions of nodes alone.
+//!
+//! A node has *inputs*, a value for each location that it uses, and *outputs*, one for each that it defines. All begin with
+//! the least values, and every node *waits*. A *turn* takes a waiting node that a [`Picker`] picks, makes its outputs the
+//! effect of its inputs, and *sends* them along the *dependencies* of `sp_deps` to the nodes that use them; a node of which
+//! an input grew waits again. Where none waits, inputs and outputs are those of the dense least solution, whatever was
+//! picked: no table that the dense equations allow lies below them (`proofs/Working`), and spread to every node along the
+//! edges they are such a table themselves (`proofs/Spreading`). So Oh et al. 2012, section 2, over a frame and a support.
+//!
+//! A [`System`](sp_lattice::System) goes in with its dependencies, a picker and a counter of evaluations, and a
+//! [`SparseTable`] comes out. The layer above uses the contract of [`solve_sparse`]: the table `IsSolved`, and the evaluations
+//! of each node are within `IsWithinBounds` (`specs.Solution`).
+//!
+//! With sets of numbers as values, the facts of each node of
+//!
+//! ```text
+//! x = 1; y = 1;      // 0: sends x = {1} to 2 and 4, and y = {1} to 4
+//! while (..) {       // 1: uses and defines nothing, so nothing is kept here; evaluated once
+//!     y = x;         // 2: its input x is {1} from 0 and {2} from 3; it sends y = {1, 2} to 4
+//!     x = 2;         // 3: sends x = {2} to 2 and 4
+//! }
+//! f(x, y);           // 4: its inputs are x = {1, 2} and y = {1, 2}
+//! ```
+#![tactic(auto)]
+
+mod evaluation;
+mod pickers;
+mod places;
+mod solver;
+mod tables;
+#[cfg(test)]
+mod tests;
+mod waiting;
+
+pub use pickers::{First, Last, Picker};
+pub use solver::solve_sparse;
+pub use tables::SparseTable;

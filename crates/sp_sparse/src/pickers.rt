@@ -1,0 +1,40 @@
+//! Which of the nodes that wait is served next.
+ghost use Rattle.std.specs.Prelude.{◌≡◌, ◌+◌, ◌<◌, length};
+
+/// An order of service.
+///
+/// The solution is the same whatever is picked, and so are the bounds on evaluations.
+pub trait Picker {
+    /// The index of the node that is served next, among those that wait.
+    fn pick(&mut self, waiting: &[u32]) -> usize
+        requires { 0 < length waiting.now }
+        ensures { result < length waiting.now };
+}
+
+/// Serves the node that has waited longest.
+#[derive(Clone, Copy, Debug)]
+pub struct First;
+
+impl Picker for First {
+    fn pick(&mut self, _waiting: &[u32]) -> usize
+        requires { 0 < length _waiting.now }
+        ensures below { result < length _waiting.now }
+        ensures first { result ≡ 0 }
+    {
+        0
+    }
+}
+
+/// Serves the node that came last.
+#[derive(Clone, Copy, Debug)]
+pub struct Last;
+
+impl Picker for Last {
+    fn pick(&mut self, waiting: &[u32]) -> usize
+        requires { 0 < length waiting.now }
+        ensures below { result < length waiting.now }
+        ensures last { result + 1 ≡ length waiting.now }
+    {
+        waiting.len() - 1
+    }
+}
