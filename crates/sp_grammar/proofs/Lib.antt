@@ -1,0 +1,16 @@
+pub mod Lists
+pub mod Readings
+pub mod Moving
+pub mod Completions
+pub mod Wholes
+pub mod Keeping
+pub mod Nesting
+pub mod ExpressionChecked
+pub mod ExpressionSteps
+pub mod ExpressionTrees
+pub mod ExpressionChains
+pub mod ExpressionReaders
+pub mod ExpressionParser
+pub mod ExpressionExamples
+pub mod CChecked
+pub mod CEndings

@@ -1,0 +1,12 @@
+pub mod Table
+pub mod Whole
+pub mod Checked
+pub mod Kept
+pub mod Depth
+pub mod Expression
+pub mod ExpressionTable
+pub mod ExpressionReading
+pub mod ExpressionAnswers
+pub mod CTokens
+pub mod CTrees
+pub mod CTable
