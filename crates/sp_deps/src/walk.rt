@@ -11,7 +11,7 @@ use std::mem;
 /// What a walk has reached: nodes from which a path leads to the use. Those that define the location are
 /// found, and the walk goes no further there; the others wait for a look behind them.
 ///
-/// One serves all walks in turn, so that what a walk costs depends on what it reaches alone.
+/// One serves all walks in turn: its marks are cleared by what was reached, never for all nodes.
 #[derive(Drop)]
 pub(crate) struct Walk {
     pub(crate) is_reached: Vec<bool>,
@@ -37,7 +37,7 @@ pub(crate) fn fresh_walk(alloc: Global, nodes: u32) -> Result<Walk, AllocError>
 /// Walks backward from the use of `location` by `to`, along edges that pass it, up to its definitions.
 ///
 /// Where the walk comes to a node to whose use of the location an earlier walk led, it goes on with what that
-/// one found: so the nodes between two uses are walked once, and not again for each use behind them.
+/// one found: so uses behind one another are walked once, where their numbers follow the flow.
 pub(crate) fn walk_back<S: System>(
     system: &S,
     walk: &mut Walk,
