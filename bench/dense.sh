@@ -1,48 +1,34 @@
 #!/usr/bin/env bash
-# Times `dense` on programs of the small language of rising size, each beside the one of half the size, and prints a table.
-# The README here tells how to read it. It is no test: nothing depends on the seconds.
-set -u
-cd "$(dirname "$0")/.."
-sparrow=$PWD/crates/sparrow/out/sparrow
-./sparrow analyse examples/overrun.c >/dev/null # builds the program where it is old
-folder=$(mktemp -d)
-trap 'rm -rf "$folder"' EXIT
+# Times `solve_dense` on programs of assignments to 64 scalars, a straight line (chain) and one loop (ring), up to the largest system that it
+# takes, each beside the row above, which has half the nodes, and prints a table. Usage: bench/dense.sh. It builds in a folder of its own, and its
+# first run proves the crates there. It is no test.
+set -eu
+top=$(cd "$(dirname "$0")/.." && pwd)
+. "$top/bench/room.sh"
+make_room dense sp_lattice sp_interval sp_dense sp_small sp_scalars
+folder=$room/crates/dense_bench
 
-head_of() { # scalars
-    printf 'int main(void){'
-    for ((k = 0; k < $1; k++)); do printf 'int v%d;' "$k"; done
-}
+# The program makes a system of its own, since no text of the small language is large enough.
+sed -i 's/^pub(crate) struct/pub struct/' "$room/crates/sp_scalars/src/system.rt"
+sed -i 's/^fn system_of/pub fn system_of/' "$room/crates/sp_scalars/src/analysis.rt"
+sed -i 's/^pub use analysis::{Outcome, analyse};/pub use analysis::{Outcome, analyse, system_of};\npub use system::ScalarSystem;/' "$room/crates/sp_scalars/src/lib.rt"
+rm -rf "$folder/proofs"
+mkdir -p "$folder/proofs/main" "$folder/specs"
+cp "$top/bench/dense/main.antt.in" "$folder/proofs/main/Invariants.antt"
+: > "$folder/proofs/Lib.antt"
+: > "$folder/specs/Lib.antt"
+(cd "$folder" && rt run -- chain 1000) > "$room/built.txt"
 
-chain() { # scalars, statements: a straight line
-    head_of "$1"
-    for ((k = 0; k < $2; k++)); do printf 'v%d=%d;' $((k % $1)) $((k % 9)); done
-    printf 'return 0;}'
-}
-
-ring() { # scalars, statements: the same in one loop
-    head_of "$1"
-    printf 'while(v0<9){'
-    for ((k = 0; k < $2; k++)); do printf 'v%d=v%d;' $(((k + 1) % $1)) $((k % $1)); done
-    printf '}return 0;}'
-}
-
-measure() { # file: seconds of 20 runs together, and peak KiB
-    /usr/bin/time -f '%e %M' -o "$folder/time" \
-        sh -c 'for run in 1 2 3 4 5 6 7 8 9 10 11 12 13 14 15 16 17 18 19 20; do "$0" dense "$1"; done' \
-        "$sparrow" "$1" >/dev/null 2>&1
-    tail -n 1 "$folder/time"
-}
-
-printf '%-6s %8s %10s %9s %9s %7s\n' shape scalars statements "20 runs" KiB ratio
+printf '%-6s %8s %9s %12s %9s %9s %7s\n' shape nodes slots evaluations ms KiB ratio
 for shape in chain ring; do
     last=
-    for statements in 250 500 1000 1800; do
-        file=$folder/$shape$statements.c
-        $shape 60 "$statements" >"$file"
-        read -r seconds kib <<<"$(measure "$file")"
+    for nodes in 4096 8192 16384; do
+        /usr/bin/time -f %M -o "$room/kib" "$folder/out/dense_bench" "$shape" "$nodes" > "$room/line"
+        read -r count slots evaluations micros < "$room/line"
         ratio=-
-        [ -n "$last" ] && ratio=$(awk "BEGIN{printf \"%.1f\", $seconds / ($last + 0.001)}")
-        printf '%-6s %8s %10s %9s %9s %7s\n' "$shape" 60 "$statements" "$seconds" "$kib" "$ratio"
-        last=$seconds
+        [ -n "$last" ] && ratio=$(awk "BEGIN{printf \"%.2f\", $micros / $last}")
+        last=$micros
+        printf '%-6s %8s %9s %12s %9s %9s %7s\n' "$shape" "$count" "$slots" "$evaluations" \
+            "$(awk "BEGIN{printf \"%.1f\", $micros / 1000}")" "$(cat "$room/kib")" "$ratio"
     done
 done

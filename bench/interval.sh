@@ -1,20 +1,10 @@
-#!/bin/sh
+#!/usr/bin/env bash
 # Nanoseconds for one call of each operation on intervals: the proved crate beside the same loop in C.
-# Usage: bench/interval.sh. It builds in a folder of its own, and its first run proves sp_lattice and sp_interval there.
+# Usage: bench/interval.sh. It builds in a folder of its own, and its first run proves the crates there.
 set -eu
 top=$(cd "$(dirname "$0")/.." && pwd)
-room=${SPARROW_BENCH:-${TMPDIR:-/tmp}/sparrow-bench-interval}
-mkdir -p "$room/crates/interval_bench/src"
-for crate in sp_lattice sp_interval; do
-    mkdir -p "$room/crates/$crate"
-    for part in src specs proofs; do
-        rm -rf "$room/crates/$crate/$part"
-        cp -R "$top/crates/$crate/$part" "$room/crates/$crate/$part"
-    done
-done
-cp "$top/bench/interval/main.rt.in" "$room/crates/interval_bench/src/main.rt"
-printf 'sp_lattice:\nsp_interval: sp_lattice\ninterval_bench: sp_lattice sp_interval anyhow\n' > "$room/crates.txt"
-[ -d "$room/.git" ] || git init -q "$room"
+. "$top/bench/room.sh"
+make_room interval sp_lattice sp_interval
 cc -O2 -o "$room/loop" "$top/bench/interval/loop.c"
 (cd "$room/crates/interval_bench" && rt run) > "$room/proved.txt"
 "$room/loop" > "$room/c.txt"

@@ -1,20 +1,10 @@
-#!/bin/sh
+#!/usr/bin/env bash
 # Megabytes a second of the scanner on ordinary code and on its worst kinds, each beside a text of half the size, and the peak memory.
-# Usage: bench/scan.sh. It builds in a folder of its own, and its first run proves sp_tree and sp_lexer there.
+# Usage: bench/scan.sh. It builds in a folder of its own, and its first run proves the crates there.
 set -eu
 top=$(cd "$(dirname "$0")/.." && pwd)
-room=${SPARROW_BENCH:-${TMPDIR:-/tmp}/sparrow-bench-scan}
-mkdir -p "$room/crates/scan_bench/src"
-for crate in sp_tree sp_lexer; do
-    mkdir -p "$room/crates/$crate"
-    for part in src specs proofs; do
-        rm -rf "$room/crates/$crate/$part"
-        cp -R "$top/crates/$crate/$part" "$room/crates/$crate/$part"
-    done
-done
-cp "$top/bench/scan/main.rt.in" "$room/crates/scan_bench/src/main.rt"
-printf 'sp_tree: indexmap\nsp_lexer: sp_tree\nscan_bench: sp_tree sp_lexer anyhow\n' > "$room/crates.txt"
-[ -d "$room/.git" ] || git init -q "$room"
+. "$top/bench/room.sh"
+make_room scan sp_tree sp_lexer
 (cd "$room/crates/scan_bench" && rt run) > "$room/built.txt"
 mkdir -p "$room/texts"
 python3 "$top/bench/scan_texts.py" "$room/texts"

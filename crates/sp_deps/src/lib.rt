@@ -19,8 +19,7 @@
 //! A [`System`](sp_lattice::System) goes in. For each location, and for each of its uses in the order of nodes, a
 //! *walk* goes backward along edges that pass the location. It *reaches* nodes; at one that defines the location it
 //! stops, and that node is *found*; behind another it goes on. At a node whose own use was walked to before, it takes
-//! over what that walk found. No array of all nodes is cleared for a walk, but what is
-//! taken over is gone through again each time, so many uses in one loop, as the cases of a switch, cost more than plain walks.
+//! over what that walk found. Work and marks are only of what a walk reaches.
 //!
 //! [`Deps`] comes out, which tells for each node the pairs of location and target that *leave* it, ascending. The
 //! layer above uses the contract of [`dependencies`]: `AreDependencies` of `specs.Answer`, exactly the dependencies;

@@ -164,7 +164,7 @@ fn compare(
     assert_eq!(rt; deps.count(), count);
     for (from, pairs) in rows {
         assert_eq!(rt; deps.leaving(*from), *pairs);
-        let copy = deps.after(alloc, *from)?;
+        let copy = deps.after(*from)?;
         assert_eq!(rt; copy.as_slice(), *pairs);
         for location in 0..3 {
             for to in 0..7 {

@@ -6,7 +6,7 @@ use std::alloc::{AllocError, Global};
 use std::marker::Model;
 use thiserror::Error;
 
-/// The most dependencies that are kept.
+/// The most dependencies that are kept: as pairs of two numbers they take 400 MB, and lists that grew up to twice that.
 pub const MOST_DEPENDENCIES: u64 = 50_000_000;
 
 /// Why the dependencies of a system aren't told.
@@ -82,11 +82,11 @@ impl Deps {
     }
 
     /// A copy of what [`Deps::leaving`] tells.
-    pub fn after(&self, alloc: Global, from: u32) -> Result<Vec<(u32, u32)>, AllocError>
+    pub fn after(&self, from: u32) -> Result<Vec<(u32, u32)>, AllocError>
         ensures pairs { IfOk result (λ pairs. pairs.items ≡ leaving self.now from) }
         ensures ascending { IfOk result (λ pairs. Ascends pairs.items) }
     {
-        self.leaving(from).to_vec(alloc)
+        self.leaving(from).to_vec(*self.rows.allocator())
     }
 
     /// No dependencies yet, of this many nodes.

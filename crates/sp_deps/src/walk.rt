@@ -11,7 +11,7 @@ use std::mem;
 /// What a walk has reached: nodes from which a path leads to the use. Those that define the location are
 /// found, and the walk goes no further there; the others wait for a look behind them.
 ///
-/// One serves all walks in turn: its marks are cleared by what was reached, never for all nodes.
+/// One serves all walks in turn, so that what a walk costs depends on what it reaches alone.
 #[derive(Drop)]
 pub(crate) struct Walk {
     pub(crate) is_reached: Vec<bool>,
@@ -36,8 +36,9 @@ pub(crate) fn fresh_walk(alloc: Global, nodes: u32) -> Result<Walk, AllocError>
 
 /// Walks backward from the use of `location` by `to`, along edges that pass it, up to its definitions.
 ///
-/// Where the walk comes to a node to whose use of the location an earlier walk led, it goes on with what that
-/// one found: so uses behind one another are walked once, where their numbers follow the flow.
+/// Where the walk comes to a node to whose use of the location an earlier walk led, it takes over what that one
+/// found, as long as it has taken over no more than it reached: so uses behind one another are walked once
+/// where their numbers follow the flow, and taking over never costs much more than walking.
 pub(crate) fn walk_back<S: System>(
     system: &S,
     walk: &mut Walk,
@@ -53,20 +54,22 @@ pub(crate) fn walk_back<S: System>(
     ensures found { OnOk result (IsFound (S.meaning system.now) location to walk.new.found.items) }
 {
     look_behind(system, walk, location, to)?;
+    let mut taken_over = 0;
     let mut at = 0;
     'waiting: while at < walk.waiting.len() {
         let node = walk.waiting[at];
-        go_behind(system, walk, earlier, location, node)?;
+        go_behind(system, walk, earlier, &mut taken_over, location, node)?;
         at += 1;
     }
     Ok(())
 }
 
-/// Reaches what stands behind a node that waited.
+/// Reaches what stands behind a node that waited. `taken_over` counts what was taken over from earlier walks.
 fn go_behind<S: System>(
     system: &S,
     walk: &mut Walk,
     earlier: &Earlier,
+    taken_over: &mut usize,
     location: u32,
     node: u32,
 ) -> Result<(), AllocError>
@@ -79,6 +82,12 @@ fn go_behind<S: System>(
 {
     match earlier.of(node) {
         Some(found) => {
+            let reached = walk.waiting.len().saturating_add(walk.found.len());
+            if *taken_over > reached {
+                look_behind(system, walk, location, node)?;
+                return Ok(());
+            }
+            *taken_over = taken_over.saturating_add(found.len());
             reach_all(system, walk, location, found)?;
             Ok(())
         }

@@ -11,11 +11,9 @@ use Rattle.std.proofs.lemmas.List.Kept.{AllPairs-from_increasing}
 use Rattle.sp_lattice.specs.System.{Meaning, has, written}
 use Rattle.sp_sparse.specs.Grid.{row_at, IsGrid, AreLists, table_at}
 use Rattle.sp_sparse.specs.Solution.{cells_of, value_at, cell, IsFormed, within_list}
+use Rattle.sp_sparse.proofs.Numbers.{side, below_next, same_number, apart_numbers}
 use Rattle.sp_sparse.proofs.Few.{rest_rises}
 use Rattle.sp_sparse.proofs.GridLaws.{row_at-get_or, row_at-past, row_at-push_last, row_at-push_other}
-
-near : (a c : ℕ) → (a < c) ⊎ (c ≤ a)
-near a c = grind arith
 
 module _ {V : Type 0} where
   -- a row has nothing at a location that isn't among its own
@@ -42,16 +40,13 @@ module _ {V : Type 0} where
   pub value_at-place : (ls : List ℕ) (vs : List V) (p : ℕ) → IsStrictlyIncreasing ls → length vs ≡ length ls → p < length ls → value_at ls vs (get_or ls p 0) ≡ slice_get vs p
   value_at-place [] vs p rises long low = absurd (omega arith)
   value_at-place (l ∷ ls) [] p rises long low = absurd (omega arith)
-  value_at-place (l ∷ ls) (v ∷ vs) zero rises long low = ap (λ b. cond b (Some v) (value_at ls vs l)) (same l)
-    where
-      same : (n : ℕ) → nat_eq n n ≡ true
-      same n = grind (arith, nat_tests)
+  value_at-place (l ∷ ls) (v ∷ vs) zero rises long low = ap (λ b. cond b (Some v) (value_at ls vs l)) (same_number l)
   value_at-place (l ∷ ls) (v ∷ vs) (suc p) rises long low =
-      ap (λ b. cond b (Some v) (value_at ls vs (get_or ls p 0))) (later (get_or ls p 0) l (AllPairs-from_increasing (l ∷ ls) rises 0 (suc p) 0 (omega arith) low))
+      ap (λ b. cond b (Some v) (value_at ls vs (get_or ls p 0))) (above (get_or ls p 0) l (AllPairs-from_increasing (l ∷ ls) rises 0 (suc p) 0 (omega arith) low))
       ∙ value_at-place ls vs p (rest_rises l ls rises) (omega arith) (omega arith)
     where
-      later : (a b : ℕ) → b < a → nat_eq a b ≡ false
-      later a b h = grind (arith, nat_tests)
+      above : (a b : ℕ) → b < a → nat_eq a b ≡ false
+      above a b h = apart_numbers a b (omega arith)
 
   written-least : (bottom : V) (ls : List ℕ) (k l : ℕ) → written (λ j. bottom) ls (replicate k bottom) l ≡ bottom
   written-least bottom [] k l = refl
@@ -79,7 +74,7 @@ module _ {V : Type 0} where
     least_grid = record { long = rows_long; rows_long = λ n low. ap length (row_is n low) ∙ length-replicate (length (lists n)) bottom }
 
     pub least_table : (n l : ℕ) → table_at bottom lists rows n l ≡ bottom
-    least_table n l = by (near n nodes)
+    least_table n l = by (side n nodes)
       where
         by : (n < nodes) ⊎ (nodes ≤ n) → table_at bottom lists rows n l ≡ bottom
         by (inl low) = ap (λ row. written (λ j. bottom) (lists n) row l) (row_is n low) ∙ written-least bottom (lists n) (length (lists n)) l
@@ -87,11 +82,8 @@ module _ {V : Type 0} where
 
 -- one more list behind the others
 pub lists_more : (lists : ℕ → List ℕ) (rows : List (Vec ℕ Global)) (list : Vec ℕ Global) (n : ℕ) → length rows ≡ n → ((k : ℕ) → k < n → row_at rows k ≡ lists k) → list.items ≡ lists n → (k : ℕ) → k < n + 1 → row_at (rows ++ list ∷ []) k ≡ lists k
-lists_more lists rows list n long so_far is k low = by (split k n low)
+lists_more lists rows list n long so_far is k low = by (below_next k n low)
   where
-    split : (a b : ℕ) → a < b + 1 → (a < b) ⊎ (a ≡ b)
-    split a b h = grind arith
-
     by : (k < n) ⊎ (k ≡ n) → row_at (rows ++ list ∷ []) k ≡ lists k
     by (inl less) = row_at-push_other rows list k (omega (arith, less, long)) ∙ so_far k less
     by (inr same) = ap (λ j. row_at (rows ++ list ∷ []) j) (same ∙ sym long) ∙ row_at-push_last rows list ∙ is ∙ ap lists (sym same)
@@ -101,8 +93,8 @@ module _ {V : Type 0} (nodes : ℕ) (lists : ℕ → List ℕ) (places : List (V
   pub formed : ((n : ℕ) → n < nodes → IsStrictlyIncreasing (lists n)) → IsFormed (cells_of places rows)
   formed rises = record {
     rows = length-map rows (λ (row : Vec V Global). row.items) ∙ grid.long ∙ sym are.long ∙ sym (length-map places (λ (row : Vec ℕ Global). row.items));
-    ascends = λ n. ascends n (near n nodes);
-    long = λ n. long n (near n nodes);
+    ascends = λ n. ascends n (side n nodes);
+    long = λ n. long n (side n nodes);
   }
     where
       ascends : (n : ℕ) → (n < nodes) ⊎ (nodes ≤ n) → IsStrictlyIncreasing (row_at places n)
@@ -115,7 +107,7 @@ module _ {V : Type 0} (nodes : ℕ) (lists : ℕ → List ℕ) (places : List (V
 
   -- what such rows tell at each node and location
   pub cells_are : (m : Meaning V) (bottom : V) (dense : ℕ → ℕ → V) → nodes ≡ m.nodes → ((n l : ℕ) → n < nodes → has l (lists n) ≡ true → table_at bottom lists rows n l ≡ dense n l) → (n l : ℕ) → cell (cells_of places rows) n l ≡ within_list m lists n l (dense n l)
-  cells_are m bottom dense same values n l = by (near n nodes)
+  cells_are m bottom dense same values n l = by (side n nodes)
     where
       below : (t : Bool) → n < m.nodes → t ≡ has l (lists n) → within_list m lists n l (dense n l) ≡ (if t then Some (dense n l) else None)
       below t low is = ap (λ b. if b && has l (lists n) then Some (dense n l) else None) (test n m.nodes low) ∙ ap (λ b. if b then Some (dense n l) else None) (sym is)

@@ -8,6 +8,7 @@ use Rattle.std.proofs.lemmas.List.Kept.{AllPairs-from_increasing}
 use Rattle.sp_lattice.specs.System.{Meaning}
 use Rattle.sp_lattice.specs.Bound.{sum_below, dependencies_into}
 use Rattle.sp_lattice.proofs.Ranks.{sum_below-le}
+use Rattle.sp_sparse.proofs.Summing.{sum_below-first}
 use Rattle.sp_deps.specs.Rows.{leaving, same_pair, held, total}
 
 -- a test of a cons, counted
@@ -84,10 +85,6 @@ swap_sums ls (suc n) f = add ls ∙ ap (λ s. s + sum_by (λ l. f n l) ls) (swap
     add : (ks : List ℕ) → sum_by (λ l. sum_below n (λ b. f b l) + f n l) ks ≡ sum_by (λ l. sum_below n (λ b. f b l)) ks + sum_by (λ l. f n l) ks
     add [] = refl
     add (k ∷ ks) = omega (arith, sum_by-cons (λ l. sum_below n (λ b. f b l) + f n l) k ks, sum_by-cons (λ l. sum_below n (λ b. f b l)) k ks, sum_by-cons (λ l. f n l) k ks, add ks)
-
-sum_below-first : (n : ℕ) (f : ℕ → ℕ) → sum_below (suc n) f ≡ f 0 + sum_below n (λ k. f (suc k))
-sum_below-first zero f = omega arith
-sum_below-first (suc n) f = omega (arith, sum_below-first n f)
 
 total-rows : (rows : List (List (ℕ × ℕ))) → sum_below (length rows) (λ b. length (leaving rows b)) ≡ total rows
 total-rows [] = refl

@@ -8,10 +8,8 @@ use Rattle.sp_lattice.specs.System.{Meaning, store_at, values_at}
 use Rattle.sp_lattice.proofs.Stores.{written-values_at, written_elsewhere}
 use Rattle.sp_sparse.specs.Grid.{row_at, IsGrid, table_at}
 use Rattle.sp_sparse.specs.Engine.{Evaluates, Raises}
+use Rattle.sp_sparse.proofs.Numbers.{which}
 use Rattle.sp_sparse.proofs.Ordered.{written-at, written-set_other}
-
-which : (k n : ℕ) → (k ≡ n) ⊎ (k ≢ n)
-which k n = grind arith
 
 module _ {V : Type 0} where
   pub row_at-get_or : (rows : List (Vec V Global)) (n : ℕ) (d : Vec V Global) → n < length rows → row_at rows n ≡ (get_or rows n d).items

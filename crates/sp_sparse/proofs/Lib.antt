@@ -1,3 +1,4 @@
+mod Numbers
 mod Chains
 mod Spreading
 mod Working
@@ -10,5 +11,5 @@ mod Sending
 mod Windows
 mod CellLaws
 mod Turns
-pub mod SetLaws
+pub mod SystemLaws
 pub mod Told

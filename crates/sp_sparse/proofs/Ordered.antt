@@ -1,5 +1,5 @@
 -- Ascending lists of locations: where a location stands, and what is written there.
-use Rattle.std.proofs.Common.{◌≡◌, ◌≢◌, ◌⊎◌, inl, inr, ℕ, zero, suc, ◌<◌, ◌≤◌, Bool, true, false, cond, ◌||◌, nat_eq, List, [], ◌∷◌, length, get_or, set, Err, refl, sym, ap, ◌∙◌, arith, eqb-true}
+use Rattle.std.proofs.Common.{◌≡◌, ◌≢◌, ◌⊎◌, inl, inr, ℕ, zero, suc, ◌<◌, ◌≤◌, Bool, true, false, cond, ◌||◌, nat_eq, List, [], ◌∷◌, length, get_or, set, Err, refl, sym, ap, ◌∙◌, arith}
 use Rattle.std.specs.Ordering.{nat_cmp}
 use Rattle.std.specs.List.Sorted.{IsStrictlyIncreasing, IsBinarySearchResult}
 use Rattle.std.proofs.lemmas.Bool.{false≢true}
@@ -7,14 +7,8 @@ use Rattle.std.proofs.lemmas.Bool.Decides.{nat_tests}
 use Rattle.std.proofs.lemmas.List.Kept.{AllPairs-from_increasing}
 use Rattle.std.proofs.lemmas.List.Sorted.{searched}
 use Rattle.sp_lattice.specs.System.{has, written}
+use Rattle.sp_sparse.proofs.Numbers.{side, apart_numbers}
 use Rattle.sp_sparse.proofs.Few.{rest_rises}
-
-not_equal : (a b : ℕ) → a ≢ b → nat_eq a b ≡ false
-not_equal a b apart = by (nat_eq a b) refl
-  where
-    by : (t : Bool) → nat_eq a b ≡ t → t ≡ false
-    by true is = absurd (apart (eqb-true a b is))
-    by false is = refl
 
 or-false : (a b : Bool) → a ≡ false → b ≡ false → (a || b) ≡ false
 or-false true b h k = absurd (false≢true (sym h))
@@ -23,7 +17,7 @@ or-false false b h k = k
 -- what stands nowhere in a list isn't in it
 pub has-nowhere : (x : ℕ) (xs : List ℕ) → ((k : ℕ) → k < length xs → get_or xs k 0 ≢ x) → has x xs ≡ false
 has-nowhere x [] none = refl
-has-nowhere x (y ∷ xs) none = or-false (nat_eq x y) (has x xs) (not_equal x y (λ e. none 0 (omega arith) (sym e))) (has-nowhere x xs (λ k low. none (suc k) (omega arith)))
+has-nowhere x (y ∷ xs) none = or-false (nat_eq x y) (has x xs) (apart_numbers x y (λ e. none 0 (omega arith) (sym e))) (has-nowhere x xs (λ k low. none (suc k) (omega arith)))
 
 -- and what stands somewhere is
 pub has-at : (x : ℕ) (xs : List ℕ) (k : ℕ) → k < length xs → get_or xs k 0 ≡ x → has x xs ≡ true
@@ -51,14 +45,11 @@ rises_to xs rises i j i_j low = by (near i j i_j)
 -- a search that fails looked for what isn't there
 pub absent : (xs : List ℕ) (x i : ℕ) → IsStrictlyIncreasing xs → IsBinarySearchResult (λ y. nat_cmp y x) xs (Err i) → has x xs ≡ false
 absent xs x i rises found =
-    has-nowhere x xs (λ k low e. side k low e (near k i))
+    has-nowhere x xs (λ k low e. at k low e (side k i))
   where
-    near : (a b : ℕ) → (a < b) ⊎ (b ≤ a)
-    near a b = grind arith
-
-    side : (k : ℕ) → k < length xs → get_or xs k 0 ≡ x → (k < i) ⊎ (i ≤ k) → ⊥
-    side k low e (inl less) = let h = (searched xs x (Err i) found (rises_to xs rises)).1 k less in omega (arith, h)
-    side k low e (inr more) = let h = (searched xs x (Err i) found (rises_to xs rises)).2 k more low in omega (arith, h)
+    at : (k : ℕ) → k < length xs → get_or xs k 0 ≡ x → (k < i) ⊎ (i ≤ k) → ⊥
+    at k low e (inl less) = let h = (searched xs x (Err i) found (rises_to xs rises)).1 k less in omega (arith, h)
+    at k low e (inr more) = let h = (searched xs x (Err i) found (rises_to xs rises)).2 k more low in omega (arith, h)
 
 module _ {V : Type 0} where
   -- the value written at a place of an ascending list stands at its location
@@ -80,5 +71,5 @@ module _ {V : Type 0} where
   pub written-set_other : (store : ℕ → V) (ls : List ℕ) (vs : List V) (p : ℕ) (w : V) (l : ℕ) → p < length ls → l ≢ get_or ls p 0 → written store ls (set vs p w) l ≡ written store ls vs l
   written-set_other store [] vs p w l low apart = absurd (omega arith)
   written-set_other store (k ∷ ls) [] p w l low apart = refl
-  written-set_other store (k ∷ ls) (v ∷ vs) zero w l low apart = ap (λ b. cond b w (written store ls vs l)) (not_equal l k apart) ∙ sym (ap (λ b. cond b v (written store ls vs l)) (not_equal l k apart))
+  written-set_other store (k ∷ ls) (v ∷ vs) zero w l low apart = ap (λ b. cond b w (written store ls vs l)) (apart_numbers l k apart) ∙ sym (ap (λ b. cond b v (written store ls vs l)) (apart_numbers l k apart))
   written-set_other store (k ∷ ls) (v ∷ vs) (suc p) w l low apart = ap (λ r. cond (nat_eq l k) v r) (written-set_other store ls vs p w l (omega arith) apart)

@@ -11,7 +11,8 @@ use Rattle.sp_sparse.specs.Engine.{IsWorking, Raises, risen, IsPaid}
 use Rattle.sp_sparse.specs.Queue.{Removes}
 use Rattle.sp_sparse.proofs.Chains.{all_or_some}
 use Rattle.sp_sparse.proofs.Summing.{sum_by-mono, sum_by-lt, sum_by-times, sum_below-term}
-use Rattle.sp_sparse.proofs.Working.{which, use_below}
+use Rattle.sp_sparse.proofs.Numbers.{which}
+use Rattle.sp_sparse.proofs.Working.{use_below}
 
 one : (b : Bool) → cond {A = ℕ} b 1 0 ≤ 1
 one true = omega arith

@@ -2,7 +2,6 @@
 use Rattle.std.proofs.Common.{◌≡◌, ◌≢◌, ◌⊎◌, inl, inr, ℕ, zero, suc, ◌+◌, ◌<◌, Bool, true, false, ◌&&◌, ◌||◌, nat_eq, if◌then◌else◌, List, [], ◌∷◌, ◌++◌, length, get_or, refl, sym, ap, ◌∙◌, subst, arith, eqb-true}
 use Rattle.std.specs.List.{list_any}
 use Rattle.std.proofs.lemmas.Bool.{false≢true}
-use Rattle.std.proofs.lemmas.Bool.Decides.{nat_tests}
 use Rattle.std.proofs.lemmas.List.Folds.{list_any-append}
 use Rattle.sp_lattice.specs.Lattice.{Order, IsLattice}
 use Rattle.sp_lattice.specs.System.{Meaning, IsSystem, has}
@@ -12,7 +11,8 @@ use Rattle.sp_lattice.proofs.Paths.{Path-end}
 use Rattle.sp_deps.specs.Rows.{leaving, same_pair, held}
 use Rattle.sp_sparse.specs.Sparse.{IsSent}
 use Rattle.sp_sparse.specs.Engine.{IsWorking, Every, EveryOther, Raises, IsPaid}
-use Rattle.sp_sparse.proofs.Working.{which, working_sent, raised_above, raised_sent, working_all}
+use Rattle.sp_sparse.proofs.Numbers.{which, below_next, same_number, apart_numbers}
+use Rattle.sp_sparse.proofs.Working.{working_sent, raised_above, raised_sent, working_all}
 use Rattle.sp_sparse.proofs.Paying.{Lets, paid_sent}
 
 or-true : (a b : Bool) → b ≡ true → (a || b) ≡ true
@@ -22,9 +22,6 @@ or-true false b h = h
 and-parts : (a b : Bool) → (a && b) ≡ true → (a ≡ true) × (b ≡ true)
 and-parts true b h = (refl, h)
 and-parts false b h = absurd (false≢true h)
-
-same_number : (a : ℕ) → nat_eq a a ≡ true
-same_number a = grind (arith, nat_tests)
 
 same_itself : (p : ℕ × ℕ) → same_pair p p ≡ true
 same_itself p = ap (λ b. b && nat_eq p.1 p.1) (same_number p.0) ∙ same_number p.1
@@ -55,13 +52,6 @@ lets_add waiting now n is = by (has n waiting) refl is
     last : (k : ℕ) → has k (waiting ++ n ∷ []) ≡ (has k waiting || (nat_eq k n || false))
     last k = list_any-append (nat_eq k) waiting (n ∷ [])
 
-    apart : (k : ℕ) → k ≢ n → nat_eq k n ≡ false
-    apart k e = test (nat_eq k n) refl
-      where
-        test : (t : Bool) → nat_eq k n ≡ t → t ≡ false
-        test true same = absurd (e (eqb-true k n same))
-        test false same = refl
-
     or-nothing : (a b : Bool) → b ≡ false → (a || (b || false)) ≡ a
     or-nothing true b h = refl
     or-nothing false true h = absurd (false≢true (sym h))
@@ -76,7 +66,7 @@ lets_add waiting now n is = by (has n waiting) refl is
     by false there e = record {
       waits = λ _. ap (λ xs. has n xs) e ∙ last n ∙ or-true (has n waiting) (nat_eq n n || false) (ap (λ t. t || false) (same_number n));
       quiet = λ h. absurd (false≢true (sym h));
-      others = λ k h. ap (λ xs. has k xs) e ∙ last k ∙ or-nothing (has k waiting) (nat_eq k n) (apart k h);
+      others = λ k h. ap (λ xs. has k xs) e ∙ last k ∙ or-nothing (has k waiting) (nat_eq k n) (apart_numbers k n h);
     }
 
 pub lets_none : (waiting : List ℕ) (n : ℕ) → Lets waiting waiting n false
@@ -114,11 +104,8 @@ module _ {V : Type 0} (o : Order V) (m : Meaning V) (laws : IsLattice o) (sys : 
     rises = raised_above o m laws sys (held rows) exact due ins outs after waiting now node (get_or pairs i d).0 (get_or pairs i d).1 grew (pair_held i d low) working raises lets.waits (lets_stay waiting now (get_or pairs i d).1 grew lets)
 
     pub sending_reached : ((k : ℕ) (e : ℕ × ℕ) → k < i → IsSent o ins outs node (get_or pairs k e).0 (get_or pairs k e).1) → (k : ℕ) (e : ℕ × ℕ) → k < i + 1 → IsSent o after outs node (get_or pairs k e).0 (get_or pairs k e).1
-    sending_reached so_far k e k_low = by (near k i k_low)
+    sending_reached so_far k e k_low = by (below_next k i k_low)
       where
-        near : (a b : ℕ) → a < b + 1 → (a < b) ⊎ (a ≡ b)
-        near a b h = grind arith
-
         default : (xs : List (ℕ × ℕ)) (j : ℕ) → j < length xs → get_or xs j d ≡ get_or xs j e
         default [] j j_low = absurd (omega arith)
         default (x ∷ xs) zero j_low = refl

@@ -51,7 +51,7 @@ sum_below-term (suc n) f i low = by (near i n low) (λ less. sum_below-term n f 
     by (inl less) more = omega (arith, more less)
     by (inr e) more = omega (arith, ap f e)
 
-sum_below-first : (n : ℕ) (f : ℕ → ℕ) → sum_below (suc n) f ≡ f 0 + sum_below n (λ k. f (suc k))
+pub sum_below-first : (n : ℕ) (f : ℕ → ℕ) → sum_below (suc n) f ≡ f 0 + sum_below n (λ k. f (suc k))
 sum_below-first zero f = omega arith
 sum_below-first (suc n) f = omega (arith, sum_below-first n f)
 

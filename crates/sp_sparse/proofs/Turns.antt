@@ -14,7 +14,8 @@ use Rattle.sp_sparse.specs.Sparse.{EqualsDense}
 use Rattle.sp_sparse.specs.Engine.{IsWorking, Every, IsPaid}
 use Rattle.sp_sparse.specs.Solution.{IsWithinBounds}
 use Rattle.sp_sparse.specs.Queue.{Removes}
-use Rattle.sp_sparse.proofs.Working.{which, standing_last}
+use Rattle.sp_sparse.proofs.Numbers.{which}
+use Rattle.sp_sparse.proofs.Working.{standing_last}
 use Rattle.sp_sparse.proofs.Spreading.{equals_dense}
 use Rattle.sp_sparse.proofs.Summing.{sum-terms, sum-one_more}
 use Rattle.sp_sparse.proofs.Paying.{paid_most, paid_sum, paid_room}

@@ -1,5 +1,5 @@
 -- The window of nodes that wait: each node with a mark stands in it once, and no other.
-use Rattle.std.proofs.Common.{◌≡◌, ◌≢◌, ◌⊎◌, inl, inr, ℕ, zero, suc, ◌+◌, ◌-◌, ◌*◌, ◌<◌, ◌≤◌, Bool, true, false, cond, ◌||◌, nat_eq, nat_lt, if◌then◌else◌, List, [], ◌∷◌, ◌++◌, length, get_or, set, take, drop, refl, sym, ap, ◌∙◌, subst, arith, eqb-true, length-set, length-take, length-drop, get_or-set_same, get_or-set_other}
+use Rattle.std.proofs.Common.{◌≡◌, ◌≢◌, ◌⊎◌, inl, inr, ℕ, zero, suc, ◌+◌, ◌-◌, ◌*◌, ◌<◌, ◌≤◌, Bool, true, false, cond, ◌||◌, nat_eq, nat_lt, if◌then◌else◌, List, [], ◌∷◌, ◌++◌, length, get_or, set, take, drop, refl, sym, ap, ◌∙◌, subst, arith, length-set, length-take, length-drop, get_or-set_same, get_or-set_other}
 use Rattle.std.specs.List.{slice_range}
 use Rattle.std.proofs.lemmas.Bool.{false≢true}
 use Rattle.std.proofs.lemmas.Bool.Decides.{nat_tests}
@@ -10,20 +10,8 @@ use Rattle.sp_lattice.specs.System.{has}
 use Rattle.sp_lattice.specs.Bound.{sum_below}
 use Rattle.sp_lattice.proofs.Ranks.{sum_below-lt, sum_below-bound}
 use Rattle.sp_sparse.specs.Queue.{occurs, IsWindow, Removes}
+use Rattle.sp_sparse.proofs.Numbers.{which, side, same_number, apart_numbers}
 use Rattle.sp_sparse.proofs.Ordered.{has-at}
-
-which : (k n : ℕ) → (k ≡ n) ⊎ (k ≢ n)
-which k n = grind arith
-
-same_number : (a : ℕ) → nat_eq a a ≡ true
-same_number a = grind (arith, nat_tests)
-
-apart_numbers : (a b : ℕ) → a ≢ b → nat_eq a b ≡ false
-apart_numbers a b apart = by (nat_eq a b) refl
-  where
-    by : (t : Bool) → nat_eq a b ≡ t → t ≡ false
-    by true is = absurd (apart (eqb-true a b is))
-    by false is = refl
 
 occurs-cons : (n x : ℕ) (xs : List ℕ) → occurs n (x ∷ xs) ≡ cond (nat_eq n x) 1 0 + occurs n xs
 occurs-cons n x xs = sum_by-cons (λ y. cond (nat_eq n y) 1 0) x xs
@@ -386,14 +374,11 @@ window-all b marks nodes long marks_long in_order marked = record {
   long = omega (arith, long, marks_long);
   ordered = omega arith;
   within = omega (arith, long);
-  once = λ n. ap (λ k. occurs n (take k (drop 0 b))) whole ∙ occurs_in_order b nodes n (omega (arith, long)) in_order ∙ ap (λ t. cond {A = ℕ} t 1 0) (is_marked n (near n nodes));
+  once = λ n. ap (λ k. occurs n (take k (drop 0 b))) whole ∙ occurs_in_order b nodes n (omega (arith, long)) in_order ∙ ap (λ t. cond {A = ℕ} t 1 0) (is_marked n (side n nodes));
 }
   where
     whole : nodes - 0 ≡ nodes
     whole = omega arith
-
-    near : (a c : ℕ) → (a < c) ⊎ (c ≤ a)
-    near a c = grind arith
 
     below_test : (a c : ℕ) → a < c → nat_lt a c ≡ true
     below_test a c h = grind (arith, nat_tests)

@@ -1,6 +1,6 @@
 -- The first induction: the sparse values stay below every table under the ceiling whose rows lie above the effects of
 -- their inputs, as nodes are evaluated and values are sent along paths that define nothing of their location between.
-use Rattle.std.proofs.Common.{◌≡◌, ◌≢◌, ◌⊎◌, inl, inr, ℕ, ◌<◌, Bool, true, false, not, nat_eq, List, [], sym, ap, ◌∙◌, subst, refl, arith, eqb-true}
+use Rattle.std.proofs.Common.{◌≡◌, ◌≢◌, ◌⊎◌, inl, inr, ℕ, ◌<◌, Bool, true, false, not, nat_eq, List, [], sym, ap, ◌∙◌, subst, refl, eqb-true}
 use Rattle.std.proofs.lemmas.Bool.{false≢true}
 use Rattle.std.proofs.lemmas.Map.Views.{Contains-from_any}
 use Rattle.std.proofs.lemmas.List.Elements.{All-contains}
@@ -13,9 +13,7 @@ use Rattle.sp_lattice.proofs.Paths.{Path-end, along}
 use Rattle.sp_sparse.specs.Sparse.{SparsePartial, IsEvaluated, IsSent, IsStanding}
 use Rattle.sp_sparse.specs.Engine.{IsWorking, Every, EveryOther, Evaluates, Raises}
 use Rattle.sp_sparse.specs.Queue.{Removes}
-
-pub which : (k n : ℕ) → (k ≡ n) ⊎ (k ≢ n)
-which k n = grind arith
+use Rattle.sp_sparse.proofs.Numbers.{which}
 
 same_nat : (x y : ℕ) → nat_eq x y ≡ true → x ≡ y
 same_nat x y h = eqb-true x y h

@@ -3,4 +3,4 @@ pub mod Grid
 pub mod Engine
 pub mod Queue
 pub mod Solution
-pub mod Sets
+pub mod Intervals

@@ -4,22 +4,23 @@
 //! the least values, and every node *waits*. A *turn* takes a waiting node that a [`Picker`] picks, makes its outputs the
 //! effect of its inputs, and *sends* them along the *dependencies* of `sp_deps` to the nodes that use them; a node of which
 //! an input grew waits again. Where none waits, inputs and outputs are those of the dense least solution, whatever was
-//! picked: no table that the dense equations allow lies below them (`proofs/Working`), and spread to every node along the
-//! edges they are such a table themselves (`proofs/Spreading`). So Oh et al. 2012, section 2, over a frame and a support.
+//! picked: they lie below every table under the ceiling whose rows lie above the effects of their inputs (`proofs/Working`),
+//! and spread to every node along the edges they are such a table themselves (`proofs/Spreading`). After Oh et al. 2012, over a
+//! frame and a support.
 //!
 //! A [`System`](sp_lattice::System) goes in with its dependencies, a picker and a counter of evaluations, and a
 //! [`SparseTable`] comes out. The layer above uses the contract of [`solve_sparse`]: the table `IsSolved`, and the evaluations
 //! of each node are within `IsWithinBounds` (`specs.Solution`).
 //!
-//! With sets of numbers as values, the facts of each node of
+//! With intervals as values, the facts of each node of
 //!
 //! ```text
-//! x = 1; y = 1;      // 0: sends x = {1} to 2 and 4, and y = {1} to 4
+//! x = 1; y = 1;      // 0: sends x = [1,1] to 2 and 4, and y = [1,1] to 4
 //! while (..) {       // 1: uses and defines nothing, so nothing is kept here; evaluated once
-//!     y = x;         // 2: its input x is {1} from 0 and {2} from 3; it sends y = {1, 2} to 4
-//!     x = 2;         // 3: sends x = {2} to 2 and 4
+//!     y = x;         // 2: its input x is [1,1] from 0 and [2,2] from 3; it sends y = [1,2] to 4
+//!     x = 2;         // 3: sends x = [2,2] to 2 and 4
 //! }
-//! f(x, y);           // 4: its inputs are x = {1, 2} and y = {1, 2}
+//! f(x, y);           // 4: its inputs are x = [1,2] and y = [1,2]
 //! ```
 #![tactic(auto)]
 

@@ -1,14 +1,15 @@
 //! Systems by hand and random ones, solved under several pickers.
 ghost use Rattle.std.specs.Prelude.{◌≡◌, ◌<◌};
 
+mod intervals;
 mod random;
-mod sets;
 
 use crate::{First, Last, Picker, SparseTable, solve_sparse};
+use intervals::{IntervalSystem, Node, exactly};
 use random::{Random, small_system};
-use sets::{Node, Set, SetSystem};
 use sp_dense::{Table, solve_dense};
 use sp_deps::{Deps, dependencies};
+use sp_interval::Interval;
 use sp_lattice::{Inputs, Steps, System};
 use std::alloc::{AllocError, Global};
 use std::marker::Brand;
@@ -21,75 +22,71 @@ fn list(alloc: Global, numbers: &[u32]) -> Result<Vec<u32>, AllocError> {
     Vec::from_slice(alloc, numbers)
 }
 
-/// A node of a system by hand.
+/// A node of a system by hand, which adds nothing to what reaches it.
 fn node(
     alloc: Global,
     into: &[u32],
     defs: &[u32],
     uses: &[u32],
-    adds: u32,
-    needs: bool,
+    begins: Interval,
 ) -> Result<Node, AllocError> {
     Ok(Node {
         into: list(alloc, into)?,
         defs: list(alloc, defs)?,
         uses: list(alloc, uses)?,
-        adds,
-        needs,
+        begins,
+        adds: exactly(0),
     })
 }
 
-/// The set with 1 alone, the one with 2 alone, and the one with both.
-const ONE: u32 = 0b010;
+/// The constants of the systems by hand.
+const CONSTANTS: [i128; 2] = [1, 2];
 
-const TWO: u32 = 0b100;
+const ONE: Interval = Interval::Of { lo: 1, hi: 1 };
 
-const BOTH: u32 = 0b110;
+const TWO: Interval = Interval::Of { lo: 2, hi: 2 };
 
-/// Two nodes in a ring, of one location. Node 0 adds 1, and node 1 adds 2 to a set that isn't empty.
-fn ring(alloc: Global) -> Result<Option<SetSystem>, AllocError> {
+const BOTH: Interval = Interval::Of { lo: 1, hi: 2 };
+
+/// Two nodes in a ring, of one location. Node 0 begins 1, and node 1 begins 2.
+fn ring(alloc: Global) -> Result<Option<IntervalSystem>, AllocError> {
     let mut nodes = Vec::new(alloc);
-    nodes.push(node(alloc, &[1], &[0], &[0], ONE, false)?)?;
-    nodes.push(node(alloc, &[0], &[0], &[0], TWO, true)?)?;
-    SetSystem::checked(alloc, nodes, 1, BOTH, 1)
+    nodes.push(node(alloc, &[1], &[0], &[0], ONE)?)?;
+    nodes.push(node(alloc, &[0], &[0], &[0], TWO)?)?;
+    IntervalSystem::checked(alloc, nodes, 1, &CONSTANTS, 1)
 }
 
 /// The loop of `sp_lattice::System`, whose locations are x, 0, and y, 1.
-fn looping(alloc: Global) -> Result<Option<SetSystem>, AllocError> {
+fn looping(alloc: Global) -> Result<Option<IntervalSystem>, AllocError> {
     let mut nodes = Vec::new(alloc);
-    nodes.push(node(alloc, &[], &[0, 1], &[], ONE, false)?)?;
-    nodes.push(node(alloc, &[0, 3], &[], &[], 0, false)?)?;
-    nodes.push(node(alloc, &[1], &[1], &[0], 0, false)?)?;
-    nodes.push(node(alloc, &[2], &[0], &[], TWO, false)?)?;
-    nodes.push(node(alloc, &[1], &[], &[0, 1], 0, false)?)?;
-    SetSystem::checked(alloc, nodes, 2, BOTH, 2)
-}
-
-/// The elements of a value that may be there.
-fn members(value: Option<&Set>) -> Option<u32> {
-    Some(value?.members())
+    nodes.push(node(alloc, &[], &[0, 1], &[], ONE)?)?;
+    nodes.push(node(alloc, &[0, 3], &[], &[], Interval::Empty)?)?;
+    nodes.push(node(alloc, &[1], &[1], &[0], Interval::Empty)?)?;
+    nodes.push(node(alloc, &[2], &[0], &[], TWO)?)?;
+    nodes.push(node(alloc, &[1], &[], &[0, 1], Interval::Empty)?)?;
+    IntervalSystem::checked(alloc, nodes, 2, &CONSTANTS, 2)
 }
 
 /// Solves a system along its dependencies, and tells the table.
 fn solved<P: Picker, L: Ledger>(
     alloc: Global,
-    system: &SetSystem,
+    system: &IntervalSystem,
     picker: &mut P,
     steps: &mut Steps<L>,
-) -> Result<SparseTable<Set>, Fail> {
+) -> Result<SparseTable<Interval>, Fail> {
     let deps = dependencies(alloc, system)?;
     Ok(solve_sparse(alloc, system, &deps, picker, steps)?)
 }
 
 /// What is expected at a node and a location: the input, and the output.
-type Cell = (u32, u32, Option<u32>, Option<u32>);
+type Cell = (u32, u32, Option<Interval>, Option<Interval>);
 
 /// Compares a table with what is expected of it, and the evaluations with their bounds.
-fn compare(rt: &impl Abort, table: &SparseTable<Set>, cells: &[Cell], bounds: &[u64]) {
+fn compare(rt: &impl Abort, table: &SparseTable<Interval>, cells: &[Cell], bounds: &[u64]) {
     for (node, location, input, output) in cells {
-        let reached = members(reaching(table, *node, *location));
+        let reached = reaching(table, *node, *location).copied();
         assert_eq!(rt; reached, *input, "input of {node} at {location}");
-        let left = members(table.output(*node, *location));
+        let left = table.output(*node, *location).copied();
         assert_eq!(rt; left, *output, "output of {node} at {location}");
     }
     let mut node = 0u32;
@@ -102,7 +99,11 @@ fn compare(rt: &impl Abort, table: &SparseTable<Set>, cells: &[Cell], bounds: &[
 }
 
 /// The value that reaches a node, where the inputs have it.
-fn reaching<I: Inputs<Value = Set>>(inputs: &I, node: u32, location: u32) -> Option<&Set> {
+fn reaching<I: Inputs<Value = Interval>>(
+    inputs: &I,
+    node: u32,
+    location: u32,
+) -> Option<&Interval> {
     inputs.input(node, location)
 }
 
@@ -167,30 +168,39 @@ fn dependencies_into(alloc: Global, deps: &Deps, nodes: u32) -> Result<Vec<u64>,
     Ok(counts)
 }
 
-/// Compares the table of a random system with the dense one at each use and definition, and the evaluations with
-/// their bounds: five elements make five steps upward.
+/// Compares the table of a random system with the dense one at each use and definition, and nowhere else, and the evaluations with
+/// their bounds.
 fn compare_dense(
     rt: &impl Abort,
-    system: &SetSystem,
+    system: &IntervalSystem,
     into: &[u64],
-    dense: &Table<Set>,
-    sparse: &SparseTable<Set>,
+    dense: &Table<Interval>,
+    sparse: &SparseTable<Interval>,
 ) {
     let mut node = 0u32;
     for count in into {
+        if node >= system.nodes() {
+            break;
+        }
         for location in 0..system.locations() {
-            if let Some(input) = sparse.input(node, location) {
-                assert_eq!(rt; members(dense.input(node, location)), Some(input.members()));
-            }
-            if let Some(output) = sparse.output(node, location) {
-                assert_eq!(rt;
-                    members(dense.output(node, location)),
-                    Some(output.members())
-                );
-            }
+            let input = if system.uses(node).contains(&location) {
+                dense.input(node, location).copied()
+            } else {
+                None
+            };
+            assert_eq!(rt; sparse.input(node, location).copied(), input);
+            let output = if system.defs(node).contains(&location) {
+                dense.output(node, location).copied()
+            } else {
+                None
+            };
+            assert_eq!(rt; sparse.output(node, location).copied(), output);
         }
         let evaluations = sparse.evaluations(node).unwrap_or(0);
-        assert!(rt; 0 < evaluations && evaluations <= count.saturating_mul(5).saturating_add(1));
+        assert!(rt;
+            0 < evaluations
+                && evaluations <= count.saturating_mul(system.height()).saturating_add(1)
+        );
         node = node.saturating_add(1);
     }
 }

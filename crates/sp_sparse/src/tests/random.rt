@@ -1,7 +1,8 @@
-//! Random systems over sets.
+//! Random systems over intervals.
 ghost use Rattle.std.specs.Prelude.{◌<◌};
 
-use super::sets::{Node, SetSystem};
+use super::intervals::{IntervalSystem, Node, exactly};
+use sp_interval::Interval;
 use std::alloc::{AllocError, Global};
 
 /// Numbers that look random: a linear congruential generator (Knuth's MMIX), of which the upper bits are taken.
@@ -50,17 +51,35 @@ fn ascending(
     Ok(numbers)
 }
 
-/// The elements that a node adds: none, or one of five.
-const ADDED: [u32; 6] = [0, 1, 2, 4, 8, 16];
+/// The constants of the systems: what their nodes begin.
+const CONSTANTS: [i128; 4] = [-3, 0, 5, 40];
 
-/// All five elements.
-const MOST: u32 = 31;
+/// None, or one of the constants.
+fn begun(random: &mut Random) -> Interval {
+    match random.below(8) {
+        0 => exactly(-3),
+        1 => exactly(0),
+        2 => exactly(5),
+        3 => exactly(40),
+        _ => Interval::Empty,
+    }
+}
+
+/// What is added to a value: mostly nothing.
+fn added(random: &mut Random) -> Interval {
+    match random.below(6) {
+        0 => exactly(1),
+        1 => exactly(-2),
+        2 => Interval::Of { lo: -1, hi: 1 },
+        _ => exactly(0),
+    }
+}
 
 /// A system of up to 12 nodes and up to 4 locations, of which some pass every edge and the others those that lead upward.
 pub(crate) fn small_system(
     alloc: Global,
     random: &mut Random,
-) -> Result<Option<SetSystem>, AllocError> {
+) -> Result<Option<IntervalSystem>, AllocError> {
     let count = random.below(12) + 1;
     let locations = random.below(4) + 1;
     let passing = random.below(locations + 1);
@@ -74,15 +93,15 @@ pub(crate) fn small_system(
         let defs = ascending(alloc, random, most_defs, locations, 3)?;
         let most_uses = random.below(4);
         let uses = ascending(alloc, random, most_uses, locations, 2)?;
-        let adds = ADDED[random.below(6) as usize];
-        let needs = random.below(3) == 0;
+        let begins = begun(random);
+        let adds = added(random);
         nodes.push(Node {
             into,
             defs,
             uses,
+            begins,
             adds,
-            needs,
         })?;
     }
-    SetSystem::checked(alloc, nodes, locations, MOST, passing)
+    IntervalSystem::checked(alloc, nodes, locations, &CONSTANTS, passing)
 }
