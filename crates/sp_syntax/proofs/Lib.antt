@@ -1,0 +1,3 @@
+mod Examples
+pub mod TreeLaws
+pub mod TreeViews
