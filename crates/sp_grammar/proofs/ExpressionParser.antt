@@ -9,7 +9,7 @@ use Rattle.sp_grammar.specs.declared.reader.Part.{Part}
 use Rattle.sp_grammar.specs.Table.{Symbols, Plan, Table, Want, Fails, fail_take, fail_later, fail_ask, fail_inside, fail_behind}
 use Rattle.sp_grammar.specs.Whole.{IsWhole, BeginsWhole}
 use Rattle.sp_grammar.specs.Depth.{Depths, Deep, deep_here, deep_later, deep_inside, deep_behind, nests}
-use Rattle.sp_grammar.specs.Expression.{Expression, expression_of, tokens_of, IsLevelled}
+use Rattle.sp_grammar.specs.Expression.{Expression, expression_of, tokens_of, IsLevelled, depth_of}
 use Rattle.sp_grammar.specs.ExpressionTable.{symbols, expression, expressions, depths}
 use Rattle.sp_grammar.specs.ExpressionReading.{IsEnded, problem_of, IsPart}
 use Rattle.sp_grammar.specs.ExpressionAnswers.{BeginsTree, IsLongest, IsFault, IsNested}
@@ -51,19 +51,18 @@ module _ (types : List ℕ) where
       let s = is_spelled types Sum (front ++ b.rest) (z ∷ []) b.answer (b.whole.read []) in
       record { tree = b.answer; rest = b.rest; levelled = s.levelled; spells = s.spells }
 
-  pub is_longest : (depth : ℕ) (tokens : List Kind) (part : Part) (count : ℕ) → IsPart types (expression Sum) depth tokens part → count + length part.rest.now ≡ length tokens → IsLongest types depth tokens (expression_of part.tree) count
-  is_longest depth tokens part count h counted =
-      let e = expression_of part.tree in
-      let head = ended_head part.rest.now h.ended in
+  pub longest_at : (depth : ℕ) (tokens rest : List Kind) (e : Expression) (count : ℕ) → (r : Read types (expression Sum) tokens e rest) → IsEnded rest → depth_of e ≤ depth → count + length rest ≡ length tokens → IsLongest types depth tokens e count
+  longest_at depth tokens rest e count r ended shallow counted =
+      let head = ended_head rest ended in
       let x = head.0 in
       let more = head.1 in
-      let front = front_of h.reads in
-      let whole : tokens ≡ front ++ x ∷ more = spelled h.reads ∙ ap (λ v. front ++ v) head.2 in
-      let moved : Read types (expression Sum) (front ++ x ∷ more) e (x ∷ more) = subst (λ v. Read types (expression Sum) (front ++ x ∷ more) e v) head.2 (at_tokens whole h.reads) in
+      let front = front_of r in
+      let whole : tokens ≡ front ++ x ∷ more = spelled r ∙ ap (λ v. front ++ v) head.2 in
+      let moved : Read types (expression Sum) (front ++ x ∷ more) e (x ∷ more) = subst (λ v. Read types (expression Sum) (front ++ x ∷ more) e v) head.2 (at_tokens whole r) in
       let s = is_spelled types Sum front (x ∷ more) e moved in
       let text : tokens ≡ tokens_of e ++ x ∷ more = whole ∙ ap (λ v. v ++ x ∷ more) (sym s.spells) in
       let size : length tokens ≡ length (tokens_of e) + length (x ∷ more) = ap length text ∙ length-append (tokens_of e) (x ∷ more) in
-      let rest : length part.rest.now ≡ length (x ∷ more) = ap length head.2 in
+      let left : length rest ≡ length (x ∷ more) = ap length head.2 in
       record {
         next = x;
         more = more;
@@ -71,8 +70,11 @@ module _ (types : List ℕ) where
         counted = omega arith;
         levelled = s.levelled;
         longest = λ b. longest (expressions types) (checked types) (expression Sum) front more x e moved kinds.End (begins_whole (front ++ x ∷ []) (subst (λ v. BeginsTree types (v ++ x ∷ [])) s.spells b));
-        shallow = omega (arith, h.deep, h.shallow);
+        shallow = shallow;
       }
+
+  pub is_longest : (depth : ℕ) (tokens : List Kind) (part : Part) (count : ℕ) → IsPart types (expression Sum) depth tokens part → count + length part.rest.now ≡ length tokens → IsLongest types depth tokens (expression_of part.tree) count
+  is_longest depth tokens part count h counted = longest_at depth tokens part.rest.now (expression_of part.tree) count h.reads h.ended (omega (arith, h.deep, h.shallow)) counted
 
   pub is_fault : (tokens bad : List Kind) (problem : Problem) (count : ℕ) (f : Want symbols) → Fail types (expression Sum) tokens f bad → problem ≡ problem_of types f bad → count + length bad ≡ length tokens → IsFault types tokens problem count
   is_fault tokens bad problem count f h kind counted =

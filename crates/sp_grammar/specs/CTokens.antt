@@ -1,5 +1,5 @@
 -- The tokens of C90 as its grammar sees them: by sorts, with whatever else a parser wants of them beside.
-use Rattle.std.specs.Prelude.{ℕ, ◌+◌, Bool, true, false, ◌&&◌, not, max, ◌==◌, List, [], ◌∷◌, Option, Some, None, if◌then◌else◌}
+use Rattle.std.specs.Prelude.{◌≡◌, ℕ, ◌+◌, Bool, true, false, ◌&&◌, not, max, ◌==◌, List, [], ◌∷◌, Option, Some, None, if◌then◌else◌}
 use Rattle.std.specs.List.{list_any}
 
 -- the words of type specifiers
@@ -20,10 +20,11 @@ pub data Sort : Type 0 where
   binary : ℕ → Sort
   mark : Mark → Sort
 
--- a token: its sort, and what else is known of it
-pub record Token (P : Type 0) : Type 0 where
+-- a token: what is known of it, and its sort, which follows from that
+pub record Token (P : Type 0) (sort_of : P → Sort) : Type 0 where
   pub sort : Sort
   pub what : P
+  pub right : sort_of what ≡ sort
 
 -- what the sort is where these names are type names
 abbrev pub view : List ℕ → Sort → Sort

@@ -63,6 +63,11 @@ pub record IsNested (types : List ℕ) (depth : ℕ) (tokens : List Kind) (count
   pub goes_on : BeginsTree types (front ++ bad ∷ [])
   pub deeper : (tree : Expression) (rest : List Kind) → IsLevelled types tree → tokens_of tree ≡ (front ++ bad ∷ []) ++ rest → depth < depth_of tree
 
+-- Some expression, of whatever depth, is the longest at the tokens, or one of them is the failing one.
+pub data IsSettled (types : List ℕ) (tokens : List Kind) : Type 0 where
+  is_read : (tree : Expression) (count : ℕ) → IsLongest types (depth_of tree) tokens tree count → IsSettled types tokens
+  is_failed : (problem : Problem) (count : ℕ) → IsFault types tokens problem count → IsSettled types tokens
+
 -- The answer to these tokens.
 abbrev pub Answers : List ℕ → ℕ → List Kind → Result (Expr × ℕ) ParseError → Type 0
 Answers types depth tokens (Ok read) = IsLongest types depth tokens (expression_of read.0) read.1

@@ -2,6 +2,7 @@ pub mod Table
 pub mod Whole
 pub mod Checked
 pub mod Kept
+pub mod Totality
 pub mod Depth
 pub mod Expression
 pub mod ExpressionTable
