@@ -1,0 +1,13 @@
+pub mod Numbers
+pub mod WalkLaws
+pub mod Rounds
+pub mod PointLaws
+pub mod Closures
+pub mod Passing
+pub mod Matrices
+pub mod ChangeLaws
+pub mod Composing
+pub mod HeldLaws
+pub mod OrderLaws
+pub mod Made
+pub mod Sound

@@ -1,0 +1,9 @@
+pub mod Entries
+pub mod Facts
+pub mod Points
+pub mod Walks
+pub mod Changes
+pub mod Order
+pub mod Held
+pub mod Octagons
+pub mod Rounds
