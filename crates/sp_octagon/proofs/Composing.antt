@@ -42,3 +42,11 @@ le_holds a b p same le h =
 pub either_holds : (a b new : Octagon) (p : Point) → a.size ≡ new.size → b.size ≡ new.size → octagon_le a new ≡ true → octagon_le b new ≡ true → OctagonHolds a p ⊎ OctagonHolds b p → OctagonHolds new p
 either_holds a b new p e f x y (inl h) = le_holds a new p e x h
 either_holds a b new p e f x y (inr h) = le_holds b new p f y h
+
+-- and the other way round
+pub becomes_held : (old new : Octagon) (m : Entries) (p : Point) → Becomes old new m → OctagonHolds new p → Holds (rows old) m p
+becomes_held old new m p is h = record {
+  within = λ r c hr hc bound.
+      let e = is.entries_are r c hr hc in
+      omega (arith, ints, e, h.within r c (omega (arith, hr, is.size)) (omega (arith, hc, is.size)) (omega (arith, ints, e, bound)));
+}

@@ -1,5 +1,5 @@
 -- Snapped entries are held, the join of held ones is, and of two held octagons the greater has the greater rank.
-use Rattle.std.proofs.Common.{◌≡◌, ◌≢◌, ◌⊎◌, inl, inr, ℕ, zero, suc, ◌+◌, ◌*◌, ◌<◌, ◌≤◌, ◌==◌, Bool, true, false, cond, ◌&&◌, List, length, Contains, ℤ, ◌+ℤ◌, ◌≤ℤ◌, ◌<ℤ◌, refl, sym, ap, ◌∙◌, subst, arith}
+use Rattle.std.proofs.Common.{◌≡◌, ◌≢◌, ◌⊎◌, inl, inr, ℕ, zero, suc, ◌+◌, ◌*◌, ◌<◌, ◌≤◌, ◌==◌, Bool, true, false, cond, ◌&&◌, List, length, Contains, ℤ, pos, ◌+ℤ◌, ◌≤ℤ◌, ◌<ℤ◌, refl, sym, ap, ◌∙◌, subst, arith}
 use Rattle.std.specs.Prelude.{int_lt, int_le}
 use Rattle.std.specs.Int.{int_max}
 use Rattle.std.proofs.Math.Nat.{mul-le-mul_right}
@@ -14,7 +14,7 @@ use Rattle.sp_octagon.specs.Entries.{Entries, unbounded, IsBound, half, doubled,
 use Rattle.sp_octagon.specs.Order.{Below, all_below, is_below, joined}
 use Rattle.sp_octagon.specs.Changes.{snapped_bound, snapped_entries}
 use Rattle.sp_octagon.specs.Held.{IsHeldBound, IsHeldDouble, IsHeld, bound_rank, double_rank, entry_rank, rank_of}
-use Rattle.sp_octagon.proofs.Numbers.{below_or_not, half-le, half-double, negative_other}
+use Rattle.sp_octagon.proofs.Numbers.{below_or_not, half-is, half-le, half-double, negative_other}
 use Rattle.sp_octagon.proofs.ChangeLaws.{SnapCases, past, onto, snap_cases, DoubleCases, none, twice, double_cases}
 
 -- ---- snapped entries
@@ -144,7 +144,7 @@ bound_rank-lt points y z (inr at) most most' less = by (below_or_not z unbounded
     by (inl g) = omega (arith, bound_rank-is points y h, bound_rank-is points z g, points_below-lt points y z at less)
     by (inr g) = omega (arith, bound_rank-is points y h, bound_rank-none points z g, points_below-lt-length points y at)
 
-double_rank-is : (points : List ℤ) (z : ℤ) → IsBound z → double_rank points z ≡ points_below points (half z)
+double_rank-is : (points : List ℤ) (z : ℤ) → IsBound z → double_rank points z ≡ points_below points (half (z +ℤ pos 1))
 double_rank-is points z h = rw (int_lt_true z unbounded h) refl
 
 double_rank-none : (points : List ℤ) (z : ℤ) → unbounded ≤ℤ z → double_rank points z ≡ length points
@@ -154,8 +154,8 @@ double_rank-le : (points : List ℤ) (y z : ℤ) → y ≤ℤ z → double_rank 
 double_rank-le points y z le = by (below_or_not y unbounded) (below_or_not z unbounded)
   where
     by : (y <ℤ unbounded) ⊎ (unbounded ≤ℤ y) → (z <ℤ unbounded) ⊎ (unbounded ≤ℤ z) → double_rank points y ≤ double_rank points z
-    by (inl h) (inl g) = omega (arith, double_rank-is points y h, double_rank-is points z g, points_below-le points (half y) (half z) (half-le y z le))
-    by (inl h) (inr g) = omega (arith, double_rank-is points y h, double_rank-none points z g, points_below-le-length points (half y))
+    by (inl h) (inl g) = omega (arith, double_rank-is points y h, double_rank-is points z g, points_below-le points (half (y +ℤ pos 1)) (half (z +ℤ pos 1)) (half-le (y +ℤ pos 1) (z +ℤ pos 1) (omega (arith, ints, le))))
+    by (inl h) (inr g) = omega (arith, double_rank-is points y h, double_rank-none points z g, points_below-le-length points (half (y +ℤ pos 1)))
     by (inr h) (inl g) = absurd (omega (arith, ints, h, g, le))
     by (inr h) (inr g) = omega (arith, double_rank-none points y h, double_rank-none points z g)
 
@@ -166,19 +166,19 @@ double_rank-lt points y z (inr (p, at, e)) o most most' less = by (below_or_not 
     h : IsBound y
     h = omega (arith, ints, less, most')
 
-    same : half y ≡ p
-    same = ap half e ∙ half-double p
+    same : half (y +ℤ pos 1) ≡ p
+    same = omega (arith, ints, e, half-is (y +ℤ pos 1))
 
-    at_half : Contains points (half y)
+    at_half : Contains points (half (y +ℤ pos 1))
     at_half = subst (λ (v : ℤ). Contains points v) (sym same) at
 
     by : (z <ℤ unbounded) ⊎ (unbounded ≤ℤ z) → IsHeldDouble points z → double_rank points y < double_rank points z
     by (inl g) (inl f) = absurd (omega (arith, ints, g, f))
     by (inl g) (inr (q, at', f)) =
-        let same' : half z ≡ q = ap half f ∙ half-double q in
-        let less' : half y <ℤ half z = omega (arith, ints, same, same', e, f, less) in
-        omega (arith, double_rank-is points y h, double_rank-is points z g, points_below-lt points (half y) (half z) at_half less')
-    by (inr g) o' = omega (arith, double_rank-is points y h, double_rank-none points z g, points_below-lt-length points (half y) at_half)
+        let same' : half (z +ℤ pos 1) ≡ q = omega (arith, ints, f, half-is (z +ℤ pos 1)) in
+        let less' : half (y +ℤ pos 1) <ℤ half (z +ℤ pos 1) = omega (arith, ints, same, same', e, f, less) in
+        omega (arith, double_rank-is points y h, double_rank-is points z g, points_below-lt points (half (y +ℤ pos 1)) (half (z +ℤ pos 1)) at_half less')
+    by (inr g) o' = omega (arith, double_rank-is points y h, double_rank-none points z g, points_below-lt-length points (half (y +ℤ pos 1)) at_half)
 
 -- of entries one below the other
 entry_rank-le : (points : List ℤ) (a b : Entries) (r c : ℕ) → a r c ≤ℤ b r c → entry_rank points a r c ≤ entry_rank points b r c
@@ -281,8 +281,8 @@ bound_rank-most points z = by (int_lt z unbounded)
 double_rank-most : (points : List ℤ) (z : ℤ) → double_rank points z ≤ length points
 double_rank-most points z = by (int_lt z unbounded)
   where
-    by : (t : Bool) → cond t (points_below points (half z)) (length points) ≤ length points
-    by true = points_below-le-length points (half z)
+    by : (t : Bool) → cond t (points_below points (half (z +ℤ pos 1))) (length points) ≤ length points
+    by true = points_below-le-length points (half (z +ℤ pos 1))
     by false = omega arith
 
 entry_rank-most : (points : List ℤ) (m : Entries) (r c : ℕ) → entry_rank points m r c ≤ length points

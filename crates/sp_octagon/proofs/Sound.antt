@@ -4,7 +4,7 @@ use Rattle.std.specs.Int.{int_min, int_max}
 use Rattle.std.proofs.lemmas.Int.{ints, clamps}
 use Rattle.std.proofs.lemmas.Bool.Decides.{nat_tests}
 use Rattle.sp_lattice.specs.Ladder.{lowest, IsLadder, InBounds}
-use Rattle.sp_lattice.proofs.Snaps.{int_lt_true, int_lt_false, snapped_up_is, lt_from_int_lt, le_from_int_le, same_int}
+use Rattle.sp_lattice.proofs.Snaps.{int_lt_true, int_le_true, int_lt_false, snapped_up_is, lt_from_int_lt, le_from_int_le, same_int}
 use Rattle.sp_lattice.specs.Relation.{holds}
 use Rattle.sp_lattice.specs.declared.relations.Relation.{Relation}
 use Rattle.sp_lattice.specs.declared.relations.Relation.TheVariants.{Less, LessEqual, Greater, GreaterEqual, Equal, Different}
@@ -281,3 +281,90 @@ projected-holds size m x v hx h in_bounds =
         at_least = λ b. omega (arith, ints, row_even v x, row_odd v x, h.within (2 * x) (2 * x + 1) (omega arith) (omega arith) b);
       },
     )
+
+-- ---- and no others
+
+lowered-at : (m : Entries) (r c : ℕ) (v : ℤ) → lowered m r c v r c ≡ int_min v (m r c)
+lowered-at m r c v = rw (nat_same r r refl, nat_same c c refl) refl
+
+lowered-below : (n : ℕ) (m : Entries) (r c : ℕ) (v : ℤ) → Below n (lowered m r c v) m
+lowered-below n m r c v i j hi hj = by (which (is_pair r c i j))
+  where
+    by : (is_pair r c i j ≡ true) ⊎ (is_pair r c i j ≡ false) → lowered m r c v i j ≤ℤ m i j
+    by (inl t) = let e : lowered m r c v i j ≡ int_min v (m i j) = rw t refl in omega (arith, ints, clamps, e)
+    by (inr t) = let e : lowered m r c v i j ≡ m i j = rw t refl in omega (arith, ints, e)
+
+lowered-met : (n : ℕ) (m : Entries) (p : Point) (r c : ℕ) (v : ℤ) → r < n → c < n → v <ℤ unbounded → Holds n (lowered m r c v) p → (value_at p c -ℤ value_at p r) ≤ℤ (v +ℤ v)
+lowered-met n m p r c v hr hc low h =
+    let e = lowered-at m r c v in
+    omega (arith, ints, clamps, e, h.within r c hr hc (omega (arith, ints, clamps, e, low)))
+
+at_most-met : (n : ℕ) (m : Entries) (x y : ℕ) (z : ℤ) (v : ℕ → ℤ) → 2 * x < n → 2 * y < n → z <ℤ unbounded → Holds n (difference_at_most m x y z) (whole_point v) → (v x -ℤ v y) ≤ℤ z
+at_most-met n m x y z v hx hy low h = omega (arith, ints, row_even v x, row_even v y, lowered-met n m (whole_point v) (2 * y) (2 * x) z hy hx low h)
+
+pub constrained-met : (n : ℕ) (m : Entries) (x : ℕ) (op : Relation) (y : ℕ) (v : ℕ → ℤ) → 2 * x < n → 2 * y < n → (op ≡ Different → ⊥) → Holds n (constrained m x op y) (whole_point v) → Holds n m (whole_point v) × (holds op (v x) (v y) ≡ true)
+constrained-met n m x Less y v hx hy other h =
+    let met = at_most-met n m x y (neg_ℤ (pos 1)) v hx hy (omega (arith, ints)) h in
+    (holds-below n (difference_at_most m x y (neg_ℤ (pos 1))) m (whole_point v) (lowered-below n m (2 * y) (2 * x) (neg_ℤ (pos 1))) h, int_lt_true (v x) (v y) (omega (arith, ints, met)))
+constrained-met n m x LessEqual y v hx hy other h =
+    let met = at_most-met n m x y (pos 0) v hx hy (omega (arith, ints)) h in
+    (holds-below n (difference_at_most m x y (pos 0)) m (whole_point v) (lowered-below n m (2 * y) (2 * x) (pos 0)) h, int_le_true (v x) (v y) (omega (arith, ints, met)))
+constrained-met n m x Greater y v hx hy other h =
+    let met = at_most-met n m y x (neg_ℤ (pos 1)) v hy hx (omega (arith, ints)) h in
+    (holds-below n (difference_at_most m y x (neg_ℤ (pos 1))) m (whole_point v) (lowered-below n m (2 * x) (2 * y) (neg_ℤ (pos 1))) h, int_lt_true (v y) (v x) (omega (arith, ints, met)))
+constrained-met n m x GreaterEqual y v hx hy other h =
+    let met = at_most-met n m y x (pos 0) v hy hx (omega (arith, ints)) h in
+    (holds-below n (difference_at_most m y x (pos 0)) m (whole_point v) (lowered-below n m (2 * x) (2 * y) (pos 0)) h, int_le_true (v y) (v x) (omega (arith, ints, met)))
+constrained-met n m x Equal y v hx hy other h =
+    let first = difference_at_most m x y (pos 0) in
+    let back = at_most-met n first y x (pos 0) v hy hx (omega (arith, ints)) h in
+    let inner = holds-below n (difference_at_most first y x (pos 0)) first (whole_point v) (lowered-below n first (2 * x) (2 * y) (pos 0)) h in
+    let there = at_most-met n m x y (pos 0) v hx hy (omega (arith, ints)) inner in
+    let same : v x ≡ v y = omega (arith, ints, there, back) in
+    (holds-below n first m (whole_point v) (lowered-below n m (2 * y) (2 * x) (pos 0)) inner, equal_true (v x) (v y) same)
+  where
+    equal_true : (a b : ℤ) → a ≡ b → holds Equal a b ≡ true
+    equal_true a b e = grind (arith, ints)
+constrained-met n m x Different y v hx hy other h = absurd (other refl)
+
+pub bounded_by-met : (n : ℕ) (m : Entries) (x : ℕ) (lo hi : ℤ) (v : ℕ → ℤ) → 2 * x + 1 < n → InBounds lo → InBounds hi → Holds n (bounded_by m x (Of lo hi)) (whole_point v) → Holds n m (whole_point v) × IntervalHolds (Of lo hi) (v x)
+bounded_by-met n m x lo hi v hx low high h =
+    let first = lowered m (2 * x + 1) (2 * x) (hi +ℤ hi) in
+    let below = lowered-met n first (whole_point v) (2 * x) (2 * x + 1) (neg_ℤ (lo +ℤ lo)) (omega arith) hx (omega (arith, ints, low.0)) h in
+    let inner = holds-below n (lowered first (2 * x) (2 * x + 1) (neg_ℤ (lo +ℤ lo))) first (whole_point v) (lowered-below n first (2 * x) (2 * x + 1) (neg_ℤ (lo +ℤ lo))) h in
+    let above = lowered-met n m (whole_point v) (2 * x + 1) (2 * x) (hi +ℤ hi) hx (omega arith) (omega (arith, ints, high.1)) inner in
+    (holds-below n first m (whole_point v) (lowered-below n m (2 * x + 1) (2 * x) (hi +ℤ hi)) inner, (omega (arith, ints, row_even v x, row_odd v x, below), omega (arith, ints, row_even v x, row_odd v x, above)))
+
+with_pair-at : (m : Entries) (r c : ℕ) (v : ℤ) → with_pair m r c v r c ≡ v
+with_pair-at m r c v = rw (nat_same r r refl, nat_same c c refl) refl
+
+-- both bounds of x - y
+pub assigned-met : (n : ℕ) (m : Entries) (x y : ℕ) (k : ℤ) (v : ℕ → ℤ) → 2 * x < n → 2 * y < n → (x ≡ y → ⊥) → IsBound k → IsBound (neg_ℤ k) → Holds n (assigned m x y k) (whole_point v) → v x ≡ (v y +ℤ k)
+assigned-met n m x y k v hx hy other low low' h =
+    let one = with_pair (forgotten m x) (2 * y) (2 * x) k in
+    let is : (i j : ℕ) → assigned m x y k i j ≡ tied m x y k i j = λ i j. rw (nat_other x y other) refl in
+    let below : assigned m x y k (2 * x) (2 * y) ≡ neg_ℤ k = is (2 * x) (2 * y) ∙ with_pair-at one (2 * x) (2 * y) (neg_ℤ k) in
+    let apart_rows : (2 * y == 2 * x) ≡ false = nat_other (2 * y) (2 * x) (λ e. other (omega (arith, e))) in
+    let apart_row : (2 * y == negative (2 * y)) ≡ false = nat_other (2 * y) (negative (2 * y)) (λ e. omega (arith, e)) in
+    let off : is_pair (2 * x) (2 * y) (2 * y) (2 * x) ≡ false = rw (apart_rows, apart_row) refl in
+    let outer : tied m x y k (2 * y) (2 * x) ≡ one (2 * y) (2 * x) = rw off refl in
+    let above : assigned m x y k (2 * y) (2 * x) ≡ k = is (2 * y) (2 * x) ∙ outer ∙ with_pair-at (forgotten m x) (2 * y) (2 * x) k in
+    let up = h.within (2 * y) (2 * x) hy hx (subst IsBound (sym above) low) in
+    let down = h.within (2 * x) (2 * y) hx hy (subst IsBound (sym below) low') in
+    omega (arith, ints, row_even v x, row_even v y, above, below, up, down)
+
+-- what lowers entries makes nothing greater
+lowered_below-below : (n : ℕ) (a m : Entries) (r c : ℕ) (v : ℤ) → Below n a m → Below n (lowered a r c v) m
+lowered_below-below n a m r c v h i j hi hj = omega (arith, ints, h i j hi hj, lowered-below n a r c v i j hi hj)
+
+pub constrained-below : (n : ℕ) (m : Entries) (x : ℕ) (op : Relation) (y : ℕ) → Below n (constrained m x op y) m
+constrained-below n m x Less y = lowered-below n m (2 * y) (2 * x) (neg_ℤ (pos 1))
+constrained-below n m x LessEqual y = lowered-below n m (2 * y) (2 * x) (pos 0)
+constrained-below n m x Greater y = lowered-below n m (2 * x) (2 * y) (neg_ℤ (pos 1))
+constrained-below n m x GreaterEqual y = lowered-below n m (2 * x) (2 * y) (pos 0)
+constrained-below n m x Equal y = lowered_below-below n (difference_at_most m x y (pos 0)) m (2 * x) (2 * y) (pos 0) (lowered-below n m (2 * y) (2 * x) (pos 0))
+constrained-below n m x Different y = λ i j hi hj. omega (arith, ints)
+
+pub bounded_by-below : (n : ℕ) (m : Entries) (x : ℕ) (to : Interval) → Below n (bounded_by m x to) m
+bounded_by-below n m x Empty = λ i j hi hj. omega (arith, ints)
+bounded_by-below n m x (Of lo hi) = lowered_below-below n (lowered m (2 * x + 1) (2 * x) (hi +ℤ hi)) m (2 * x) (2 * x + 1) (neg_ℤ (lo +ℤ lo)) (lowered-below n m (2 * x + 1) (2 * x) (hi +ℤ hi))

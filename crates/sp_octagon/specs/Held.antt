@@ -1,5 +1,5 @@
 -- Octagons whose bounds are on the ladder, and their rank.
-use Rattle.std.specs.Prelude.{◌≡◌, ◌≢◌, ◌⊎◌, ℕ, ◌+◌, ◌<◌, ◌==◌, if◌then◌else◌, List, length, Contains, ℤ, ◌+ℤ◌, int_lt}
+use Rattle.std.specs.Prelude.{◌≡◌, ◌≢◌, ◌⊎◌, ℕ, ◌+◌, ◌<◌, ◌==◌, if◌then◌else◌, List, length, Contains, ℤ, pos, ◌+ℤ◌, int_lt}
 use Rattle.sp_lattice.specs.Ladder.{points_below}
 use Rattle.sp_lattice.specs.Bound.{sum_below}
 use Rattle.sp_octagon.specs.Entries.{Entries, unbounded, half, negative}
@@ -21,9 +21,9 @@ pub record IsHeld (points : List ℤ) (count : ℕ) (m : Entries) : Type 0 where
 abbrev pub bound_rank : List ℤ → ℤ → ℕ
 bound_rank points z = if int_lt z unbounded then points_below points z else length points
 
--- the same of the half of a unary bound
+-- how many points lie below the half of a unary bound: their doubles lie below it
 abbrev pub double_rank : List ℤ → ℤ → ℕ
-double_rank points z = if int_lt z unbounded then points_below points (half z) else length points
+double_rank points z = if int_lt z unbounded then points_below points (half (z +ℤ pos 1)) else length points
 
 abbrev pub entry_rank : List ℤ → Entries → ℕ → ℕ → ℕ
 entry_rank points m r c =

@@ -132,7 +132,7 @@ impl Change for Snapping<'_> {
 }
 
 impl Octagon {
-    ghost use Rattle.std.specs.Prelude.{◌≡◌, ◌<◌, ◌^◌, ◌≤ℤ◌, ◌+ℤ◌, ℕ, ℤ, pos, neg_ℤ};
+    ghost use Rattle.std.specs.Prelude.{◌≡◌, ◌≢◌, ◌<◌, ◌^◌, ◌≤ℤ◌, ◌+ℤ◌, ℕ, ℤ, pos, neg_ℤ};
     ghost use Rattle.sp_octagon.specs.Entries.{Entries};
     ghost use Rattle.sp_octagon.specs.Order.{Below};
     ghost use Rattle.sp_octagon.specs.Changes.{forgotten, moved, assigned, snapped_entries};
@@ -163,6 +163,7 @@ impl Octagon {
         ensures becomes { Becomes self.old self.new (assigned (entries self.old) x y k) }
         ensures monotone { (lesser : Entries) → Below (rows self.old) lesser (entries self.old) → Below (rows self.old) (assigned lesser x y k) (entries self.new) }
         ensures holds { (v : ℕ → ℤ) → OctagonHolds self.old (whole_point v) → OctagonHolds self.new (whole_point (replaced v x (v y +ℤ k))) }
+        ensures only { (v : ℕ → ℤ) → x ≢ y → OctagonHolds self.new (whole_point v) → v x ≡ (v y +ℤ k) }
         ensures within { Below (rows self.old) (entries self.new) (forgotten (entries self.old) x) }
     {
         self.assign(x, y, k);

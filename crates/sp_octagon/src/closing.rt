@@ -201,8 +201,8 @@ impl Octagon {
     ghost use Rattle.sp_octagon.specs.Order.{Below};
     ghost use Rattle.sp_octagon.specs.Octagons.{rows, entries, OctagonHolds};
 
-    /// Makes each entry as small as the others and whole numbers allow, or answers false exactly where the octagon
-    /// holds no point: then it is left as it was.
+    /// Puts the closure in place of the entries (`IsClosure`), or answers false exactly where the octagon holds no
+    /// point: then it is left as it was.
     pub fn close(&mut self) -> bool
         ensures size { self.new.size ≡ self.old.size }
         ensures negative { MatchBool result (HasNegativeWalk (rows self.old) (entries self.old) → ⊥) (HasNegativeWalk (rows self.old) (entries self.old)) }

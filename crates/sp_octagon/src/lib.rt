@@ -8,7 +8,7 @@
 //! A *point* gives each member a whole number of halves, and is *held* when each bound is met. Octagons of one
 //! size are ordered entry by entry. `close` gives the *closure*, defined by least walks of entries, or tells that no
 //! point is held. The layers above use that each call makes the entries that a word of `specs.Changes` tells
-//! (`Becomes`), that `close` gives `IsClosure`, and that each call is monotone, as its contract says.
+//! (`Becomes`), that `close` gives `IsClosure`, and that each change but `set_entry` is monotone, and `project` too.
 //!
 //! # Notation
 //!

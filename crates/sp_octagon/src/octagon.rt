@@ -42,11 +42,12 @@ impl Change for Clearing {
 }
 
 impl Octagon {
-    ghost use Rattle.std.specs.Prelude.{◌≡◌, ◌≢◌, ◌+◌, ◌*◌, ◌<◌, ◌≤◌, ◌≤ℤ◌, ℕ, ℤ};
+    ghost use Rattle.std.specs.Prelude.{◌≡◌, ◌≢◌, ◌+◌, ◌*◌, ◌<◌, ◌≤◌, ◌≤ℤ◌, ℕ, ℤ, true};
     ghost use Rattle.sp_octagon.specs.Entries.{Entries, least_bound, greatest_bound};
     ghost use Rattle.sp_octagon.specs.Facts.{IsInRange};
     ghost use Rattle.sp_octagon.specs.Changes.{no_bounds, with_pair};
-    ghost use Rattle.sp_octagon.specs.Octagons.{rows, entries, bound_of, Becomes};
+    ghost use Rattle.sp_octagon.specs.Points.{Point};
+    ghost use Rattle.sp_octagon.specs.Octagons.{rows, entries, bound_of, Becomes, octagon_le, OctagonHolds};
 
     /// The octagon of `n` members without a bound off the diagonal.
     pub fn top(n: u32) -> Octagon
@@ -54,6 +55,8 @@ impl Octagon {
         requires few { n ≤ 8 }
         ensures size { result.size ≡ n }
         ensures entries { (r c : ℕ) → r < 2 * n → c < 2 * n → entries result r c ≡ no_bounds r c }
+        ensures greatest { (other : Octagon) → other.size ≡ n → octagon_le other result ≡ true }
+        ensures holds { (p : Point) → OctagonHolds result p }
     {
         let mut bounds = [0; ROOM];
         change_entries(&mut bounds, 16, &Clearing);

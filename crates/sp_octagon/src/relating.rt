@@ -50,6 +50,8 @@ impl Octagon {
         ensures becomes { Becomes self.old self.new (bounded_by (entries self.old) x to) }
         ensures monotone { (lesser : Entries) (within : Interval) → Below (rows self.old) lesser (entries self.old) → within ≢ Interval.Empty → interval_le within to ≡ true → Below (rows self.old) (bounded_by lesser x within) (entries self.new) }
         ensures holds { (v : ℕ → ℤ) → OctagonHolds self.old (whole_point v) → Holds to (v x) → OctagonHolds self.new (whole_point v) }
+        ensures below { Below (rows self.old) (entries self.new) (entries self.old) }
+        ensures only { (v : ℕ → ℤ) → OctagonHolds self.new (whole_point v) → OctagonHolds self.old (whole_point v) × Holds to (v x) }
     {
         if let Interval::Of { lo, hi } = to {
             self.lower_to(x, lo, hi);
@@ -64,6 +66,8 @@ impl Octagon {
         ensures becomes { Becomes self.old self.new (constrained (entries self.old) x op y) }
         ensures monotone { (lesser : Entries) → Below (rows self.old) lesser (entries self.old) → Below (rows self.old) (constrained lesser x op y) (entries self.new) }
         ensures holds { (v : ℕ → ℤ) → OctagonHolds self.old (whole_point v) → holds op (v x) (v y) ≡ true → OctagonHolds self.new (whole_point v) }
+        ensures below { Below (rows self.old) (entries self.new) (entries self.old) }
+        ensures only { (v : ℕ → ℤ) → op ≢ Relation.Different → OctagonHolds self.new (whole_point v) → OctagonHolds self.old (whole_point v) × (holds op (v x) (v y) ≡ true) }
     {
         self.relate(x, op, y);
     }
