@@ -1,4 +1,4 @@
--- What the parser of the small language answers, said by levelled expressions alone.
+-- What the parser of the small language answers, said by levelled expressions; the kind of a fault by what the table wanted there.
 use Rattle.std.specs.Prelude.{◌≡◌, ℕ, ◌<◌, ◌≤◌, List, [], ◌∷◌, ◌++◌, length, Result, Ok, Err, ⊤}
 use Rattle.sp_grammar.specs.declared.token.Kind.{Kind}
 use Rattle.sp_grammar.specs.declared.token.Level.TheVariants.{Sum}

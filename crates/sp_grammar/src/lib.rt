@@ -17,7 +17,8 @@
 //! some names are type names. For example, from `a - b - c;` its parser reads the first five tokens as `(a - b) - c`; in `a + * b`
 //! the failing token is `*`, since an expression must begin there; and with depth 2 `a + b + c` is too deep at the second `+`.
 //! The grammar of C90 is the table `c90` (specs/CTable.antt) over any trees and tokens (specs/CTrees.antt, specs/CTokens.antt); it is
-//! checked (`c90_checked`, proofs/CEndings.antt), so that its parsers add only their trees, their spelling and their code.
+//! checked (`c90_checked`, proofs/CEndings.antt). Its trees, its depths and the kinds of its faults stand in `sp_c_grammar`; that any
+//! tokens are read or fail isn't shown of it.
 //!
 //! The layer above uses the contract of [`parse`]: its answer is the longest levelled expression, or the failing token with the
 //! fault's kind, or the token at which the depth is passed (`Answers`, specs/ExpressionAnswers.antt).

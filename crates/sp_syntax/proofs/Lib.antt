@@ -1,3 +1,4 @@
 mod Examples
+mod UnitExamples
 pub mod TreeLaws
 pub mod TreeViews

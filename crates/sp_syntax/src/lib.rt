@@ -1,8 +1,8 @@
 //! The trees of C90 programs, as the parsers answer them and the checks read them.
 //!
-//! A *tree* is an expression, a specifier, a declarator, a type name, an initialiser, a declaration, a statement or a unit. Each has
-//! the *place* of its first token; an expression also the *mark*, the place of its operator, and a statement its *end*, the place of
-//! its last token. Contracts see a tree without its pointers (`specs/Syntax.antt`, by `tree_of` and its like in `specs/View.antt`).
+//! A *tree* is an expression, a specifier, a declarator, a type name, an initialiser, a declaration, a statement or a unit.
+//! Expressions, declarators, declarations, statements and specifiers of structs and enums have the *place* of their first token; an
+//! expression also the *mark*, the place of its operator, and a statement its *end*, the place of its last token. Contracts see a tree without its pointers (`specs/Syntax.antt`, by `tree_of` and its like in `specs/View.antt`).
 //!
 //! `specs/` says of each tree which kinds of tokens it spells (`tokens_of`), where its places stand (`Placed`), whether the
 //! grammar allows each part where it stands (`IsLevelled`), and how deep it is (`depth`). The layers above use these definitions
