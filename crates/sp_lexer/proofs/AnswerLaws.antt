@@ -13,6 +13,7 @@ use Rattle.sp_lexer.specs.Answers.{IsOnlyAnswer, Answers, error_at}
 use Rattle.sp_lexer.specs.declared.stop.Stop.{Stop}
 use Rattle.sp_lexer.specs.declared.stop.Stop.TheVariants as stops
 use Rattle.sp_lexer.specs.Steps.{Fits, Passed, Grows, IfStands}
+use Rattle.sp_lexer.specs.Named.{Adds, Collects, none_yet, one_more, CollectsAll}
 use Rattle.sp_lexer.proofs.ScanLaws.{one_step, IsStuck, stuck_at_end, stuck_at_fault, token_not_passed, one_fault, token_and_fault, no_token_at_end, no_fault_at_end}
 
 -- ---- two runs over one text
@@ -193,6 +194,7 @@ pub record Scanning (old names : List (List ℕ)) (text : List ℕ) (from : Spot
   pub fits : Fits spot rest
   pub few : length tokens ≤ room
   pub kept : Extends old names
+  pub named : Collects text from old rest spot names
   pub distinct : AreDistinct names
   pub count : length names + length rest ≤ length old + length text
 
@@ -202,6 +204,7 @@ scanning_from names text name room distinct held = record {
   fits = record { line = omega (arith, held); column = omega (arith, held); bytes = omega (arith, held) };
   few = omega arith;
   kept = λ i bytes h. h;
+  named = none_yet;
   distinct = distinct;
   count = omega arith;
 }
@@ -220,22 +223,24 @@ module _ (old names now : List (List ℕ)) (text : List ℕ) (from : Spot) (room
   pub still_count : 0 < length rest → length now ≤ length old + length text
   still_count some = omega (arith, grown.count, so_far.count, some)
 
-  pub scanning_past : (next : List ℕ) (beyond : Spot) → Step now rest spot None next beyond → Passed rest next beyond → Scanning old now text from room tokens next beyond
-  scanning_past next beyond step passed = record {
+  pub scanning_past : (next : List ℕ) (beyond : Spot) → Step now rest spot None next beyond → Adds names now rest spot next beyond → Passed rest next beyond → Scanning old now text from room tokens next beyond
+  scanning_past next beyond step added passed = record {
     passed = one_past now text rest next from spot beyond tokens run_now step;
     fits = passed.fits;
     few = so_far.few;
     kept = still_kept;
+    named = one_more so_far.named added;
     distinct = still_distinct;
     count = omega (arith, grown.count, so_far.count, passed.shorter);
   }
 
-  pub scanning_onward : (token : Token) (next : List ℕ) (beyond : Spot) → Step now rest spot (Some token) next beyond → Passed rest next beyond → (length tokens ≡ room → ⊥) → Scanning old now text from room (tokens ++ token ∷ []) next beyond
-  scanning_onward token next beyond step passed unlike = record {
+  pub scanning_onward : (token : Token) (next : List ℕ) (beyond : Spot) → Step now rest spot (Some token) next beyond → Adds names now rest spot next beyond → Passed rest next beyond → (length tokens ≡ room → ⊥) → Scanning old now text from room (tokens ++ token ∷ []) next beyond
+  scanning_onward token next beyond step added passed unlike = record {
     passed = one_onward now text rest next from spot beyond tokens token run_now step;
     fits = passed.fits;
     few = omega (arith, length-append tokens (token ∷ []), so_far.few, unlike);
     kept = still_kept;
+    named = one_more so_far.named added;
     distinct = still_distinct;
     count = omega (arith, grown.count, so_far.count, passed.shorter);
   }
@@ -255,3 +260,6 @@ module _ (old names now : List (List ℕ)) (text : List ℕ) (from : Spot) (room
 
 pub grows_none : (names : List (List ℕ)) → Grows names names
 grows_none names = record { kept = λ i bytes h. h; distinct = λ h. h; count = omega arith }
+
+pub named_end : (old names : List (List ℕ)) (text : List ℕ) (from : Spot) (room : ℕ) (tokens : List Token) (rest : List ℕ) (spot : Spot) → Scanning old names text from room tokens rest spot → rest ≡ [] → CollectsAll text from old names
+named_end old names text from room tokens rest spot so_far ended = (spot, subst (λ r. Collects text from old r spot names) ended so_far.named)

@@ -11,5 +11,6 @@ pub mod TokenLaws
 pub mod PieceLaws
 pub mod UniqueLaws
 pub mod ScanLaws
+pub mod NamedLaws
 pub mod AnswerLaws
 pub mod Examples

@@ -8,4 +8,5 @@ pub mod Markers
 pub mod Scan
 pub mod Marks
 pub mod Steps
+pub mod Named
 pub mod Answers

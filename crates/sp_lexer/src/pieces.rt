@@ -1,6 +1,7 @@
 //! Passing one piece of a text.
 ghost use Rattle.std.specs.Prelude.{◌≡◌, ℕ, ◌-◌, ◌^◌, ◌<◌, List, length, Some, None, IfOk, IfErr};
 ghost use Rattle.sp_lexer.specs.Scan.{piece_at, Step};
+ghost use Rattle.sp_lexer.specs.Named.{Adds};
 ghost use Rattle.sp_lexer.specs.Steps.{Fits, Grows, IfStands, Passed, token_of};
 
 use crate::bytes::split_line;
@@ -67,6 +68,7 @@ fn pass_marker_line<'a>(
     ensures passed { IfOk result (λ r. Passed text.now r.0.now r.1) }
     ensures fault { IfErr result (IfStands text.now spot) }
     ensures names { Grows names.old names.new }
+    ensures named { IfOk result (λ r. Adds names.old names.new text.now spot r.0.now r.1) }
 {
     let (line, rest) = split_line(text);
     let Some(marker) = read_marker(line) else {
@@ -103,6 +105,7 @@ fn pass_spelling<'a>(
     ensures passed { IfOk result (λ r. Passed text.now r.1.now r.2) }
     ensures fault { IfErr result (IfStands text.now spot) }
     ensures names { Grows names.old names.new }
+    ensures named { IfOk result (λ r. Adds names.old names.new text.now spot r.1.now r.2) }
 {
     let (kind, length) = token_at(alloc, text, names)?;
     let (_, next) = text.split_at(length);
@@ -125,6 +128,7 @@ pub(crate) fn pass_piece<'a>(
     ensures passed { IfOk result (λ r. Passed text.now r.1.now r.2) }
     ensures fault { IfErr result (IfStands text.now spot) }
     ensures names { Grows names.old names.new }
+    ensures named { IfOk result (λ r. Adds names.old names.new text.now spot r.1.now r.2) }
 {
     match piece {
         Piece::Blank => {

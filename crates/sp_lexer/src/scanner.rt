@@ -1,7 +1,8 @@
 //! The tokens of a text, piece by piece.
-ghost use Rattle.std.specs.Prelude.{◌≡◌, ◌+◌, ◌-◌, ◌^◌, ◌<◌, ◌≤◌, length};
+ghost use Rattle.std.specs.Prelude.{◌≡◌, ◌+◌, ◌-◌, ◌^◌, ◌<◌, ◌≤◌, length, IfOk};
 ghost use Rattle.sp_tree.specs.Names.{AreDistinct, Extends};
 ghost use Rattle.sp_lexer.specs.Scan.{start};
+ghost use Rattle.sp_lexer.specs.Named.{CollectsAll};
 ghost use Rattle.sp_lexer.specs.Answers.{Answers, error_at};
 
 use crate::pieces::pass_piece;
@@ -32,8 +33,9 @@ fn error_at(stop: Stop, place: Place) -> ScanError
 /// The tokens of a text, with `End` last, where it has at most `room` others.
 ///
 /// A `Fault` is the first fault of the text, or `M1` at the first token past `room` where that stands before it. `name` is the
-/// number of the text's name. Names and the bytes of string literals are added to `names`, also where the text is refused;
-/// the old ones keep their numbers.
+/// number of the text's name. A text that is scanned adds its own names to `names`, each once, in the order in which they
+/// stand in it: its identifiers, the bytes that its string literals stand for, and the names that marker lines give the line
+/// after them. A text that is refused may add names too. The old ones keep their numbers.
 pub fn scan(
     alloc: Global,
     text: &[u8],
@@ -46,6 +48,9 @@ pub fn scan(
 
     // The result is what the text is, and the text is nothing else.
     ensures answer { Answers names.new text.now (start name) room result }
+
+    // A text that is scanned adds its own names, in the order in which they stand in it, and nothing else is added.
+    ensures named { IfOk result (λ tokens. CollectsAll text.now (start name) names.old names.new) }
 
     ensures kept { Extends names.old names.new }
     ensures distinct { AreDistinct names.new }

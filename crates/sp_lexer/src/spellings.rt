@@ -5,6 +5,7 @@ ghost use Rattle.sp_lexer.specs.Extents.{starts_run};
 ghost use Rattle.sp_lexer.specs.Spelling.{is_word};
 ghost use Rattle.sp_lexer.specs.Scan.{is_wide};
 ghost use Rattle.sp_lexer.specs.Steps.{Grows, KindOf, TokenAt, IfFaulty};
+ghost use Rattle.sp_lexer.specs.Named.{AddsKind};
 
 use crate::bytes::{
     begins_with_digit, begins_with_letter, begins_with_quote, is_digit, is_quote, split_word,
@@ -34,6 +35,7 @@ fn word_kind(word: &[u8], next: &[u8], names: &mut Names) -> Result<Kind, Stop>
     requires room { length names.old < 2 ^ 32 - 1 }
     ensures kind { KindOf names.new word.now next.now result }
     ensures names { Grows names.old names.new }
+    ensures named { IfOk result (AddsKind names.old names.new) }
 {
     if let Some(keyword) = keyword(word) {
         return Ok(Kind::Word(keyword));
@@ -55,6 +57,7 @@ fn string_kind(alloc: Global, body: &[u8], names: &mut Names) -> Result<Kind, St
     requires { length names.old < 2 ^ 32 - 1 }
     ensures kind { (next : List ℕ) → KindOf names.new (34 ∷ body.now ++ 34 ∷ []) next result }
     ensures names { Grows names.old names.new }
+    ensures named { IfOk result (AddsKind names.old names.new) }
 {
     match read_string(alloc, body) {
         Ok(Some(values)) => match names.add(&values) {
@@ -68,7 +71,8 @@ fn string_kind(alloc: Global, body: &[u8], names: &mut Names) -> Result<Kind, St
 
 /// The kind of a character constant's token, by its body.
 fn character_kind(body: &[u8]) -> Result<Kind, Stop>
-    ensures { (names : List (List ℕ)) (next : List ℕ) → KindOf names (39 ∷ body.now ++ 39 ∷ []) next result }
+    ensures kind { (names : List (List ℕ)) (next : List ℕ) → KindOf names (39 ∷ body.now ++ 39 ∷ []) next result }
+    ensures named { IfOk result (λ kind. (names : List (List ℕ)) → AddsKind names names kind) }
 {
     match read_character(body) {
         Some(value) => Ok(Kind::Char(value)),
@@ -83,6 +87,7 @@ fn literal_kind(alloc: Global, quote: u8, body: &[u8], names: &mut Names) -> Res
     requires room { length names.old < 2 ^ 32 - 1 }
     ensures kind { (next : List ℕ) → KindOf names.new (quote ∷ body.now ++ quote ∷ []) next result }
     ensures names { Grows names.old names.new }
+    ensures named { IfOk result (AddsKind names.old names.new) }
 {
     if quote == b'"' {
         string_kind(alloc, body, names)
@@ -98,6 +103,7 @@ fn word_token(text: &[u8], names: &mut Names) -> Result<(Kind, usize), Stop>
     ensures token { IfOk result (λ r. TokenAt names.new text.now r.0 r.1) }
     ensures fault { IfErr result (IfFaulty text.now) }
     ensures names { Grows names.old names.new }
+    ensures named { IfOk result (λ r. AddsKind names.old names.new r.0) }
 {
     let (word, next) = split_word(text);
     let kind = word_kind(word, next, names)?;
@@ -109,6 +115,7 @@ fn number_token(text: &[u8]) -> Result<(Kind, usize), Stop>
     requires { starts_run text.now ≡ true }
     ensures token { IfOk result (λ r. (names : List (List ℕ)) → TokenAt names text.now r.0 r.1) }
     ensures fault { IfErr result (IfFaulty text.now) }
+    ensures named { IfOk result (λ r. (names : List (List ℕ)) → AddsKind names names r.0) }
 {
     let run = &text[..run_length(text)];
     match read_number(run) {
@@ -129,6 +136,7 @@ fn literal_token(
     ensures token { IfOk result (λ r. TokenAt names.new (quote ∷ rest.now) r.0 r.1) }
     ensures fault { IfErr result (IfFaulty (quote ∷ rest.now)) }
     ensures names { Grows names.old names.new }
+    ensures named { IfOk result (λ r. AddsKind names.old names.new r.0) }
 {
     let Some(length) = before_quote(quote, rest) else {
         return Err(Stop::Fault(FaultKind::F3));
@@ -145,6 +153,7 @@ fn mark_token(text: &[u8]) -> Result<(Kind, usize), Stop>
     requires quote { begins is_quote text.now ≡ false }
     ensures token { IfOk result (λ r. (names : List (List ℕ)) → TokenAt names text.now r.0 r.1) }
     ensures fault { IfErr result (IfFaulty text.now) }
+    ensures named { IfOk result (λ r. (names : List (List ℕ)) → AddsKind names names r.0) }
 {
     match mark_at(text) {
         Some(mark) => Ok((Kind::Mark(mark), mark.spelling().len())),
@@ -168,6 +177,7 @@ pub(crate) fn token_at(alloc: Global, text: &[u8], names: &mut Names) -> Result<
     ensures token { IfOk result (λ r. TokenAt names.new text.now r.0 r.1) }
     ensures fault { IfErr result (IfFaulty text.now) }
     ensures names { Grows names.old names.new }
+    ensures named { IfOk result (λ r. AddsKind names.old names.new r.0) }
 {
     if begins_with_letter(text) {
         return word_token(text, names);

@@ -108,8 +108,49 @@ fn answer_to(alloc: Global, row: &str, room: u64) -> Result<String, Fail> {
     Ok(answer_shown(alloc, &names, answer)?)
 }
 
+/// The names that are held after a row's text is scanned under the name `a.c`, by their numbers.
+fn names_after(alloc: Global, row: &str) -> Result<String, Fail> {
+    let text = unescaped(alloc, row)?;
+    if text.len() > 4096 {
+        return Err("too long a row")?;
+    }
+    let mut names = Names::new(alloc);
+    let name = names.add(b"a.c".as_slice())?;
+    let mut shown = String::new(alloc);
+    if scan(alloc, &text, name, 1000, &mut names).is_err() {
+        shown.push_str("refused: ")?;
+    }
+    for number in 0..names.len() {
+        if number > 0 {
+            shown.push_str(" ")?;
+        }
+        let bytes = names.get(number as u32).unwrap_or(b"?".as_slice());
+        shown.push_str(str::from_utf8(bytes).unwrap_or("?"))?;
+    }
+    Ok(shown)
+}
+
 #[test]
-fn comments_and_the_rows_of_the_request(rt: HostRuntime) -> Result<(), Fail> {
+fn names_are_held_in_the_order_of_the_text(rt: HostRuntime) -> Result<(), Fail> {
+    let rows = [
+        ("", "a.c"),
+        ("int main(void) { return x + 'q'; }", "a.c main x"),
+        ("b a b; a \"b\" \"s\\\\x41\"", "a.c b a sA"),
+        (
+            "/* z */ x // w\\n# 7 \"m.h\"\\n#pragma v\\ny\\n# 9 \"a.c\"\\nx",
+            "a.c x m.h y",
+        ),
+        ("x\\n# 3 \"m.h\"", "a.c x"),
+        ("x\\n# 3 \"m.h\"\\n", "a.c x m.h"),
+    ];
+    for (row, want) in rows {
+        assert_eq!(rt; names_after(rt.alloc(), row)?.as_str(), want, "at {row}");
+    }
+    Ok(())
+}
+
+#[test]
+fn comments_and_refused_texts(rt: HostRuntime) -> Result<(), Fail> {
     let rows = [
         ("", "end @1:1"),
         ("int main(void){return 'ab';}", "F4 1:23"),

@@ -1,4 +1,4 @@
-use Rattle.std.proofs.Common.{◌≡◌, [], Some, refl, sym, ap, ◌∙◌, subst, length}
+use Rattle.std.proofs.Common.{◌≡◌, [], Some, None, refl, sym, ap, ◌∙◌, subst, length}
 use Rattle.std.proofs.lemmas.List.{nil_from_length}
 use Rattle.sp_lexer.specs.declared.spot.Piece.TheVariants.{MarkerLine}
 use Rattle.sp_lexer.specs.Markers.{marker_of, seen, IsSmall}
@@ -26,3 +26,15 @@ returns-clause-step c =
 pub returns-clause-passed : goal.returns-clause-passed
 returns-clause-passed c =
     marker-passed c.args.spot _ c.args.text.now _ (newline-after c.args.text.now _ _ (sym c.split_line.ensures.rest ∙ c.in-Some-split_first.ensures.cases.0)) (subst IsSmall c.in-Named.is c.in-Some.ensures.small) refl c.requires.fits
+
+-- nothing stands after the line, so its name isn't added
+pub returns-in_default-split_first-clause-named : goal.returns-in_default-split_first-clause-named
+returns-in_default-split_first-clause-named c =
+    let m = sym (ap marker_of c.split_line.ensures.line) ∙ sym c.in-Some.ensures.marker ∙ ap (λ m. Some (seen m)) c.in-Named.is in
+    let none : c.split_line.result.1.now ≡ [] = nil_from_length _ c.in_default-split_first.ensures.cases in
+    record { token = None; step = over_last_line c.in-Named.line c.in-Named.name.now c.requires.piece m refl (sym c.split_line.ensures.rest ∙ none) none (c.along-beyond.ensures ∙ ap (λ l. along c.args.spot (length l)) c.split_line.ensures.line); names_are = refl }
+
+pub returns-clause-named : goal.returns-clause-named
+returns-clause-named c =
+    let m = sym (ap marker_of c.split_line.ensures.line) ∙ sym c.in-Some.ensures.marker ∙ ap (λ m. Some (seen m)) c.in-Named.is in
+    record { token = None; step = over_marker_line c.in-Named.line c.in-Named.name.now c.in_ok-name.name c.requires.piece m c.in_ok-name.ensures.stored refl (newline-after c.args.text.now _ _ (sym c.split_line.ensures.rest ∙ c.in-Some-split_first.ensures.cases.0)) refl; names_are = c.in_ok-name.ensures.ok }

@@ -8,4 +8,4 @@ returns-then-quote-eq34-clause-kind c = rw c.if-quote-eq34.true c.string_kind.en
 pub returns-else-quote-eq34-clause-kind : goal.returns-else-quote-eq34-clause-kind
 returns-else-quote-eq34-clause-kind c =
     elim (quote_cases c.args.quote c.requires.quote)
-    [ inl e ↦ absurd (c.if-quote-eq34.false e) | inr e ↦ rw e (c.character_kind.ensures c.args.names.now) ]
+    [ inl e ↦ absurd (c.if-quote-eq34.false e) | inr e ↦ rw e (c.character_kind.ensures.kind c.args.names.now) ]
