@@ -19,3 +19,15 @@ make_room() {
     cp "$top/bench/$bench/main.rt.in" "$room/crates/${bench}_bench/src/main.rt"
     [ -d "$room/.git" ] || git init -q "$room"
 }
+
+# beside_c: runs the program in the room and bench/NAME/loop.c, each of which prints a call, its picoseconds and what came of it on a line, and prints both
+# side by side. It stops where they differ.
+beside_c() {
+    cc -O2 -o "$room/loop" "$top/bench/$bench/loop.c"
+    (cd "$room/crates/${bench}_bench" && rt run) > "$room/proved.txt"
+    "$room/loop" > "$room/c.txt"
+    printf '%-9s %10s %10s %8s\n' call proved C ratio
+    paste -d ' ' "$room/proved.txt" "$room/c.txt" |
+        awk '$1 != $4 || $3 != $6 { print "the two differ at " $1; exit 1 }
+             { printf "%-9s %7.1f ns %7.1f ns %8.2f\n", $1, $2 / 1000, $5 / 1000, $2 / $5 }'
+}
