@@ -1,7 +1,7 @@
 //! The type, the range rule, and the lattice of intervals under inclusion.
-ghost use Rattle.std.specs.Prelude.{◌≡◌};
+ghost use Rattle.std.specs.Prelude.{◌≡◌, ℤ};
 ghost use Rattle.sp_lattice.specs.Range.{IsIntegerRange};
-ghost use Rattle.sp_interval.specs.Interval.{IsFormed, between, hull, ranged};
+ghost use Rattle.sp_interval.specs.Interval.{Holds, IsFormed, InRange, between, hull, ranged};
 
 use sp_lattice::{Lattice, Range};
 use std::alloc::{AllocError, Global};
@@ -22,13 +22,14 @@ impl Interval {
         requires range { IsIntegerRange kind }
         requires formed { IsFormed self }
         ensures value { result ≡ ranged kind self }
+        ensures holds { (v : ℤ) → Holds self v → InRange kind v → Holds result v }
         ensures formed { IsFormed result }
     {
         self.ranged(kind)
     }
 
-    // The numbers from `lo` to `hi`.
-    pub(crate) fn between(lo: i128, hi: i128) -> Interval
+    /// The numbers from `lo` to `hi`: none where they cross.
+    pub fn between(lo: i128, hi: i128) -> Interval
         ensures { result ≡ between lo hi }
     {
         if lo <= hi {

@@ -2,7 +2,6 @@
 ghost use Rattle.std.specs.Prelude.{◌≡◌, ◌+◌, ◌*◌, ◌<◌, ◌≤ℤ◌, ℕ, ℤ, length};
 ghost use Rattle.sp_octagon.specs.Entries.{entries_of, least_bound, greatest_bound, negative};
 ghost use Rattle.sp_octagon.specs.Changes.{lowered};
-ghost use Rattle.sp_interval.specs.Interval.{between};
 
 use crate::octagon::{Octagon, set_pair};
 use sp_interval::Interval;
@@ -18,17 +17,6 @@ fn lower_pair(cells: &mut [i128], row: usize, column: usize, to: i128)
 {
     let lesser = to.min(cells[16 * row + column]);
     set_pair(cells, row, column, lesser);
-}
-
-// The numbers from `lo` to `hi`.
-fn between(lo: i128, hi: i128) -> Interval
-    ensures { result ≡ between lo hi }
-{
-    if lo <= hi {
-        Interval::Of { lo, hi }
-    } else {
-        Interval::Empty
-    }
 }
 
 impl Octagon {
@@ -84,7 +72,7 @@ impl Octagon {
         let row = 2 * x as usize;
         let below = self.bound(row, row + 1);
         let above = self.bound(row + 1, row);
-        between(LOWEST.max(-(below >> 1)), HIGHEST.min(above >> 1))
+        Interval::between(LOWEST.max(-(below >> 1)), HIGHEST.min(above >> 1))
     }
 
     // Lowers the two unary entries of a member to the numbers from `lo` to `hi`.
