@@ -1,7 +1,6 @@
 -- The four calls on expressions, type names, lists of specifiers and declarators: each ask reads exactly the levelled trees, so
 -- what is read is the longest and at a fault stands the failing token (proofs/Lifts.antt).
 use Rattle.std.proofs.Common.{◌≡◌, ℕ, suc, ◌+◌, true, false, ◌⊎◌, inl, inr, List, [], ◌∷◌, ◌++◌, length, refl, sym, ap, ◌∙◌, subst, arith}
-use Rattle.std.specs.Prelude.{max}
 use mathlib.Core.Path.{fun_ext}
 use Rattle.sp_tree.specs.declared.fault.Place.{Place}
 use Rattle.sp_tree.specs.declared.token.Kind.{Kind}
@@ -10,7 +9,7 @@ use Rattle.sp_syntax.specs.Syntax.{Specifiers, no_specifiers, TypeName, type_nam
 use Rattle.sp_syntax.specs.Spelling.{tokens_of, type_name_tokens, specifiers_tokens, declarator_tokens}
 use Rattle.sp_syntax.specs.Places.{place_at, behind, Spells, Placed, PlacedTypeName, PlacedSpecifiers, PlacedDeclarator}
 use Rattle.sp_syntax.specs.Levels.{is_specifier_list, IsLevelledTypeName, AreLevelledSpecifiers}
-use Rattle.sp_syntax.specs.Depth.{specifiers_depth, type_name_depth}
+use Rattle.sp_syntax.specs.Depth.{depth, specifiers_depth, type_name_depth, declarator_depth}
 use Rattle.sp_c_grammar.specs.Depths.{c_depths}
 use Rattle.sp_grammar.specs.CTokens.{nothing_seen}
 use Rattle.sp_grammar.specs.CTable as grammar
@@ -19,8 +18,12 @@ use Rattle.sp_grammar.specs.Table.{ask, Reads, read_done}
 use Rattle.sp_grammar.proofs.Readings.{join, at_tokens}
 use Rattle.sp_c_grammar.specs.Sorts.{Terminal, c_tokens}
 use Rattle.sp_c_grammar.specs.SyntaxTrees.{c_table}
+use Rattle.sp_c_grammar.specs.Bare.{bare, bare_type_name, bare_specifiers, bare_declarator}
 use Rattle.sp_c_grammar.specs.Makers as make
 use Rattle.sp_c_grammar.specs.Answers.{expressions, type_names, specifier_lists, declarators, expression_ask, type_name_ask, specifiers_ask, declarator_ask}
+use Rattle.sp_c_grammar.proofs.BareTrees.{bare_tokens, bare_specifiers_tokens, bare_declarator_tokens, bare_type_name_tokens, bare_depth, bare_specifiers_depth, bare_declarator_depth, bare_type_name_depth}
+use Rattle.sp_c_grammar.proofs.BareAnswers.{settle_type_bare}
+use Rattle.sp_c_grammar.proofs.Placing.{put, put_specifiers, put_declarator, put_type_name, restored, restored_specifiers, restored_declarator, restored_type_name}
 use Rattle.sp_c_grammar.proofs.Spelling.{kinds_at, Agrees}
 use Rattle.sp_c_grammar.proofs.SpellingDeclarators.{settle_type_tokens, settled}
 use Rattle.sp_c_grammar.proofs.SpelledAnswers.{SoFar, none_yet, some_yet}
@@ -66,7 +69,11 @@ expression_reader types = record {
       (spelled_front tokens front next more (tokens_of a.tree) whole s.spells, subst (λ v. Placed (place_at v) a.tree) (sym whole) (s.places (place_at (front ++ next ∷ more)) (agreeing front (next ∷ more))));
   complete = λ t levelled ws zs same.
       let r = (complete (grammar.outside types) t levelled).levels 13 (omega arith) (omega arith) ws the_end zs same (omega arith) in
-      (r.answer, r.read, r.deep);
+      (r.answer, r.read, sym (bare_depth r.answer.tree) ∙ ap depth r.alike ∙ bare_depth t, λ p. r.alike);
+  bare = bare;
+  kept = bare_tokens;
+  spelled = λ tokens rest t h. h.0;
+  one_placed = λ tokens rest more a b same h k. sym (restored (place_at tokens) a h.1) ∙ ap (put (place_at tokens)) same ∙ restored (place_at tokens) b k.1;
   stops = omega arith;
 }
 
@@ -81,13 +88,17 @@ type_name_reader types = record {
       let s = is_spelled (type_name_ask types) (c_tokens front) (c_tokens (next ∷ more)) a r in
       (spelled_front tokens front next more (type_name_tokens (make.settle_type next.place a.tree)) whole (settle_type_tokens next.place a.tree ∙ s.spells), subst (λ v. PlacedTypeName (place_at v) (make.settle_type next.place a.tree)) (sym whole) (s.places (place_at (front ++ next ∷ more)) next.place (agreeing front (next ∷ more)) (place_behind front next more)));
   complete = λ t levelled ws zs same. type_complete t levelled ws zs same;
+  bare = bare_type_name;
+  kept = bare_type_name_tokens;
+  spelled = λ tokens rest t h. h.0;
+  one_placed = λ tokens rest more a b same h k. sym (restored_type_name (place_at tokens) a h.1) ∙ ap (put_type_name (place_at tokens)) same ∙ restored_type_name (place_at tokens) b k.1;
   stops = ((refl, refl), refl);
 }
   where
-    type_complete : (t : TypeName) → IsLevelledTypeName (scope_of (grammar.outside types)) t → (ws zs : List Terminal) → kinds_at ws ≡ type_name_tokens t → (a : Answer (type_name_ask types)) × Reads c_table (type_name_ask types) (ask (type_name_ask types)) (ws ++ the_end ∷ zs) a (the_end ∷ zs) × (c_depths.depth (type_name_ask types) a ≡ type_name_depth t)
+    type_complete : (t : TypeName) → IsLevelledTypeName (scope_of (grammar.outside types)) t → (ws zs : List Terminal) → kinds_at ws ≡ type_name_tokens t → (a : Answer (type_name_ask types)) × Reads c_table (type_name_ask types) (ask (type_name_ask types)) (ws ++ the_end ∷ zs) a (the_end ∷ zs) × (c_depths.depth (type_name_ask types) a ≡ type_name_depth t) × ((p : Place) → bare_type_name (make.settle_type p a.tree) ≡ bare_type_name t)
     type_complete (type_name ss d) h ws zs same =
         let r = type_read (grammar.outside types) ss d (specifiers_of (grammar.outside types) ss h.2 0 [] (of_list ss h.1)) (from_nothing (grammar.outside types) false ss h.1 (λ e. h.0) (none_declared (grammar.outside types) ss h.0)) (declarator_of (grammar.outside types) d h.4) h.3 ws the_end zs same ((refl, refl), refl) in
-        (r.answer, r.read, r.deep)
+        (r.answer, r.read, sym (bare_type_name_depth r.answer.tree) ∙ ap type_name_depth r.alike ∙ bare_type_name_depth (type_name ss d), λ p. settle_type_bare p r.answer.tree ∙ r.alike)
 
 -- ---- declarators
 
@@ -101,7 +112,11 @@ declarator_reader types = record {
       (spelled_front tokens front next more (declarator_tokens a.tree) whole s.0.spells, subst (λ v. PlacedDeclarator (place_at v) a.tree) (sym whole) (subst (λ d. PlacedDeclarator (place_at (front ++ next ∷ more)) d) (settled next.place a.tree s.1) (s.0.places (place_at (front ++ next ∷ more)) next.place (agreeing front (next ∷ more)) (place_behind front next more))));
   complete = λ t levelled ws zs same.
       let r = (declarator_of (grammar.outside types) t levelled.1).whole grammar.concrete levelled.0 ws the_end zs same refl in
-      (r.answer, r.read, r.deep);
+      (r.answer, r.read, sym (bare_declarator_depth r.answer.tree) ∙ ap declarator_depth r.alike ∙ bare_declarator_depth t, λ p. r.alike);
+  bare = bare_declarator;
+  kept = bare_declarator_tokens;
+  spelled = λ tokens rest t h. h.0;
+  one_placed = λ tokens rest more a b same h k. sym (restored_declarator (place_at tokens) a h.1) ∙ ap (put_declarator (place_at tokens)) same ∙ restored_declarator (place_at tokens) b k.1;
   stops = refl;
 }
 
@@ -115,20 +130,17 @@ pub so_placed : (spots : ℕ → Place) (ws : List Terminal) (ss : List make.Spe
 so_placed spots ws ss none_yet h = tt
 so_placed spots ws ss (some_yet s) h = s.all.places spots h
 
-pub above_none : (n : ℕ) → max 0 n ≡ n
-above_none n = omega arith
-
-pub list_complete : (types : List ℕ) (t : Specifiers) → (t ≡ no_specifiers) ⊎ ((is_specifier_list t ≡ true) × AreLevelledSpecifiers (scope_of (grammar.outside types)) t) → (ws zs : List Terminal) → kinds_at ws ≡ specifiers_tokens t → (a : Answer (specifiers_ask types)) × Reads c_table (specifiers_ask types) (ask (specifiers_ask types)) (ws ++ the_end ∷ zs) a (the_end ∷ zs) × (c_depths.depth (specifiers_ask types) a ≡ specifiers_depth t)
+pub list_complete : (types : List ℕ) (t : Specifiers) → (t ≡ no_specifiers) ⊎ ((is_specifier_list t ≡ true) × AreLevelledSpecifiers (scope_of (grammar.outside types)) t) → (ws zs : List Terminal) → kinds_at ws ≡ specifiers_tokens t → (a : Answer (specifiers_ask types)) × Reads c_table (specifiers_ask types) (ask (specifiers_ask types)) (ws ++ the_end ∷ zs) a (the_end ∷ zs) × (c_depths.depth (specifiers_ask types) a ≡ specifiers_depth t) × (bare_specifiers (make.all_specifiers a.all) ≡ bare_specifiers t)
 list_complete types t (inl e) ws zs same =
     let empty : ws ≡ [] = none_left ws (same ∙ ap specifiers_tokens e) in
-    (grammar.no_specifiers, at_tokens (ap (λ v. v ++ the_end ∷ zs) (sym empty)) (nothing (grammar.outside types) grammar.optional_specifiers the_end zs (refl, refl)), ap specifiers_depth (sym e))
+    (grammar.no_specifiers, at_tokens (ap (λ v. v ++ the_end ∷ zs) (sym empty)) (nothing (grammar.outside types) grammar.optional_specifiers the_end zs (refl, refl)), ap specifiers_depth (sym e), ap bare_specifiers (sym e))
 list_complete types t (inr h) ws zs same =
     let g = grammar.outside types in
     let specs = specifiers_of g t h.1 0 [] (of_list t h.0) in
     let rest = from_nothing g true t h.0 (λ e. absurd cc) refl in
     let r = specs.read true nothing_seen 0 [] grammar.no_specifiers rest ws the_end zs same (refl, refl) in
     let f = specs.begins true nothing_seen 0 [] rest refl ws (the_end ∷ zs) same in
-    (r.answer, at_tokens (sym f.whole) (chosen g grammar.optional_specifiers f.first (view types f.first.sort) _ f.rest (the_end ∷ zs) r.answer refl (if_true (grammar.begins_specifiers true false (view types f.first.sort)) _ _ f.holds) (join (at_tokens f.whole r.read) read_done)), r.deep ∙ above_none (specifiers_depth t))
+    (r.answer, at_tokens (sym f.whole) (chosen g grammar.optional_specifiers f.first (view types f.first.sort) _ f.rest (the_end ∷ zs) r.answer refl (if_true (grammar.begins_specifiers true false (view types f.first.sort)) _ _ f.holds) (join (at_tokens f.whole r.read) read_done)), sym (bare_specifiers_depth (make.all_specifiers r.answer.all)) ∙ ap specifiers_depth r.alike ∙ bare_specifiers_depth t, r.alike)
 
 abbrev pub specifiers_reader : (types : List ℕ) → Reader specifier_lists types (specifiers_ask types)
 specifiers_reader types = record {
@@ -141,6 +153,10 @@ specifiers_reader types = record {
   placed = λ tokens front next more a whole r.
       let s = is_spelled (specifiers_ask types) (c_tokens front) (c_tokens (next ∷ more)) a r in
       (spelled_front tokens front next more (specifiers_tokens (make.all_specifiers a.all)) whole (so_far (c_tokens front) a.all s), subst (λ v. PlacedSpecifiers (place_at v) (make.all_specifiers a.all)) (sym whole) (so_placed (place_at (front ++ next ∷ more)) (c_tokens front) a.all s (agreeing front (next ∷ more))));
-  complete = λ t levelled ws zs same. list_complete types t levelled ws zs same;
+  complete = λ t levelled ws zs same. let c = list_complete types t levelled ws zs same in (c.0, c.1, c.2, λ p. c.3);
+  bare = bare_specifiers;
+  kept = bare_specifiers_tokens;
+  spelled = λ tokens rest t h. h.0;
+  one_placed = λ tokens rest more a b same h k. sym (restored_specifiers (place_at tokens) a h.1) ∙ ap (put_specifiers (place_at tokens)) same ∙ restored_specifiers (place_at tokens) b k.1;
   stops = (refl, refl);
 }

@@ -1,6 +1,6 @@
 -- Arguments and lists of specifiers are read from their tokens, given that their parts are.
 use Rattle.std.proofs.Common.{◌≡◌, ℕ, zero, suc, ◌<◌, ◌≤◌, Bool, true, false, List, [], ◌∷◌, ◌++◌, Option, Some, None, refl, sym, ap, ◌∙◌, subst, arith, append_assoc}
-use Rattle.std.specs.Prelude.{max, if◌then◌else◌, ◌||◌, ◌==◌, option_map}
+use Rattle.std.specs.Prelude.{if◌then◌else◌, ◌||◌, ◌==◌, option_map}
 use Rattle.std.specs.List.{list_any}
 use Rattle.sp_tree.specs.declared.token.Keyword.{Keyword}
 use Rattle.sp_tree.specs.declared.token.Keyword.TheVariants as words
@@ -8,12 +8,10 @@ use Rattle.sp_tree.specs.declared.token.Kind.{Kind}
 use Rattle.sp_tree.specs.declared.token.Kind.TheVariants as kinds
 use Rattle.sp_tree.specs.declared.token.Punct.TheVariants as puncts
 use Rattle.sp_syntax.specs.Words.{basic_number, without, are_among, whole_types, is_one_type}
-use Rattle.sp_syntax.specs.Syntax.{Expression}
+use Rattle.sp_syntax.specs.Syntax as syntax
+use Rattle.sp_syntax.specs.Syntax.{Expression, Expressions, no_expressions, next_expression}
 use Rattle.sp_syntax.specs.Spelling.{tokens_of}
 use Rattle.sp_syntax.specs.Levels.{level}
-use Rattle.sp_syntax.specs.Depth.{depth, expressions_depth}
-use Rattle.sp_syntax.specs.View.{expressions as view_of}
-use Rattle.sp_c_grammar.proofs.Settled.{args_snoc}
 use Rattle.sp_grammar.specs.CTokens as tokens
 use Rattle.sp_grammar.specs.CTokens.{Sort, Seen, TypeWord, view, is_mark, looseness, is_specifier, is_typed, typed, whole_seen, nothing_seen, add, add_word}
 use Rattle.sp_grammar.specs.CTable as grammar
@@ -23,6 +21,9 @@ use Rattle.sp_grammar.proofs.Readings.{join, at_tokens}
 use Rattle.sp_grammar.proofs.CChecked.{if_true}
 use Rattle.sp_c_grammar.specs.Sorts.{Terminal, word_sort}
 use Rattle.sp_c_grammar.specs.SyntaxTrees.{syntax_trees, c_table}
+use Rattle.sp_c_grammar.specs.Bare.{bare}
+use Rattle.sp_c_grammar.specs.Makers as make
+use Rattle.sp_c_grammar.proofs.BareAnswers.{before_arguments, no_argument_behind, argument_behind}
 use Rattle.sp_c_grammar.proofs.Spelling.{kinds_at}
 use Rattle.sp_c_grammar.proofs.Completing.{cut, head, sort_at, Reading, chosen, nothing, moved}
 use Rattle.sp_c_grammar.proofs.CompleteExpressions.{Complete, Begins, none_left}
@@ -53,27 +54,27 @@ closing_sort g c k = sort_at g.types c (kinds.Mark puncts.RightParenthesis) k
 
 -- ---- arguments
 
-pub record MoreArguments (g : Context) (ks : List Kind) (m : ℕ) : Type 0 where
+pub record MoreArguments (g : Context) (ks : List Kind) (m : Expressions) : Type 0 where
   pub commas : Commas ks
-  pub read : (es : List Expression) (ws : List Terminal) (c : Terminal) (zs : List Terminal) → kinds_at ws ≡ ks → c.what.kind ≡ kinds.Mark puncts.RightParenthesis → Reading g (grammar.more_arguments es) (max (expressions_depth (view_of es)) m) (ws ++ c ∷ zs) (c ∷ zs)
+  pub read : (es : List Expression) (ws : List Terminal) (c : Terminal) (zs : List Terminal) → kinds_at ws ≡ ks → c.what.kind ≡ kinds.Mark puncts.RightParenthesis → Reading g (grammar.more_arguments es) (before_arguments es m) (ws ++ c ∷ zs) (c ∷ zs)
 
-pub no_more_arguments : (g : Context) → MoreArguments g [] 0
+pub no_more_arguments : (g : Context) → MoreArguments g [] no_expressions
 no_more_arguments g = record {
   commas = no_comma;
-  read = λ es ws c zs is k. moved g (grammar.more_arguments es) (c ∷ zs) (ws ++ c ∷ zs) (c ∷ zs) (ap (λ w. w ++ c ∷ zs) (sym (none_left ws is))) (record { answer = es; read = nothing g (grammar.more_arguments es) c zs (subst (λ s. 13 < looseness s) (sym (closing_sort g c k)) (omega arith)); deep = omega arith });
+  read = λ es ws c zs is k. moved g (grammar.more_arguments es) (c ∷ zs) (ws ++ c ∷ zs) (c ∷ zs) (ap (λ w. w ++ c ∷ zs) (sym (none_left ws is))) (record { answer = es; read = nothing g (grammar.more_arguments es) c zs (subst (λ s. 13 < looseness s) (sym (closing_sort g c k)) (omega arith)); alike = no_argument_behind es });
 }
 
 -- an argument, and those behind it
-argument_and : (g : Context) (e : Expression) (ks : List Kind) (m : ℕ) → 1 ≤ level e → Complete g e → MoreArguments g ks m → (ws : List Terminal) (c : Terminal) (zs : List Terminal) → kinds_at ws ≡ tokens_of e ++ ks → c.what.kind ≡ kinds.Mark puncts.RightParenthesis
-    → (o : Operand syntax_trees) × (mid : List Terminal) × Reads c_table (at g (grammar.level 12)) (ask (at g (grammar.level 12))) (ws ++ c ∷ zs) o mid × (depth o.tree ≡ depth e) × ((es : List Expression) → Reading g (grammar.more_arguments es) (max (expressions_depth (view_of es)) m) mid (c ∷ zs))
+argument_and : (g : Context) (e : Expression) (ks : List Kind) (m : Expressions) → 1 ≤ level e → Complete g e → MoreArguments g ks m → (ws : List Terminal) (c : Terminal) (zs : List Terminal) → kinds_at ws ≡ tokens_of e ++ ks → c.what.kind ≡ kinds.Mark puncts.RightParenthesis
+    → (o : Operand syntax_trees) × (mid : List Terminal) × Reads c_table (at g (grammar.level 12)) (ask (at g (grammar.level 12))) (ws ++ c ∷ zs) o mid × (bare o.tree ≡ bare e) × ((es : List Expression) → Reading g (grammar.more_arguments es) (before_arguments es m) mid (c ∷ zs))
 argument_and g e ks m high inner more ws c zs is k =
     let b = cut ws (tokens_of e) ks is in
     let n = next_of g (λ s. 12 < looseness s) ks b.right c zs more.commas (omega arith) (subst (λ s. 12 < looseness s) (sym (closing_sort g c k)) (omega arith)) b.right_is in
     let r = inner.levels 12 (omega arith) (omega (arith, high)) b.left n.first n.rest b.left_is n.holds in
     let whole : ws ++ c ∷ zs ≡ b.left ++ n.first ∷ n.rest = ap (λ w. w ++ c ∷ zs) b.whole ∙ append_assoc b.left b.right (c ∷ zs) ∙ ap (λ w. b.left ++ w) n.whole in
-    (r.answer, n.first ∷ n.rest, at_tokens (sym whole) r.read, r.deep, (λ es. moved g (grammar.more_arguments es) (b.right ++ c ∷ zs) (n.first ∷ n.rest) (c ∷ zs) n.whole (more.read es b.right c zs b.right_is k)))
+    (r.answer, n.first ∷ n.rest, at_tokens (sym whole) r.read, r.alike, (λ es. moved g (grammar.more_arguments es) (b.right ++ c ∷ zs) (n.first ∷ n.rest) (c ∷ zs) n.whole (more.read es b.right c zs b.right_is k)))
 
-pub one_more_argument : (g : Context) (e : Expression) (ks : List Kind) (m : ℕ) → 1 ≤ level e → Complete g e → MoreArguments g ks m → MoreArguments g (kinds.Mark puncts.Comma ∷ (tokens_of e ++ ks)) (max (depth e) m)
+pub one_more_argument : (g : Context) (e : Expression) (ks : List Kind) (m : Expressions) → 1 ≤ level e → Complete g e → MoreArguments g ks m → MoreArguments g (kinds.Mark puncts.Comma ∷ (tokens_of e ++ ks)) (next_expression (bare e) m)
 one_more_argument g e ks m high inner more = record {
   commas = a_comma (tokens_of e ++ ks);
   read = λ es ws c zs is k.
@@ -82,17 +83,17 @@ one_more_argument g e ks m high inner more = record {
       let s = r.4 (es ++ r.0.tree ∷ []) in
       let v = sort_at g.types h.first (kinds.Mark puncts.Comma) h.first_is in
       moved g (grammar.more_arguments es) (h.first ∷ (h.rest ++ c ∷ zs)) (ws ++ c ∷ zs) (c ∷ zs) (ap (λ w. w ++ c ∷ zs) (sym h.whole))
-      (record { answer = s.answer; read = chosen g (grammar.more_arguments es) h.first (tokens.mark tokens.comma) _ (h.rest ++ c ∷ zs) (c ∷ zs) s.answer v refl (read_take refl (join r.2 (join s.read read_done))); deep = s.deep ∙ omega (arith, args_snoc es r.0.tree, r.3) });
+      (record { answer = s.answer; read = chosen g (grammar.more_arguments es) h.first (tokens.mark tokens.comma) _ (h.rest ++ c ∷ zs) (c ∷ zs) s.answer v refl (read_take refl (join r.2 (join s.read read_done))); alike = s.alike ∙ argument_behind es r.0.tree m ∙ ap (λ v. before_arguments es (next_expression v m)) r.3 });
 }
 
-abbrev pub Arguments : (g : Context) → List Kind → ℕ → Type 0
+abbrev pub Arguments : (g : Context) → List Kind → Expressions → Type 0
 Arguments g ks m = (ws : List Terminal) (c : Terminal) (zs : List Terminal) → kinds_at ws ≡ ks → c.what.kind ≡ kinds.Mark puncts.RightParenthesis → Reading g grammar.arguments m (ws ++ c ∷ zs) (c ∷ zs)
 
-pub no_arguments : (g : Context) → Arguments g [] 0
+pub no_arguments : (g : Context) → Arguments g [] no_expressions
 no_arguments g ws c zs is k = moved g grammar.arguments (c ∷ zs) (ws ++ c ∷ zs) (c ∷ zs) (ap (λ w. w ++ c ∷ zs) (sym (none_left ws is)))
-    (record { answer = []; read = nothing g grammar.arguments c zs (subst (λ s. (begins_expression s ≡ false) × (13 < looseness s)) (sym (closing_sort g c k)) (refl, omega arith)); deep = refl })
+    (record { answer = []; read = nothing g grammar.arguments c zs (subst (λ s. (begins_expression s ≡ false) × (13 < looseness s)) (sym (closing_sort g c k)) (refl, omega arith)); alike = refl })
 
-pub some_arguments : (g : Context) (e : Expression) (ks : List Kind) (m : ℕ) → 1 ≤ level e → Complete g e → ((ws : List Terminal) → kinds_at ws ≡ tokens_of e → Begins g ws) → MoreArguments g ks m → Arguments g (tokens_of e ++ ks) (max (depth e) m)
+pub some_arguments : (g : Context) (e : Expression) (ks : List Kind) (m : Expressions) → 1 ≤ level e → Complete g e → ((ws : List Terminal) → kinds_at ws ≡ tokens_of e → Begins g ws) → MoreArguments g ks m → Arguments g (tokens_of e ++ ks) (next_expression (bare e) m)
 some_arguments g e ks m high inner begins more ws c zs is k =
     let r = argument_and g e ks m high inner more ws c zs is k in
     let b = cut ws (tokens_of e) ks is in
@@ -100,7 +101,7 @@ some_arguments g e ks m high inner begins more ws c zs is k =
     let whole : ws ++ c ∷ zs ≡ f.first ∷ (f.rest ++ (b.right ++ c ∷ zs)) = ap (λ w. w ++ c ∷ zs) b.whole ∙ append_assoc b.left b.right (c ∷ zs) ∙ ap (λ w. w ++ (b.right ++ c ∷ zs)) f.whole in
     let s = r.4 (r.0.tree ∷ []) in
     moved g grammar.arguments (f.first ∷ (f.rest ++ (b.right ++ c ∷ zs))) (ws ++ c ∷ zs) (c ∷ zs) (sym whole)
-    (record { answer = s.answer; read = chosen g grammar.arguments f.first (view g.types f.first.sort) _ (f.rest ++ (b.right ++ c ∷ zs)) (c ∷ zs) s.answer refl (if_true (begins_expression (view g.types f.first.sort)) _ _ f.begins) (join (at_tokens whole r.2) (join s.read read_done)); deep = s.deep ∙ omega (arith, r.3) })
+    (record { answer = s.answer; read = chosen g grammar.arguments f.first (view g.types f.first.sort) _ (f.rest ++ (b.right ++ c ∷ zs)) (c ∷ zs) s.answer refl (if_true (begins_expression (view g.types f.first.sort)) _ _ f.begins) (join (at_tokens whole r.2) (join s.read read_done)); alike = s.alike ∙ ap (λ v. next_expression v m) r.3 })
 
 -- ---- words that are of one type are words of types
 
@@ -166,40 +167,40 @@ in_some (suc zero) [] js k e = absurd cc
 in_some (suc zero) (j ∷ ks) js k e = absurd cc
 in_some (suc (suc n)) ks js k e = absurd cc
 
-type_word : (k : Keyword) → list_any (λ t. list_any (λ w. basic_number k == basic_number w) t) whole_types ≡ true → (w : TypeWord) × (word_sort k ≡ tokens.basic w)
+type_word : (k : Keyword) → list_any (λ t. list_any (λ w. basic_number k == basic_number w) t) whole_types ≡ true → (w : TypeWord) × (word_sort k ≡ tokens.basic w) × (make.word_of k ≡ syntax.basic k)
 type_word words.Auto e = absurd cc
 type_word words.Break e = absurd cc
 type_word words.Case e = absurd cc
-type_word words.Char e = (tokens.char, refl)
+type_word words.Char e = (tokens.char, refl, refl)
 type_word words.Const e = absurd cc
 type_word words.Continue e = absurd cc
 type_word words.Default e = absurd cc
 type_word words.Do e = absurd cc
-type_word words.Double e = (tokens.double, refl)
+type_word words.Double e = (tokens.double, refl, refl)
 type_word words.Else e = absurd cc
 type_word words.Enum e = absurd cc
 type_word words.Extern e = absurd cc
-type_word words.Float e = (tokens.float, refl)
+type_word words.Float e = (tokens.float, refl, refl)
 type_word words.For e = absurd cc
 type_word words.Goto e = absurd cc
 type_word words.If e = absurd cc
-type_word words.Int e = (tokens.int, refl)
-type_word words.Long e = (tokens.long, refl)
+type_word words.Int e = (tokens.int, refl, refl)
+type_word words.Long e = (tokens.long, refl, refl)
 type_word words.Register e = absurd cc
 type_word words.Return e = absurd cc
-type_word words.Short e = (tokens.short, refl)
-type_word words.Signed e = (tokens.sign, refl)
+type_word words.Short e = (tokens.short, refl, refl)
+type_word words.Signed e = (tokens.sign, refl, refl)
 type_word words.Sizeof e = absurd cc
 type_word words.Static e = absurd cc
 type_word words.Struct e = absurd cc
 type_word words.Switch e = absurd cc
 type_word words.Typedef e = absurd cc
 type_word words.Union e = absurd cc
-type_word words.Unsigned e = (tokens.sign, refl)
-type_word words.Void e = (tokens.void, refl)
+type_word words.Unsigned e = (tokens.sign, refl, refl)
+type_word words.Void e = (tokens.void, refl, refl)
 type_word words.Volatile e = absurd cc
 type_word words.While e = absurd cc
 
 -- a word of one type is a word of a type
-pub word_of_type : (n : ℕ) (ks js : List Keyword) (k : Keyword) → is_one_type n (ks ++ k ∷ js) ≡ true → (w : TypeWord) × (word_sort k ≡ tokens.basic w)
+pub word_of_type : (n : ℕ) (ks js : List Keyword) (k : Keyword) → is_one_type n (ks ++ k ∷ js) ≡ true → (w : TypeWord) × (word_sort k ≡ tokens.basic w) × (make.word_of k ≡ syntax.basic k)
 word_of_type n ks js k e = type_word k (in_some n ks js k e)

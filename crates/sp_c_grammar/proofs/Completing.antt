@@ -1,9 +1,9 @@
--- What each levelled tree is read by: tokens cut as its kinds are, and the productions that they choose.
+-- What each levelled tree is read by: tokens cut as its kinds are, the productions that they choose, and an answer that is the tree
+-- but for its places.
 use Rattle.std.proofs.Common.{◌≡◌, ℕ, zero, suc, ◌+◌, ◌<◌, ◌≤◌, true, List, [], ◌∷◌, ◌++◌, Some, refl, sym, ap, ap₂, ◌∙◌, subst, arith, eq-eqb}
 use Rattle.sp_tree.specs.declared.token.Kind.{Kind}
 use Rattle.sp_syntax.specs.Syntax.{Expression}
 use Rattle.sp_syntax.specs.Levels.{level}
-use Rattle.sp_syntax.specs.Depth.{depth}
 use Rattle.sp_grammar.specs.CTokens as tokens
 use Rattle.sp_grammar.specs.CTokens.{Sort, view, is_mark, looseness, is_specifier}
 use Rattle.sp_grammar.specs.CTable as grammar
@@ -13,7 +13,9 @@ use Rattle.sp_grammar.proofs.Readings.{join, at_tokens}
 use Rattle.sp_grammar.proofs.CEndings.{c90_checked}
 use Rattle.sp_c_grammar.specs.Sorts.{Terminal, sort_of}
 use Rattle.sp_c_grammar.specs.SyntaxTrees.{syntax_trees, c_table}
-use Rattle.sp_c_grammar.specs.Depths.{Part, item_depth}
+use Rattle.sp_c_grammar.specs.Bare.{bare}
+use Rattle.sp_c_grammar.specs.Depths.{Part}
+use Rattle.sp_c_grammar.proofs.BareAnswers.{Bare, bare_of}
 use Rattle.sp_c_grammar.proofs.Spelling.{kinds_at}
 
 -- ---- tokens cut as their kinds are
@@ -74,10 +76,11 @@ mark_taken m x k e s = ap (is_mark m) (sym x.right ∙ ap sort_of e ∙ s) ∙ e
 abbrev pub Read : (g : Context) (i : Part) → List Terminal → ItemAnswer i → List Terminal → Type 0
 Read g i xs o ys = Reads c_table (at g i) (ask (at g i)) xs o ys
 
-pub record Reading (g : Context) (i : Part) (n : ℕ) (xs ys : List Terminal) : Type 0 where
+-- with an answer of this bare tree
+pub record Reading (g : Context) (i : Part) (n : Bare i) (xs ys : List Terminal) : Type 0 where
   pub answer : ItemAnswer i
   pub read : Read g i xs answer ys
-  pub deep : item_depth i answer ≡ n
+  pub alike : bare_of i answer ≡ n
 
 -- by the production that a token of this sort chooses
 pub chosen : (g : Context) (i : Part) (x : Terminal) (s : Sort) (q : Plan (c_symbols syntax_trees) (at g i)) (xs ys : List Terminal) (o : ItemAnswer i) → view g.types x.sort ≡ s → plan g i x s ≡ Some q → Reads c_table (at g i) q (x ∷ xs) o ys → Read g i (x ∷ xs) o ys
@@ -87,18 +90,18 @@ chosen g i x s q xs ys o v e r = read_call (ap (plan g i x) v ∙ e) r read_done
 pub nothing : (g : Context) (i : Part) (z : Terminal) (zs : List Terminal) → ItemStops g i (view g.types z.sort) → Reads c_table (at g i) (ask (at g i)) (grammar.item_ending g i ++ z ∷ zs) (grammar.item_value g i) (z ∷ zs)
 nothing g i z zs h = (c90_checked syntax_trees).ends (at g i) z zs h
 
-pub moved : {n : ℕ} (g : Context) (i : Part) (xs zs ys : List Terminal) → xs ≡ zs → Reading g i n xs ys → Reading g i n zs ys
-moved g i xs zs ys e r = record { answer = r.answer; read = at_tokens e r.read; deep = r.deep }
+pub moved : (g : Context) (i : Part) {n : Bare i} (xs zs ys : List Terminal) → xs ≡ zs → Reading g i n xs ys → Reading g i n zs ys
+moved g i xs zs ys e r = record { answer = r.answer; read = at_tokens e r.read; alike = r.alike }
 
 -- a level's reading, with whether it may stand left of an assignment
 pub record Leveled (g : Context) (k : ℕ) (e : Expression) (xs ys : List Terminal) : Type 0 where
   pub answer : Operand syntax_trees
   pub read : Read g (grammar.level k) xs answer ys
   pub unary : 14 ≤ level e → answer.unary ≡ true
-  pub deep : depth answer.tree ≡ depth e
+  pub alike : bare answer.tree ≡ bare e
 
 pub moved_level : (g : Context) (k : ℕ) (e : Expression) (xs zs ys : List Terminal) → xs ≡ zs → Leveled g k e xs ys → Leveled g k e zs ys
-moved_level g k e xs zs ys same r = record { answer = r.answer; read = at_tokens same r.read; unary = r.unary; deep = r.deep }
+moved_level g k e xs zs ys same r = record { answer = r.answer; read = at_tokens same r.read; unary = r.unary; alike = r.alike }
 
 -- from no token nothing is read, since a production is chosen by one
 no_reading : (g : Context) (i : Part) (o : ItemAnswer i) (ys : List Terminal) → Read g i [] o ys → ⊥
@@ -111,7 +114,7 @@ level_up g k e (x ∷ xs) z zs h r = record {
   answer = r.answer;
   read = read_call refl (join r.read (join (nothing g (grammar.after (suc k) r.answer) z zs h) read_done)) read_done;
   unary = r.unary;
-  deep = r.deep;
+  alike = r.alike;
 }
 
 -- what a looser level reads of it

@@ -1,6 +1,9 @@
 mod Rows
 pub mod FaultKinds
 pub mod Settled
+pub mod BareTrees
+pub mod Placing
+pub mod BareAnswers
 pub mod DepthsChecked
 pub mod TokenKinds
 pub mod Spelling
@@ -27,3 +30,6 @@ pub mod CompleteMembers
 pub mod CompleteTrees
 pub mod Lifts
 pub mod Calls
+pub mod ReadAgain
+mod ReadAgainRows
+mod DepthRows

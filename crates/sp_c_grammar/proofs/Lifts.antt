@@ -6,6 +6,7 @@ use Rattle.sp_tree.specs.declared.fault.Place.{Place}
 use Rattle.sp_tree.specs.declared.token.Kind.{Kind}
 use Rattle.sp_tree.specs.declared.token.Kind.TheVariants as kinds
 use Rattle.sp_tree.specs.declared.token.Token.{Token}
+use Rattle.sp_syntax.specs.Places.{Spells}
 use Rattle.sp_grammar.specs.Table.{ask, Reads, Fails}
 use Rattle.sp_grammar.specs.Whole.{IsWhole, BeginsWhole}
 use Rattle.sp_grammar.specs.Depth.{Nests}
@@ -32,7 +33,12 @@ pub record Reader (L : Language) (types : List ℕ) (n : Ask syntax_trees) : Typ
   pub spells : (front ys : List Terminal) (a : Answer n) (p : Place) → Reads c_table n (ask n) (front ++ ys) a ys → L.kinds (tree a p) ≡ kinds_at front
   pub levelled : (front ys : List Terminal) (a : Answer n) (p : Place) → Reads c_table n (ask n) (front ++ ys) a ys → L.Levelled types (tree a p)
   pub placed : (tokens front : List Token) (next : Token) (more : List Token) (a : Answer n) → tokens ≡ front ++ next ∷ more → Reads c_table n (ask n) (c_tokens front ++ c_tokens (next ∷ more)) a (c_tokens (next ∷ more)) → L.Spelled tokens (tree a next.place) (next ∷ more)
-  pub complete : (t : L.Tree) → L.Levelled types t → (ws zs : List Terminal) → kinds_at ws ≡ L.kinds t → (a : Answer n) × Reads c_table n (ask n) (ws ++ the_end ∷ zs) a (the_end ∷ zs) × (c_depths.depth n a ≡ L.depth t)
+  -- the tree without its places; a tree is given by it and the places of its tokens
+  pub bare : L.Tree → L.Tree
+  pub kept : (t : L.Tree) → L.kinds (bare t) ≡ L.kinds t
+  pub spelled : (tokens rest : List Token) (t : L.Tree) → L.Spelled tokens t rest → Spells tokens (L.kinds t) rest
+  pub one_placed : (tokens rest more : List Token) (a b : L.Tree) → bare a ≡ bare b → L.Spelled tokens a rest → L.Spelled tokens b more → a ≡ b
+  pub complete : (t : L.Tree) → L.Levelled types t → (ws zs : List Terminal) → kinds_at ws ≡ L.kinds t → (a : Answer n) × Reads c_table n (ask n) (ws ++ the_end ∷ zs) a (the_end ∷ zs) × (c_depths.depth n a ≡ L.depth t) × ((p : Place) → bare (tree a p) ≡ bare t)
   pub stops : c_table.Stops n the_end
 
 pub kinds_of_tokens : (xs : List Token) → kinds_at (c_tokens xs) ≡ kinds_of xs
@@ -40,10 +46,10 @@ kinds_of_tokens [] = refl
 kinds_of_tokens (x ∷ xs) = ap (λ v. x.kind ∷ v) (kinds_of_tokens xs)
 
 -- tokens of these kinds
-abbrev of_kinds : List Kind → List Terminal
+abbrev pub of_kinds : List Kind → List Terminal
 of_kinds ks = map (λ k. terminal (spare k)) ks
 
-kinds_of_kinds : (ks : List Kind) → kinds_at (of_kinds ks) ≡ ks
+pub kinds_of_kinds : (ks : List Kind) → kinds_at (of_kinds ks) ≡ ks
 kinds_of_kinds [] = refl
 kinds_of_kinds (k ∷ ks) = ap (λ v. k ∷ v) (kinds_of_kinds ks)
 
@@ -67,7 +73,7 @@ module _ (L : Language) (types : List ℕ) (n : Ask syntax_trees) (r : Reader L 
       let read = r.complete t levelled (front ++ rest) [] same in
       (read.0, wholes.whole c_table (c90_checked syntax_trees) n (front ++ rest) [] the_end read.0 read.1, read.2)
 
-  tree_begins : (front : List Terminal) → BeginsTree L types (kinds_at front) → BeginsWhole c_table n front the_end
+  pub tree_begins : (front : List Terminal) → BeginsTree L types (kinds_at front) → BeginsWhole c_table n front the_end
   tree_begins front b =
       let same : kinds_at (front ++ of_kinds b.rest) ≡ L.kinds b.tree = map-append (λ x. x.what.kind) front (of_kinds b.rest) ∙ ap (λ v. kinds_at front ++ v) (kinds_of_kinds b.rest) ∙ sym b.spells in
       let w = tree_whole front b.tree (of_kinds b.rest) b.levelled same in

@@ -1,15 +1,19 @@
--- The grammar of C90 tried on small texts: what is read, or where it fails with which kind.
-use Rattle.std.proofs.Common.{◌≡◌, ℕ, zero, suc, List, [], ◌∷◌, Some, None, refl}
+-- The grammar of C90 tried on small texts: how many tokens are read, or where it fails with which kind; and the trees of statements.
+use Rattle.std.proofs.Common.{◌≡◌, ℕ, zero, suc, false, List, [], ◌∷◌, Some, None, refl}
 use Rattle.std.specs.Prelude.{length, map, ◌-◌, take as first_of_list, if◌then◌else◌}
 use Rattle.sp_tree.specs.declared.fault.FaultKind.{FaultKind}
 use Rattle.sp_tree.specs.declared.fault.FaultKind.TheVariants.{F7, U4, U5, U6, U7, U8, U9, U10}
 use Rattle.sp_tree.specs.declared.token.Keyword.TheVariants as words
+use Rattle.sp_tree.specs.declared.fault.Place.{Place}
 use Rattle.sp_tree.specs.declared.token.Kind.{Kind}
 use Rattle.sp_tree.specs.declared.token.Kind.TheVariants.{Name, Word, Number, Text, Mark, End}
 use Rattle.sp_tree.specs.declared.token.Punct.TheVariants as puncts
 use Rattle.sp_tree.specs.declared.token.Token.{Token}
 use Rattle.sp_grammar.specs.Table.{Plan, done, take, call, ask, wanted, asked}
-use Rattle.sp_grammar.specs.CTable.{Ask, Answer, whole, c_symbols, accepts}
+use Rattle.sp_grammar.specs.CTable as grammar
+use Rattle.sp_grammar.specs.CTable.{Ask, Answer, at, outside, whole, c_symbols, accepts}
+use Rattle.sp_syntax.specs.Syntax.{Expression, expression, name, some_expression, basic, no_specifiers, next_specifier, declarator, declared, function, no_params, no_declarations}
+use Rattle.sp_syntax.specs.Syntax.{number as constant, Statement, statement, label, case_label, default_label, block, empty, of, if_else, switch_on, while_loop, do_loop, for_loop, goto_name, continue_loop, break_out, return_value, no_statement, some_statement, Statements, no_statements, next_statement, definition, semicolon}
 use Rattle.sp_c_grammar.specs.Sorts.{Terminal, c_tokens, nowhere, spare_number}
 use Rattle.sp_c_grammar.specs.SyntaxTrees.{syntax_trees, c_table}
 use Rattle.sp_c_grammar.specs.Faults.{Wanted, fault_of}
@@ -552,3 +556,61 @@ row_124 = refl
 -- *const*volatile p
 row_125 : tell (declarator_ask []) (Mark puncts.Star ∷ Word words.Const ∷ Mark puncts.Star ∷ Word words.Volatile ∷ Name 0 ∷ End ∷ []) ≡ reads 5
 row_125 = refl
+
+-- (T
+row_126 : tell (declarator_ask (0 ∷ [])) (Mark puncts.LeftParenthesis ∷ Name 0 ∷ End ∷ []) ≡ fails U9 1
+row_126 = refl
+
+-- typedef int T;int (T);
+row_127 : tell whole (Word words.Typedef ∷ Word words.Int ∷ Name 0 ∷ Mark puncts.Semicolon ∷ Word words.Int ∷ Mark puncts.LeftParenthesis ∷ Name 0 ∷ Mark puncts.RightParenthesis ∷ Mark puncts.Semicolon ∷ End ∷ []) ≡ fails U9 6
+row_127 = refl
+
+-- ---- trees of statements, with their places and ends
+
+-- the tokens of one line, each a column behind the last, from this column on
+abbrev on_line : ℕ → List Kind → List Token
+on_line c [] = []
+on_line c (k ∷ ks) = record { kind = k; place = record { name = 0; line = 1; column = c } } ∷ on_line (suc c) ks
+
+abbrev spot : ℕ → Place
+spot c = record { name = 0; line = 1; column = c }
+
+abbrev leaf : ℕ → ℕ → Expression
+leaf n c = expression (name n) (spot c) (spot c)
+
+-- `;` at a column
+abbrev nothing_at : ℕ → Statement
+nothing_at c = statement empty (spot c) (spot c)
+
+-- if(a);
+row_128 : run 600 (ask (at (outside []) grammar.statement)) (c_tokens (on_line 1 (Word words.If ∷ Mark puncts.LeftParenthesis ∷ Name 2 ∷ Mark puncts.RightParenthesis ∷ Mark puncts.Semicolon ∷ End ∷ []))) ≡ read (statement (if_else (leaf 2 3) (nothing_at 5) no_statement) (spot 1) (spot 5)) (c_tokens (on_line 6 (End ∷ [])))
+row_128 = refl
+
+-- int f(){l:case 1:default:;if(a)b;else c;switch(d);while(e);do;while(g);for(h;i;j);goto k;continue;break;return m;};
+abbrev every_statement : List Kind
+every_statement = Word words.Int ∷ Name 0 ∷ Mark puncts.LeftParenthesis ∷ Mark puncts.RightParenthesis ∷ Mark puncts.LeftBrace ∷ Name 1 ∷ Mark puncts.Colon ∷ Word words.Case ∷ number ∷ Mark puncts.Colon ∷ Word words.Default ∷ Mark puncts.Colon ∷ Mark puncts.Semicolon
+    ∷ Word words.If ∷ Mark puncts.LeftParenthesis ∷ Name 2 ∷ Mark puncts.RightParenthesis ∷ Name 3 ∷ Mark puncts.Semicolon ∷ Word words.Else ∷ Name 4 ∷ Mark puncts.Semicolon ∷ Word words.Switch ∷ Mark puncts.LeftParenthesis ∷ Name 5 ∷ Mark puncts.RightParenthesis ∷ Mark puncts.Semicolon
+    ∷ Word words.While ∷ Mark puncts.LeftParenthesis ∷ Name 6 ∷ Mark puncts.RightParenthesis ∷ Mark puncts.Semicolon ∷ Word words.Do ∷ Mark puncts.Semicolon ∷ Word words.While ∷ Mark puncts.LeftParenthesis ∷ Name 7 ∷ Mark puncts.RightParenthesis ∷ Mark puncts.Semicolon
+    ∷ Word words.For ∷ Mark puncts.LeftParenthesis ∷ Name 8 ∷ Mark puncts.Semicolon ∷ Name 9 ∷ Mark puncts.Semicolon ∷ Name 10 ∷ Mark puncts.RightParenthesis ∷ Mark puncts.Semicolon ∷ Word words.Goto ∷ Name 11 ∷ Mark puncts.Semicolon
+    ∷ Word words.Continue ∷ Mark puncts.Semicolon ∷ Word words.Break ∷ Mark puncts.Semicolon ∷ Word words.Return ∷ Name 12 ∷ Mark puncts.Semicolon ∷ Mark puncts.RightBrace ∷ Mark puncts.Semicolon ∷ End ∷ []
+
+abbrev labelled : Statement
+labelled = statement (label 1 (statement (case_label (expression (constant spare_number) (spot 9) (spot 9)) (statement (default_label (nothing_at 13)) (spot 11) (spot 13))) (spot 8) (spot 13))) (spot 6) (spot 13)
+
+abbrev branches : Statement
+branches = statement (if_else (leaf 2 16) (statement (of (leaf 3 18)) (spot 18) (spot 19)) (some_statement (statement (of (leaf 4 21)) (spot 21) (spot 22)))) (spot 14) (spot 22)
+
+abbrev for_three : Statement
+for_three = statement (for_loop (some_expression (leaf 8 42)) (some_expression (leaf 9 44)) (some_expression (leaf 10 46)) (nothing_at 48)) (spot 40) (spot 48)
+
+abbrev jumps : Statements
+jumps = next_statement (statement (goto_name 11) (spot 49) (spot 51)) (next_statement (statement continue_loop (spot 52) (spot 53)) (next_statement (statement break_out (spot 54) (spot 55)) (next_statement (statement (return_value (some_expression (leaf 12 57))) (spot 56) (spot 58)) no_statements)))
+
+abbrev loops : Statements
+loops = next_statement (statement (while_loop (leaf 6 30) (nothing_at 32)) (spot 28) (spot 32)) (next_statement (statement (do_loop (nothing_at 34) (leaf 7 37)) (spot 33) (spot 39)) (next_statement for_three jumps))
+
+abbrev body : Statement
+body = statement (block no_declarations (next_statement labelled (next_statement branches (next_statement (statement (switch_on (leaf 5 25) (nothing_at 27)) (spot 23) (spot 27)) loops)))) (spot 5) (spot 59)
+
+row_129 : run 600 (ask whole) (c_tokens (on_line 1 every_statement)) ≡ read (definition (next_specifier (basic words.Int) no_specifiers) (declarator (function (declarator (declared 0) (spot 2)) no_params false) (spot 2)) body ∷ semicolon ∷ []) []
+row_129 = refl

@@ -4,14 +4,14 @@ use Rattle.sp_tree.specs.declared.fault.FaultKind.{FaultKind}
 use Rattle.sp_tree.specs.declared.token.Kind.{Kind}
 use Rattle.sp_tree.specs.declared.token.Kind.TheVariants.{End}
 use Rattle.sp_tree.specs.declared.token.Token.{Token}
-use Rattle.sp_syntax.specs.Syntax.{Expression, TypeName, Specifiers, no_specifiers, Declarator, External}
-use Rattle.sp_syntax.specs.Spelling.{tokens_of, type_name_tokens, specifiers_tokens, declarator_tokens, unit_tokens}
-use Rattle.sp_syntax.specs.Places.{SpellsExpression, SpellsTypeName, SpellsSpecifiers, SpellsDeclarator, Spells, PlacedUnit, place_at}
-use Rattle.sp_syntax.specs.Levels.{outside, IsLevelled, IsLevelledTypeName, AreLevelledSpecifiers, is_specifier_list, IsLevelledDeclarator, declared_name, IsLevelledUnit}
+use Rattle.sp_syntax.specs.Syntax.{Expression, TypeName, Specifiers, no_specifiers, Declarator}
+use Rattle.sp_syntax.specs.Spelling.{tokens_of, type_name_tokens, specifiers_tokens, declarator_tokens}
+use Rattle.sp_syntax.specs.Places.{SpellsExpression, SpellsTypeName, SpellsSpecifiers, SpellsDeclarator}
+use Rattle.sp_syntax.specs.Levels.{outside, IsLevelled, IsLevelledTypeName, AreLevelledSpecifiers, is_specifier_list, IsLevelledDeclarator, declared_name}
 use Rattle.sp_syntax.specs.Depth as deep
 use Rattle.sp_grammar.specs.Table.{ask, Fails}
 use Rattle.sp_grammar.specs.CTable as grammar
-use Rattle.sp_grammar.specs.CTable.{Ask, at, whole}
+use Rattle.sp_grammar.specs.CTable.{Ask, at}
 use Rattle.sp_c_grammar.specs.Sorts.{c_tokens}
 use Rattle.sp_c_grammar.specs.SyntaxTrees.{syntax_trees, c_table}
 use Rattle.sp_c_grammar.specs.Faults.{Wanted, fault_of}
@@ -47,10 +47,6 @@ specifier_lists = record { Tree = Specifiers; kinds = specifiers_tokens; Levelle
 -- Declarators of a name.
 abbrev pub declarators : Language
 declarators = record { Tree = Declarator; kinds = declarator_tokens; Levelled = λ types d. (is_some (declared_name d) ≡ true) × IsLevelledDeclarator (outside types) d; depth = deep.declarator_depth; Spelled = SpellsDeclarator }
-
--- Units with the end of the text.
-abbrev pub units : Language
-units = record { Tree = List External; kinds = λ es. unit_tokens es ++ End ∷ []; Levelled = λ types es. IsLevelledUnit es; depth = deep.unit_depth; Spelled = λ tokens es rest. Spells tokens (unit_tokens es ++ End ∷ []) rest × PlacedUnit (place_at tokens) es }
 
 -- ---- what the answers mean
 
@@ -119,6 +115,3 @@ specifiers_ask types = at (grammar.outside types) grammar.optional_specifiers
 
 abbrev pub declarator_ask : List ℕ → Ask syntax_trees
 declarator_ask types = at (grammar.outside types) (grammar.declarator grammar.concrete)
-
-abbrev pub unit_ask : Ask syntax_trees
-unit_ask = whole

@@ -1,4 +1,5 @@
 pub mod Sorts
+pub mod Bare
 pub mod Makers
 pub mod SyntaxTrees
 pub mod Depths
@@ -6,3 +7,4 @@ pub mod Faults
 pub mod Refined
 pub mod Answers
 pub mod Laws
+pub mod ReadAgain

@@ -1,6 +1,8 @@
 //! The laws that the parsers rest on, as contracts: what the grammar reads is the longest levelled tree, where it fails stands the failing
-//! token with its fault, and where it nests the depth is passed.
+//! token with its fault, and where it nests the depth is passed. And a levelled tree is the only levelled one that its tokens spell, so for
+//! them no other answer is right.
 ghost use Rattle.sp_c_grammar.specs.Laws.{ExpressionsAreParsed, TypeNamesAreParsed, SpecifiersAreParsed, DeclaratorsAreParsed};
+ghost use Rattle.sp_c_grammar.specs.ReadAgain.{ExpressionsAreReadAgain, TypeNamesAreReadAgain, SpecifiersAreReadAgain, DeclaratorsAreReadAgain};
 
 /// The laws of expressions (C90 6.3), where these are the names of types. The call does nothing.
 pub fn expressions_are_parsed(types: &[u32])
@@ -26,6 +28,34 @@ pub fn specifiers_are_parsed(types: &[u32])
 /// The laws of declarators of a name (C90 6.5.4).
 pub fn declarators_are_parsed(types: &[u32])
     ensures { DeclaratorsAreParsed types.now }
+{
+    let _types = types;
+}
+
+/// Levelled expressions of the same tokens are the same, and each is read again as itself, where these are the names of types.
+pub fn expressions_are_read_again(types: &[u32])
+    ensures { ExpressionsAreReadAgain types.now }
+{
+    let _types = types;
+}
+
+/// Levelled type names of the same tokens are the same, and each is read again as itself.
+pub fn type_names_are_read_again(types: &[u32])
+    ensures { TypeNamesAreReadAgain types.now }
+{
+    let _types = types;
+}
+
+/// Levelled lists of specifiers of the same tokens are the same, and each is read again as itself, the empty list too.
+pub fn specifiers_are_read_again(types: &[u32])
+    ensures { SpecifiersAreReadAgain types.now }
+{
+    let _types = types;
+}
+
+/// Levelled declarators of a name and of the same tokens are the same, and each is read again as itself.
+pub fn declarators_are_read_again(types: &[u32])
+    ensures { DeclaratorsAreReadAgain types.now }
 {
     let _types = types;
 }

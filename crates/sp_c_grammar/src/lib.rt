@@ -9,7 +9,10 @@
 //! The laws (proofs/): what is read spells its tokens, each place that of its token, and is levelled (`is_spelled`, `is_levelled`); the
 //! depths are those of the answers (`are_depths`); each levelled expression, type name, list of specifiers and declarator is read from its
 //! tokens (`complete` and its like); so what is read is the longest tree, and at a fault stands the failing token (`longest_tree`,
-//! `fault_tree`, with the readers of proofs/Calls.antt). The rows of proofs/Rows.antt try the table on small texts.
+//! `fault_tree`, with the readers of proofs/Calls.antt). What is read of a levelled tree's tokens is that tree but for its places (`bare`,
+//! specs/Bare.antt), and the places are those of the tokens; so it is the only levelled tree that they spell, and is read again as itself
+//! (specs/ReadAgain.antt). Rows try on small texts what is read and where it fails (proofs/Rows.antt), where a depth is passed
+//! (proofs/DepthRows.antt), and what is read again (proofs/ReadAgainRows.antt).
 //!
 //! For example in `int f(a)int a;{return a;}` the failing token is the first `a`, since only a parameter or `)` may stand there, and its
 //! fault is U4; in `long const long x;` it is the second `long`, and the fault is U10.
@@ -25,5 +28,7 @@ mod tests;
 
 pub use faults::refined;
 pub use laws::{
-    declarators_are_parsed, expressions_are_parsed, specifiers_are_parsed, type_names_are_parsed,
+    declarators_are_parsed, declarators_are_read_again, expressions_are_parsed,
+    expressions_are_read_again, specifiers_are_parsed, specifiers_are_read_again,
+    type_names_are_parsed, type_names_are_read_again,
 };

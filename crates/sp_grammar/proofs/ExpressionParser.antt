@@ -14,7 +14,7 @@ use Rattle.sp_grammar.specs.ExpressionTable.{symbols, expression, expressions, d
 use Rattle.sp_grammar.specs.ExpressionReading.{IsEnded, problem_of, IsPart}
 use Rattle.sp_grammar.specs.ExpressionAnswers.{BeginsTree, IsLongest, IsFault, IsNested}
 use Rattle.sp_grammar.proofs.Readings.{front_of, fault_front, spelled, fault_spelled, at_tokens, fault_at_tokens}
-use Rattle.sp_grammar.proofs.Wholes.{longest, failing}
+use Rattle.sp_grammar.proofs.Wholes.{one_whole, longest, failing}
 use Rattle.sp_grammar.proofs.Nesting.{deep_front, deep_spelled, nesting}
 use Rattle.sp_grammar.proofs.ExpressionSteps.{Read, Fail, Nest}
 use Rattle.sp_grammar.proofs.ExpressionChecked.{checked, are_depths}
@@ -41,6 +41,10 @@ ended_head (x ∷ xs) e = (x, xs, refl)
 module _ (types : List ℕ) where
   tree_whole : (tree : Expression) (tokens : List Kind) → IsLevelled types tree → tokens_of tree ≡ tokens → IsWhole (expressions types) (expression Sum) tokens tree kinds.End
   tree_whole tree tokens levelled spells = record { read = λ zs. at_tokens (ap (λ v. v ++ kinds.End ∷ zs) spells) (is_read types Sum tree levelled refl kinds.End zs (refl, refl)) }
+
+  -- two of the same tokens are the same
+  pub one_tree : (l r : Expression) → IsLevelled types l → IsLevelled types r → tokens_of l ≡ tokens_of r → l ≡ r
+  one_tree l r left right same = one_whole (expressions types) (checked types) (expression Sum) (tokens_of r) kinds.End kinds.End l r (tree_whole l (tokens_of r) left same) (tree_whole r (tokens_of r) right refl)
 
   -- some levelled expression begins with the tokens exactly where some whole does
   begins_whole : (front : List Kind) → BeginsTree types front → BeginsWhole (expressions types) (expression Sum) front kinds.End

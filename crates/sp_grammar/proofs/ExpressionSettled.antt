@@ -1,5 +1,6 @@
 -- Any tokens of the small language have a longest expression or a failing token.
 use Rattle.std.proofs.Common.{◌≡◌, ◌≢◌, ℕ, ◌-◌, Bool, true, false, List, [], ◌∷◌, length, Option, Some, None, if◌then◌else◌, refl, arith}
+use Rattle.std.specs.Prelude.{⊤}
 use Rattle.sp_grammar.specs.declared.token.Kind.{Kind}
 use Rattle.sp_grammar.specs.declared.token.Kind.TheVariants as kinds
 use Rattle.sp_grammar.specs.declared.token.Operator.{Operator}
@@ -18,6 +19,10 @@ use Rattle.sp_grammar.proofs.ExpressionParser.{longest_at, is_fault, fault_withi
 abbrev is_end : Kind → Bool
 is_end kinds.End = true
 is_end _ = false
+
+-- all asks are covered
+abbrev Covers : Ask → Type 0
+Covers n = ⊤
 
 abbrev rank : Ask → ℕ
 rank (expression Sum) = 2
@@ -48,23 +53,23 @@ is_ended (x ∷ y ∷ ys) h = (not_end x h.0, is_ended (y ∷ ys) h.1)
 
 -- ---- no production takes the end
 
-name_spares : (n : ℕ) (b : Bool) → SparesAt {S = symbols} is_end (kinds.Name n) (name_plan n b)
+name_spares : (n : ℕ) (b : Bool) → SparesAt {S = symbols} Covers is_end (kinds.Name n) (name_plan n b)
 name_spares n true = tt
 name_spares n false = λ e. (refl, tt)
 
-unary_spares : (types : List ℕ) (x : Kind) → SparesAt {S = symbols} is_end x (unary_plan types x)
+unary_spares : (types : List ℕ) (x : Kind) → SparesAt {S = symbols} Covers is_end x (unary_plan types x)
 unary_spares types (kinds.Name n) = name_spares n (has n types)
 unary_spares types (kinds.Number n) = λ e. (refl, tt)
-unary_spares types kinds.Minus = λ e. (refl, λ a. tt)
-unary_spares types kinds.Open = λ e. (refl, λ a. tt)
+unary_spares types kinds.Minus = λ e. (refl, (tt, λ a. tt))
+unary_spares types kinds.Open = λ e. (refl, (tt, λ a. tt))
 unary_spares types _ = tt
 
-after_spares : (k : Level) (l : Expression) (x : Kind) → SparesAt {S = symbols} is_end x (Some (after_plan k l (operator_at k x)))
-after_spares Sum l kinds.Plus = λ e. (refl, λ r t. tt)
-after_spares Sum l kinds.Minus = λ e. (refl, λ r t. tt)
+after_spares : (k : Level) (l : Expression) (x : Kind) → SparesAt {S = symbols} Covers is_end x (Some (after_plan k l (operator_at k x)))
+after_spares Sum l kinds.Plus = λ e. (refl, (tt, λ r. (tt, λ t. tt)))
+after_spares Sum l kinds.Minus = λ e. (refl, (tt, λ r. (tt, λ t. tt)))
 after_spares Sum l _ = tt
-after_spares Product l kinds.Times = λ e. (refl, λ r t. tt)
-after_spares Product l kinds.Over = λ e. (refl, λ r t. tt)
+after_spares Product l kinds.Times = λ e. (refl, (tt, λ r. (tt, λ t. tt)))
+after_spares Product l kinds.Over = λ e. (refl, (tt, λ r. (tt, λ t. tt)))
 after_spares Product l _ = tt
 after_spares Unary l (kinds.Name n) = tt
 after_spares Unary l _ = tt
@@ -74,17 +79,17 @@ closes kinds.Close h = refl
 closes kinds.End h = absurd cc
 closes _ h = refl
 
-named : (types : List ℕ) (n : ℕ) (b : Bool) → SparesAt {S = symbols} is_end (kinds.Name n) (Some (inside_plan (if b then Some n else None)))
-named types n true = λ e. (refl, λ y h. (closes y h, λ a. tt))
-named types n false = λ a y h. (closes y h, tt)
+named : (types : List ℕ) (n : ℕ) (b : Bool) → SparesAt {S = symbols} Covers is_end (kinds.Name n) (Some (inside_plan (if b then Some n else None)))
+named types n true = λ e. (refl, λ y h. (closes y h, (tt, λ a. tt)))
+named types n false = (tt, λ a y h. (closes y h, tt))
 
-inside_spares : (types : List ℕ) (x : Kind) → SparesAt {S = symbols} is_end x (Some (inside_plan (type_at types x)))
+inside_spares : (types : List ℕ) (x : Kind) → SparesAt {S = symbols} Covers is_end x (Some (inside_plan (type_at types x)))
 inside_spares types (kinds.Name n) = named types n (has n types)
-inside_spares types _ = λ a y h. (closes y h, tt)
+inside_spares types _ = (tt, λ a y h. (closes y h, tt))
 
-spares : (types : List ℕ) (n : Ask) (x : Kind) → SparesAt {S = symbols} is_end x (predict types n x)
-spares types (expression Sum) x = λ l t. tt
-spares types (expression Product) x = λ l t. tt
+spares : (types : List ℕ) (n : Ask) (x : Kind) → SparesAt {S = symbols} Covers is_end x (predict types n x)
+spares types (expression Sum) x = (tt, λ l. (tt, λ t. tt))
+spares types (expression Product) x = (tt, λ l. (tt, λ t. tt))
 spares types (expression Unary) x = unary_spares types x
 spares types (after k l) x = after_spares k l x
 spares types inside x = inside_spares types x
@@ -117,12 +122,12 @@ descends types (expression Unary) x = unary_descends types x
 descends types (after k l) x = after_descends types k l (operator_at k x)
 descends types inside x = inside_descends types (type_at types x)
 
-ends : (types : List ℕ) → Ends (expressions types) is_end rank
-ends types = record { spares = spares types; descends = descends types }
+ends : (types : List ℕ) → Ends (expressions types) Covers is_end rank
+ends types = record { spares = λ n x covered. spares types n x; descends = λ n x covered. descends types n x }
 
 -- Any tokens have a longest expression, or a failing token.
 pub settled : (types : List ℕ) (tokens : List Kind) → IsEnded tokens → IsSettled types tokens
-settled types tokens ended = by (decided (expressions types) is_end (checked types) rank (ends types) (expression Sum) tokens (are_ended tokens ended))
+settled types tokens ended = by (decided (expressions types) is_end (checked types) Covers rank (ends types) (expression Sum) tokens tt (are_ended tokens ended))
   where
     by : IsDecided (expressions types) is_end (expression Sum) (ask (expression Sum)) tokens → IsSettled types tokens
     by (reads e rest r rest_ended short) = is_read e (length tokens - length rest) (longest_at types (depth_of e) tokens rest e (length tokens - length rest) r (is_ended rest rest_ended) (omega arith) (omega (arith, short)))

@@ -16,3 +16,7 @@ pub mod ExpressionSettled
 pub mod ExpressionExamples
 pub mod CChecked
 pub mod CEndings
+pub mod CSettled
+pub mod CFailing
+pub mod Running
+pub mod CExamples

@@ -98,6 +98,18 @@ module _ {S : Symbols} (T : Table S) (c : Checked T) (D : Depths S) where
       let text : front_of r ++ w ∷ us ≡ (front_of r ++ front) ++ b ∷ zs = ap (λ v. front_of r ++ v) (sym (next_token front b zs)) ∙ sym (append_assoc (front_of r) front (b ∷ zs)) in
       deep_at_tokens text (join_nests part (deep_at_tokens (next_token front b zs) (deep_move h b head zs)))
 
+  stays_at : (n : S.Ask) (d : ℕ) (xs bad front more others : List S.Token) (x : S.Token) → Nests T D n d xs bad → xs ≡ front ++ x ∷ more → bad ≡ x ∷ more → Nests T D n d (front ++ x ∷ others) (x ∷ others)
+  stays_at n d xs bad front more others x (nests {q = q} {x = y} {xs = ys} e h) text here =
+      let same : deep_front h ≡ front = append_cancel_right (deep_front h) front (x ∷ more) (ap (λ v. deep_front h ++ v) (sym here) ∙ sym (deep_spelled h) ∙ text) in
+      let head = heads bad x more here in
+      let moved = deep_move h x head others in
+      let nested = nests (head_front T c n q y ys (deep_front h) bad x e (deep_spelled h) head) (deep_at_tokens (next_token (deep_front h) x others) moved) in
+      subst (λ v. Nests T D n d v (x ∷ others)) (sym (next_token (deep_front h) x others) ∙ ap (λ t. t ++ x ∷ others) same) nested
+
+  -- That a depth is passed stays whatever stands behind that token.
+  pub depth_stays : (n : S.Ask) (d : ℕ) (front more others : List S.Token) (x : S.Token) → Nests T D n d (front ++ x ∷ more) (x ∷ more) → Nests T D n d (front ++ x ∷ others) (x ∷ others)
+  depth_stays n d front more others x h = stays_at n d (front ++ x ∷ more) (x ∷ more) front more others x h refl refl
+
   nesting_at : AreDepths T D → (n : S.Ask) (d : ℕ) (xs bad front more : List S.Token) (x z : S.Token) → T.Stops n z → Nests T D n d xs bad → xs ≡ front ++ x ∷ more → bad ≡ x ∷ more → IsTooDeep T D n d (front ++ x ∷ []) z
   nesting_at each n d xs bad front more x z stops (nests {q = q} {x = y} {xs = ys} e h) text here =
       let same : deep_front h ≡ front = append_cancel_right (deep_front h) front (x ∷ more) (ap (λ v. deep_front h ++ v) (sym here) ∙ sym (deep_spelled h) ∙ text) in

@@ -6,7 +6,7 @@ use Rattle.sp_grammar.specs.Whole.{IsWhole, BeginsWhole, IsFailing}
 use Rattle.sp_grammar.specs.Checked.{Even, Checked}
 use Rattle.sp_grammar.proofs.Lists.{nil_or_cons, left_nil, right_nil, no_front}
 use Rattle.sp_grammar.proofs.Readings.{front_of, fault_front, spelled, fault_spelled, at_plan, at_tokens, at_rest, fault_at_tokens, one_reading, read_or_fails}
-use Rattle.sp_grammar.proofs.Moving.{fine, stuck, hollow, goes_on, fail_move}
+use Rattle.sp_grammar.proofs.Moving.{fine, stuck, hollow, goes_on, move, fail_move}
 use Rattle.sp_grammar.proofs.Completions.{Completed, viable}
 
 module _ {S : Symbols} (T : Table S) (c : Checked T) where
@@ -177,6 +177,25 @@ module _ {S : Symbols} (T : Table S) (c : Checked T) where
   whole n front more x a r =
       let same : front_of r ≡ front = append_cancel_right (front_of r) front (x ∷ more) (sym (spelled r)) in
       record { read = λ zs. at_tokens (ap (λ t. t ++ x ∷ zs) same) (goes_on T c r x more zs refl) }
+
+  -- It is one before any token at which the ask may end, too.
+  pub ends_before : (n : S.Ask) (front rest : List S.Token) (z : S.Token) (a : S.Answer n) → T.Stops n z → Reads T n (ask n) (front ++ rest) a rest → IsWhole T n front a z
+  ends_before n front rest z a stops r =
+      let same : front_of r ≡ front = append_cancel_right (front_of r) front rest (sym (spelled r)) in
+      record { read = λ zs. at_tokens (ap (λ t. t ++ z ∷ zs) same) (move T c r z (inr (λ b. (stops, tt))) zs) }
+
+  -- The tokens of a whole have one answer.
+  pub one_whole : (n : S.Ask) (tokens : List S.Token) (y z : S.Token) (a b : S.Answer n) → IsWhole T n tokens a y → IsWhole T n tokens b z → a ≡ b
+  one_whole n tokens y z a b v w =
+      let r = v.read [] in
+      let same : front_of r ≡ tokens = append_cancel_right (front_of r) tokens (y ∷ []) (sym (spelled r)) in
+      one_answer r (tokens ++ z ∷ []) (z ∷ []) b (w.read []) (ap (λ t. t ++ z ∷ []) (sym same))
+
+  -- A fault stays whatever stands behind the failing token.
+  pub fault_stays : (n : S.Ask) (front more others : List S.Token) (x : S.Token) (f : Want S) → Fails T n (ask n) (front ++ x ∷ more) f (x ∷ more) → Fails T n (ask n) (front ++ x ∷ others) f (x ∷ others)
+  fault_stays n front more others x f h =
+      let same : fault_front h ≡ front = append_cancel_right (fault_front h) front (x ∷ more) (sym (fault_spelled h)) in
+      fault_at_tokens (ap (λ t. t ++ x ∷ others) same) (fail_move T c h x refl others)
 
   -- With the next token no whole begins.
   pub longest : (n : S.Ask) (front more : List S.Token) (x : S.Token) (a : S.Answer n) → Reads T n (ask n) (front ++ x ∷ more) a (x ∷ more) → (z : S.Token) → ¬ BeginsWhole T n (front ++ x ∷ []) z

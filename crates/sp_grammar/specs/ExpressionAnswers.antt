@@ -68,6 +68,10 @@ pub data IsSettled (types : List ℕ) (tokens : List Kind) : Type 0 where
   is_read : (tree : Expression) (count : ℕ) → IsLongest types (depth_of tree) tokens tree count → IsSettled types tokens
   is_failed : (problem : Problem) (count : ℕ) → IsFault types tokens problem count → IsSettled types tokens
 
+-- Two levelled expressions of the same tokens are the same.
+abbrev pub HasOneTree : List ℕ → Type 0
+HasOneTree types = (l r : Expression) → IsLevelled types l → IsLevelled types r → tokens_of l ≡ tokens_of r → l ≡ r
+
 -- The answer to these tokens.
 abbrev pub Answers : List ℕ → ℕ → List Kind → Result (Expr × ℕ) ParseError → Type 0
 Answers types depth tokens (Ok read) = IsLongest types depth tokens (expression_of read.0) read.1

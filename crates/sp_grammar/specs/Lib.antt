@@ -8,6 +8,9 @@ pub mod Expression
 pub mod ExpressionTable
 pub mod ExpressionReading
 pub mod ExpressionAnswers
+pub mod Laws
 pub mod CTokens
 pub mod CTrees
 pub mod CTable
+pub mod CLaws
+pub mod NoTrees

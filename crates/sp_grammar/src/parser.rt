@@ -1,7 +1,7 @@
 //! The parser of the small language's expressions.
 ghost use Rattle.std.specs.Prelude.{IsTrue, ◌↔◌, ◌≡◌, ◌+◌, ◌≤◌, length};
 ghost use Rattle.sp_grammar.specs.ExpressionReading.{IsEnded};
-ghost use Rattle.sp_grammar.specs.ExpressionAnswers.{Answers, IsSettled};
+ghost use Rattle.sp_grammar.specs.ExpressionAnswers.{Answers, HasOneTree, IsSettled};
 
 use crate::reader::{Problem, Stop, read_expression};
 use crate::token::{Kind, Level};
@@ -48,7 +48,7 @@ fn count_before(tokens: &[Kind], rest: &[Kind]) -> usize
 
 /// The longest expression that the tokens begin with, and how many tokens it has.
 ///
-/// Any tokens have such an expression, of whatever depth, or a failing token.
+/// Any tokens have such an expression, of whatever depth, or a failing token; and no other levelled expression has its tokens.
 /// `types` are the names that are type names. `depth` is how many expressions may lie inside one another at most. The tokens
 /// end with `End`, which stands nowhere else.
 pub fn parse(
@@ -60,6 +60,7 @@ pub fn parse(
     requires { IsEnded tokens.now }
     ensures answers { Answers types.now depth tokens.now result }
     ensures settled { IsSettled types.now tokens.now }
+    ensures one_tree { HasOneTree types.now }
 {
     match read_expression(alloc, tokens, types, Level::Sum, depth) {
         Ok(part) => Ok((part.tree, count_before(tokens, part.rest))),

@@ -1,5 +1,6 @@
 use super::*;
 use Kind::{Close, End, Minus, Name, Number, Open, Over, Plus, Times};
+use std::marker::Brand;
 use std::test::Fail;
 
 /// Names from this one on are type names in the rows.
@@ -99,4 +100,10 @@ fn tells_which_tokens_are_ended(rt: HostRuntime) {
     for (tokens, want) in rows {
         assert_eq!(rt; is_ended(tokens), want);
     }
+}
+
+#[test]
+fn the_laws_are_called_over_trees_that_say_nothing(_rt: HostRuntime) {
+    any_table_is_lawful::<Brand>();
+    any_tokens_are_settled::<Brand>();
 }
