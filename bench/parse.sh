@@ -8,16 +8,11 @@ make_room parse sp_tree sp_syntax sp_grammar sp_c_grammar sp_lexer sp_expr_parse
 mkdir -p "$room/texts"
 python3 "$top/bench/parse_texts.py" "$room/texts"
 (cd "$room/crates/parse_bench" && rt run -- "$room/texts/parens-1-expression" expression) > "$room/built.txt"
-printf '%-10s %9s %8s %8s %9s %9s %7s\n' text tokens trees ms "M/s" KiB ratio
+printf '%-10s %10s %9s %8s %8s %9s %7s\n' text tokens trees ms M/s KiB ratio
 for kind in mixed parens minus and comma assign choice prefix cast index calls strings members constants pointers parameters; do
     last=
     for size in 1 2; do
         text=$(echo "$room/texts/$kind-$size"-*)
-        /usr/bin/time -f '%M' -o "$room/peak" "$room/crates/parse_bench/out/parse_bench" "$text" "${text##*-}" > "$room/run"
-        read -r tokens trees micros < "$room/run"
-        awk -v kind="$kind" -v tokens="$tokens" -v trees="$trees" -v micros="$micros" -v last="$last" -v peak="$(cat "$room/peak")" 'BEGIN {
-            ratio = last == "" ? "-" : sprintf("%.2f", micros / last)
-            printf "%-10s %9d %8d %8.1f %9.2f %9d %7s\n", kind, tokens, trees, micros / 1000, tokens / micros, peak, ratio }'
-        last=$micros
+        time_row "$kind" "$text" "${text##*-}"
     done
 done

@@ -31,3 +31,16 @@ beside_c() {
         awk '$1 != $4 || $3 != $6 { print "the two differ at " $1; exit 1 }
              { printf "%-9s %7.1f ns %7.1f ns %8.2f\n", $1, $2 / 1000, $5 / 1000, $2 / $5 }'
 }
+
+# time_row KIND WORD..: runs the program in the room on the words, which prints two counts and its microseconds, and prints a row: the kind, the counts, milliseconds, how many of the first
+# count a microsecond, the peak memory, and the time against that of the row before, if `last` isn't empty.
+time_row() {
+    kind=$1
+    shift
+    /usr/bin/time -f '%M' -o "$room/peak" "$room/crates/${bench}_bench/out/${bench}_bench" "$@" > "$room/run"
+    read -r first second micros < "$room/run"
+    awk -v kind="$kind" -v first="$first" -v second="$second" -v micros="$micros" -v last="$last" -v peak="$(cat "$room/peak")" 'BEGIN {
+        ratio = last == "" ? "-" : sprintf("%.2f", micros / last)
+        printf "%-10s %10d %9d %8.1f %8.2f %9d %7s\n", kind, first, second, micros / 1000, first / micros, peak, ratio }'
+    last=$micros
+}

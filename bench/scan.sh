@@ -8,15 +8,10 @@ make_room scan sp_tree sp_lexer
 (cd "$room/crates/scan_bench" && rt run) > "$room/built.txt"
 mkdir -p "$room/texts"
 python3 "$top/bench/scan_texts.py" "$room/texts"
-printf '%-9s %10s %9s %8s %8s %9s %7s\n' text bytes tokens ms MB/s KiB ratio
+printf '%-10s %10s %9s %8s %8s %9s %7s\n' text bytes tokens ms MB/s KiB ratio
 for kind in ordinary comment blanks newlines marks string names; do
     last=
     for size in 8 16; do
-        /usr/bin/time -f '%M' -o "$room/peak" "$room/crates/scan_bench/out/scan_bench" "$room/texts/$kind-$size" > "$room/run"
-        read -r bytes tokens micros < "$room/run"
-        awk -v kind="$kind" -v bytes="$bytes" -v tokens="$tokens" -v micros="$micros" -v last="$last" -v peak="$(cat "$room/peak")" 'BEGIN {
-            ratio = last == "" ? "-" : sprintf("%.2f", micros / last)
-            printf "%-9s %10d %9d %8.1f %8.1f %9d %7s\n", kind, bytes, tokens, micros / 1000, bytes / micros, peak, ratio }'
-        last=$micros
+        time_row "$kind" "$room/texts/$kind-$size"
     done
 done
