@@ -9,9 +9,12 @@ make_room dense sp_lattice sp_interval sp_dense sp_small sp_scalars
 folder=$room/crates/dense_bench
 
 # The program makes a system of its own, since no text of the small language is large enough.
-sed -i 's/^pub(crate) struct/pub struct/' "$room/crates/sp_scalars/src/system.rt"
-sed -i 's/^fn system_of/pub fn system_of/' "$room/crates/sp_scalars/src/analysis.rt"
-sed -i 's/^pub use analysis::{Outcome, analyse};/pub use analysis::{Outcome, analyse, system_of};\npub use system::ScalarSystem;/' "$room/crates/sp_scalars/src/lib.rt"
+of=$room/crates/sp_scalars/src
+replace "$of/system.rt" 'pub(crate) struct ScalarSystem {' 'pub struct ScalarSystem {'
+made='fn system_of(alloc: Global, program: Program) -> Result<ScalarSystem, AllocError>'
+replace "$of/analysis.rt" "$made" "pub $made"
+replace "$of/lib.rt" 'pub use analysis::{Outcome, analyse};' \
+    'pub use analysis::{Outcome, analyse, system_of}; pub use system::ScalarSystem;'
 rm -rf "$folder/proofs"
 mkdir -p "$folder/proofs/main" "$folder/specs"
 cp "$top/bench/dense/main.antt.in" "$folder/proofs/main/Invariants.antt"

@@ -44,3 +44,10 @@ time_row() {
         printf "%-10s %10d %9d %8.1f %8.2f %9d %7s\n", kind, first, second, micros / 1000, first / micros, peak, ratio }'
     last=$micros
 }
+
+# replace FILE OLD NEW: puts NEW in place of the line OLD, and stops where the file has no such line.
+replace() {
+    grep -qxF -- "$2" "$1" || { echo "$1 has no line: $2" >&2; exit 1; }
+    OLD=$2 NEW=$3 awk '$0 == ENVIRON["OLD"] { print ENVIRON["NEW"]; next } { print }' "$1" > "$1.new"
+    mv "$1.new" "$1"
+}

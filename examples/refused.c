@@ -1,1 +1,4 @@
-int main(void){char c;return 0;}
+int main(void){
+  char c;
+  return 0;
+}

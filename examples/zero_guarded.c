@@ -1,1 +1,8 @@
-int main(void){int x;int y;x=0;if(x!=0)y=5/x;return 0;}
+int main(void){
+  int count;
+  int mean;
+  count = 0;
+  if (count != 0)
+    mean = 5 / count;
+  return 0;
+}

@@ -1,40 +1,23 @@
 #!/usr/bin/env bash
-# Runs the built program on each text of tests/cases/ under both commands, and compares what it writes and its status.
-# tests/cases/README.md tells the format.
-set -u
-cd "$(dirname "$0")/.."
-sparrow=$PWD/sparrow
-folder=$(mktemp -d)
-trap 'rm -rf "$folder"' EXIT
-passed=0
-failed=0
+# Runs the built program on each text of tests/cases/ under both commands, and compares what it
+# writes and its status. tests/cases/README.md tells the format.
+. "$(dirname "$0")/lib.sh"
+# ./sparrow builds the program where that is needed.
+./sparrow >/dev/null 2>&1
+program=$top/crates/sparrow/out/sparrow
+room=$(mktemp -d)
+trap 'rm -rf "$room"' EXIT
 
-check() { # file, line, command, report
-    local got status want=0
-    got=$(cd "$folder" && "$sparrow" "$3" a.c)
-    status=$?
-    case $4 in
-        *refused*) want=2 ;;
-        *'0 alarms') [ "$4" = '0 alarms' ] || want=1 ;;
-        *) want=1 ;;
-    esac
-    if [ "$got" = "${4//|/$'\n'}" ] && [ "$status" = "$want" ]; then
-        passed=$((passed + 1))
-    else
-        failed=$((failed + 1))
-        printf 'FAILED %s, line %s, %s: status %s\n%s\n' "$1" "$2" "$3" "$status" "$got"
-    fi
-}
+in_room() { (cd "$room" && "$program" "$@"); }
 
 for file in tests/cases/*.tsv; do
-    number=0
-    while IFS= read -r line || [ -n "$line" ]; do
-        number=$((number + 1))
-        printf '%b' "${line%%$'\t'*}" >"$folder/a.c"
+    while IFS=$'\t' read -r name status text answer || [ -n "$name" ]; do
+        # The text may be empty, which read would take for no field.
+        [ "$text" != '(empty)' ] || text=
+        printf '%b' "$text" >"$room/a.c"
         for command in analyse dense; do
-            check "$file" "$number" "$command" "${line#*$'\t'}"
+            check "$file, $name, $command" "$status" "${answer//|/$'\n'}"$'\n' in_room "$command" a.c
         done
     done <"$file"
 done
-echo "$passed passed, $failed failed"
-[ "$failed" -eq 0 ]
+finish

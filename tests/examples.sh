@@ -1,23 +1,13 @@
 #!/usr/bin/env bash
-# Runs ./sparrow on each example and compares what it writes, and its status, with the file beside it: NAME.expected,
-# whose first line is the status and the rest the bytes.
-set -u
-cd "$(dirname "$0")/.."
-passed=0
-failed=0
+# Runs ./sparrow on each example and compares what it writes, and its status, with the file beside
+# it: NAME.expected, whose first line is the status and the rest the bytes.
+. "$(dirname "$0")/lib.sh"
 for source in examples/*.c; do
+    expected=${source%.c}.expected
+    status=$(head -n 1 "$expected")
+    bytes=$(tail -n +2 "$expected"; printf x)
     for command in analyse dense; do
-        want=${source%.c}.expected
-        got=$(./sparrow "$command" "$source"; echo "status $?")
-        status=${got##*$'\n'}
-        body=${got%"$status"}
-        if [ "$status" = "$(head -n 1 "$want")" ] && [ "$body" = "$(tail -n +2 "$want")"$'\n' ]; then
-            passed=$((passed + 1))
-        else
-            failed=$((failed + 1))
-            printf 'FAILED %s %s: %s\n%s\n' "$command" "$source" "$status" "$body"
-        fi
+        check "$command $source" "${status#status }" "${bytes%x}" ./sparrow "$command" "$source"
     done
 done
-echo "$passed passed, $failed failed"
-[ "$failed" -eq 0 ]
+finish

@@ -1,44 +1,51 @@
 #!/usr/bin/env bash
-# Runs ./sparrow on words that don't fit, on files that can't be read and on a full device, and compares bytes and status.
-set -u
-cd "$(dirname "$0")/.."
-passed=0
-failed=0
-
-check() { # status and bytes that are wanted, then the words
-    local status=$1 want=$2 got
-    shift 2
-    got=$(./sparrow "$@" 2>/dev/null; echo "status $?")
-    if [ "$got" = "${want}status $status" ]; then
-        passed=$((passed + 1))
-    else
-        failed=$((failed + 1))
-        printf 'FAILED %s: %s\n' "$*" "$got"
-    fi
-}
+# Runs ./sparrow on words that don't fit, on files that can't be read and on outputs that can't be
+# written, and compares bytes, status and what is said on standard error.
+. "$(dirname "$0")/lib.sh"
+room=$(mktemp -d)
+trap 'rm -rf "$room"' EXIT
 
 usage=$'usage: sparrow COMMAND [OPTION] WORD..\n'
+commands='sparrow: the commands are: analyse FILE, dense FILE'
 file=examples/overrun.c
-check 3 "$usage"
-check 3 "$usage" analyse
-check 3 "$usage" analyse --fast "$file"
-check 3 "$usage" analyse "$file" "$file"
-check 3 "$usage" analyse --fast
-check 3 "$usage" analyse -
-check 3 "$usage" analyse ''
-check 3 "$usage" Analyse "$file"
-check 3 "$usage" bench 0
-check 4 '' analyse examples/none.c
-check 4 '' dense examples
-check 2 $'/dev/zero:1:1: refused N0: form not built yet\n' analyse /dev/zero
+check 'no words' 3 "$usage" ./sparrow
+check 'a command alone' 3 "$usage" ./sparrow analyse
+check 'an option' 3 "$usage" ./sparrow analyse --fast "$file"
+check 'values, which come later' 3 "$usage" ./sparrow analyse --values "$file"
+check 'two files' 3 "$usage" ./sparrow analyse "$file" "$file"
+check 'an option in place of the file' 3 "$usage" ./sparrow analyse --fast
+check 'a dash in place of the file' 3 "$usage" ./sparrow analyse -
+check 'the empty word in place of the file' 3 "$usage" ./sparrow analyse ''
+check 'another command' 3 "$usage" ./sparrow Analyse "$file"
+check 'the file first' 3 "$usage" ./sparrow "$file" analyse
+check 'a bench of nothing' 3 "$usage" ./sparrow bench 0
+check_said 'wrong words' "$commands" ./sparrow Analyse "$file"
 
-./sparrow analyse "$file" >/dev/full 2>/dev/null
-status=$?
-if [ "$status" = 5 ]; then
-    passed=$((passed + 1))
-else
-    failed=$((failed + 1))
-    echo "FAILED on a full device: status $status"
-fi
-echo "$passed passed, $failed failed"
-[ "$failed" -eq 0 ]
+check 'a missing file' 4 '' ./sparrow analyse examples/none.c
+check 'a folder' 4 '' ./sparrow dense examples
+check_said 'a missing file' "sparrow: examples/none.c can't be read" ./sparrow analyse examples/none.c
+check_said 'a folder' "sparrow: examples can't be read" ./sparrow dense examples
+
+full() { ./sparrow analyse "$file" >/dev/full; }
+shut() { ./sparrow analyse "$file" >&-; }
+check 'a full device' 5 '' full
+check 'no standard output' 5 '' shut
+check_said 'a full device' "sparrow: standard output can't be written" full
+
+endless=$'/dev/zero:1:1: refused N0: form not built yet\n'
+check 'a file without an end' 2 "$endless" ./sparrow analyse /dev/zero
+
+# The longest text that is read has 16,384 bytes.
+for length in 16384 16385; do
+    { cat "$file"; head -c "$length" /dev/zero | tr '\0' ' '; } | head -c "$length" >"$room/$length.c"
+done
+report="$room/16384.c"$':6:5: overrun: offset [0,10], size [10,10]\n1 alarm\n'
+check '16,384 bytes' 1 "$report" ./sparrow analyse "$room/16384.c"
+refused="$room/16385.c"$':1:1: refused N0: form not built yet\n'
+check '16,385 bytes' 2 "$refused" ./sparrow analyse "$room/16385.c"
+
+# A source that is touched and not changed builds nothing that is told as not built.
+touch crates/sparrow/src/main.rt
+check 'a touched source' 0 $'0 alarms\n' ./sparrow analyse examples/in_bounds.c
+check_said 'a program that is up to date' "$commands" ./sparrow
+finish

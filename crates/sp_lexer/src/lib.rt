@@ -27,8 +27,6 @@ mod scanner;
 mod spellings;
 mod spot;
 mod stop;
-#[cfg(test)]
-mod tests;
 mod words;
 
 pub use scanner::{ScanError, scan};

@@ -18,8 +18,6 @@ mod host;
 mod input;
 mod memory;
 mod output;
-#[cfg(test)]
-mod tests;
 
 pub use host::{HostFiles, HostSink};
 pub use input::{BeginError, Failed, Files, ReadError, read_whole};

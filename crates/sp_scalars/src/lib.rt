@@ -23,6 +23,3 @@ mod system;
 
 pub use alarms::{Alarm, AlarmKind};
 pub use analysis::{Outcome, analyse};
-
-#[cfg(test)]
-mod tests;

@@ -17,6 +17,3 @@ mod words;
 
 pub use program::{MOST_BYTES, Program, read_program};
 pub use syntax::{Atom, Command, Condition, Edge, Place, Sum};
-
-#[cfg(test)]
-mod tests;

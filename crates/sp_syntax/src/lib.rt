@@ -16,8 +16,6 @@
 mod declarators;
 mod expressions;
 mod statement;
-#[cfg(test)]
-mod tests;
 mod tree;
 mod words;
 

@@ -11,8 +11,6 @@
 
 mod fault;
 mod names;
-#[cfg(test)]
-mod tests;
 mod token;
 
 pub use fault::{Fault, FaultKind, Place};

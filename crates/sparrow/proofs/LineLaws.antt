@@ -1,8 +1,10 @@
 -- The set of lines in code and the list of lines in the definition of a report are the same.
-use Rattle.std.proofs.Common.{◌≡◌, List, [], ◌∷◌, map, refl, ap}
+use Rattle.std.proofs.Common.{◌≡◌, List, [], ◌∷◌, map, refl, ap, sym, ◌∙◌}
 use Rattle.std.specs.declared.cmp.Ordering.{Ordering}
 use Rattle.std.specs.declared.cmp.Ordering.TheVariants.{Less, Equal, Greater}
 use Rattle.std.specs.Ordering.{nat_cmp, ordering_then, match_ordering}
+use Rattle.std.specs.List.{AllByRecursion}
+use Rattle.std.specs.List.Sorted.{IsStrictlySortedBy}
 use Rattle.std.specs.BTreeSet.{insert_key}
 use Rattle.std.specs.String.{string_cmp}
 use Rattle.sparrow.specs.contracts.report.LineOrd.TheImpl as lines
@@ -32,3 +34,13 @@ same_ranks Zero Zero = refl
 
 pub same_order : (x y : code.Line) → (lines.cmp-value).it x y ≡ line_cmp (seen x) (seen y)
 same_order x y = ap (λ o. ordering_then (nat_cmp x.line y.line) (ordering_then (nat_cmp x.column y.column) (ordering_then o (string_cmp x.text y.text)))) (same_ranks x.rank y.rank)
+
+-- lines that ascend in code are seen to ascend
+pub ascend_seen : (ls : List code.Line) → IsStrictlySortedBy (lines.cmp-value).it ls → IsStrictlySortedBy line_cmp (map seen ls)
+unfolding IsStrictlySortedBy
+ascend_seen [] h = tt
+ascend_seen (l ∷ ls) h = (all_after l ls h.0, ascend_seen ls h.1)
+  where
+    all_after : (l : code.Line) (ls : List code.Line) → AllByRecursion (λ m. (lines.cmp-value).it l m ≡ Less) ls → AllByRecursion (λ m. line_cmp (seen l) m ≡ Less) (map seen ls)
+    all_after l [] h = tt
+    all_after l (m ∷ ms) h = (sym (same_order l m) ∙ h.0, all_after l ms h.1)

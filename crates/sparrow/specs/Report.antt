@@ -1,10 +1,10 @@
 -- Alarms, and the report that lists them.
-use Rattle.std.specs.Prelude.{ℕ, ◌==◌, List, [], ◌∷◌, ◌++◌, length, map, fold, if◌then◌else◌, codes, ℤ}
-use Rattle.std.specs.List.{flat_map}
+use Rattle.std.specs.Prelude.{◌≡◌, ℕ, ◌==◌, List, [], ◌∷◌, ◌++◌, length, map, if◌then◌else◌, codes, ℤ}
+use Rattle.std.specs.List.{flat_map, All, Contains}
 use Rattle.std.specs.Fmt.{decimal, signed_decimal}
 use Rattle.std.specs.declared.cmp.Ordering.{Ordering}
 use Rattle.std.specs.Ordering.{nat_cmp, ordering_then}
-use Rattle.std.specs.BTreeSet.{insert_key}
+use Rattle.std.specs.List.Sorted.{IsStrictlySortedBy}
 use Rattle.std.specs.Cmp.Lexicographic.{slice_cmp}
 use Rattle.sp_small.specs.declared.syntax.Place.{Place}
 use Rattle.sp_scalars.specs.declared.alarms.Alarm.{Alarm}
@@ -12,14 +12,14 @@ use Rattle.sp_scalars.specs.declared.alarms.AlarmKind.{AlarmKind}
 use Rattle.sp_scalars.specs.declared.alarms.AlarmKind.TheVariants.{Overrun, Zero}
 
 -- a text and a newline
-abbrev pub newline_behind : List ℕ → List ℕ
-newline_behind text = text ++ 10 ∷ []
+abbrev pub with_newline : List ℕ → List ℕ
+with_newline text = text ++ 10 ∷ []
 
 abbrev pub overrun_text : List ℕ → Place → ℤ → ℤ → ℕ → List ℕ
-overrun_text name p lo hi length = name ++ (codes ":" ++ (decimal p.line ++ (codes ":" ++ (decimal p.column ++ (codes ": overrun: offset [" ++ (signed_decimal lo ++ (codes "," ++ (signed_decimal hi ++ (codes "], size [" ++ (decimal length ++ (codes "," ++ (decimal length ++ newline_behind (codes "]")))))))))))))
+overrun_text name p lo hi length = name ++ (codes ":" ++ (decimal p.line ++ (codes ":" ++ (decimal p.column ++ (codes ": overrun: offset [" ++ (signed_decimal lo ++ (codes "," ++ (signed_decimal hi ++ (codes "], size [" ++ (decimal length ++ (codes "," ++ (decimal length ++ with_newline (codes "]")))))))))))))
 
 abbrev pub zero_text : List ℕ → Place → ℤ → ℤ → List ℕ
-zero_text name p lo hi = name ++ (codes ":" ++ (decimal p.line ++ (codes ":" ++ (decimal p.column ++ (codes ": zero: divisor [" ++ (signed_decimal lo ++ (codes "," ++ (signed_decimal hi ++ newline_behind (codes "]")))))))))
+zero_text name p lo hi = name ++ (codes ":" ++ (decimal p.line ++ (codes ":" ++ (decimal p.column ++ (codes ": zero: divisor [" ++ (signed_decimal lo ++ (codes "," ++ (signed_decimal hi ++ with_newline (codes "]")))))))))
 
 -- the line of an alarm, with its newline
 abbrev pub line_text : List ℕ → Alarm → List ℕ
@@ -47,12 +47,21 @@ line_of name a = record { line = a.place.line; column = a.place.column; rank = k
 abbrev pub line_cmp : Line → Line → Ordering
 line_cmp x y = ordering_then (nat_cmp x.line y.line) (ordering_then (nat_cmp x.column y.column) (ordering_then (nat_cmp x.rank y.rank) (slice_cmp nat_cmp x.text y.text)))
 
--- the lines of these alarms in order, each once
-abbrev pub lines_of : List ℕ → List Alarm → List Line
-lines_of name alarms = fold (insert_key line_cmp) [] (map (line_of name) alarms)
+-- the lines of these alarms: in order, none twice, and no others
+pub record AreLines (name : List ℕ) (alarms : List Alarm) (lines : List Line) : Type 0 where
+  pub ascend : IsStrictlySortedBy line_cmp lines
+  pub all : All (λ a. Contains lines (line_of name a)) alarms
+  pub only : All (Contains (map (line_of name) alarms)) lines
 
 abbrev pub count_text : ℕ → List ℕ
-count_text n = if n == 1 then newline_behind (codes "1 alarm") else decimal n ++ newline_behind (codes " alarms")
+count_text n = if n == 1 then with_newline (codes "1 alarm") else decimal n ++ with_newline (codes " alarms")
 
 abbrev pub report_text : List Line → List ℕ
 report_text lines = flat_map text_of lines ++ count_text (length lines)
+
+-- The bytes list the lines of these alarms, and there are so many.
+pub record Lists (name : List ℕ) (alarms : List Alarm) (bytes : List ℕ) (count : ℕ) : Type 0 where
+  pub lines : List Line
+  pub lines_are : AreLines name alarms lines
+  pub bytes_are : bytes ≡ report_text lines
+  pub count_is : count ≡ length lines

@@ -6,8 +6,7 @@ ghost use Rattle.sp_outside.specs.Told.{missing, IfHeld};
 ghost use Rattle.sp_outside.specs.Counts.{Rose};
 ghost use Rattle.sparrow.specs.Words.{file_of, usage_text};
 ghost use Rattle.sp_scalars.specs.Outcomes.{IsStepped};
-ghost use Rattle.sparrow.specs.Report.{lines_of, report_text};
-ghost use Rattle.sparrow.specs.Answers.{IsAnswer, IsReporting, WithoutSteps, refusal_text};
+ghost use Rattle.sparrow.specs.Answers.{IsAnswer, Reports, WithoutSteps, refusal_text};
 ghost use Rattle.sparrow.specs.Run.{World, Ends, IfReadable, IsWhole, IsWriting, IsDone, IsFault, exit_status};
 ghost use Rattle.sparrow.specs.declared.command.NoAnswer.TheVariants.{NoMemory};
 
@@ -71,7 +70,7 @@ fn refusal(alloc: Global, name: &str, kind: FaultKind) -> Result<Answer, AllocEr
 
 /// The report on alarms.
 fn report_on(alloc: Global, name: &str, alarms: &[Alarm]) -> Result<Answer, AllocError>
-    ensures { IfOk result (λ a. IsReporting a.status (lines_of name.now alarms.now) × (string_bytes a.text ≡ report_text (lines_of name.now alarms.now))) }
+    ensures { IfOk result (λ a. Reports name.now alarms.now a.status (string_bytes a.text)) }
 {
     let Report { text, count } = make_report(alloc, name, alarms)?;
     let status = if count == 0 {
@@ -128,6 +127,7 @@ fn read_and_answer<F: Files, L: Ledger>(
     ensures done { IfOk result (λ a. IsDone a.status) }
     ensures refused { IfOk result (λ a. WithoutSteps a.status (steps.new ≡ steps.old)) }
     ensures steps { IfHeld (F.text_of files.old name.now) (λ text. IsStepped text steps.old steps.new) }
+    ensures quiet { result ≢ Err NoAnswer.ReadFault → F.faults files.new ≡ F.faults files.old }
     ensures fault { result ≡ Err NoAnswer.ReadFault → IsFault (F.asked files.new) (F.begun files.new) name.now (F.faults files.old) (F.faults files.new) }
     ensures still { result ≡ Err NoAnswer.ReadFault → steps.new ≡ steps.old }
     ensures unread { F.text_of files.old name.now ≡ missing → steps.new ≡ steps.old }
@@ -146,6 +146,7 @@ const USAGE: &[u8] = b"usage: sparrow COMMAND [OPTION] WORD..\n";
 /// Writes the bytes, and answers `status`, or `WriteFault` where a write failed.
 fn write_out<W: Sink>(out: &mut W, bytes: &[u8], status: Status) -> Status
     requires { status ≢ Status.WriteFault }
+    ensures quiet { result ≢ Status.WriteFault → W.faults out.new ≡ W.faults out.old }
     ensures room { W.failing out.old ≡ Some [] → (left : ℕ) → W.room out.old ≡ Some left → length bytes.now ≤ left → result ≡ status }
     ensures written { IsWriting result status bytes.now (W.written out.old) (W.written out.new) (W.faults out.old) (W.faults out.new) }
 {
@@ -170,6 +171,10 @@ pub fn run<F: Files, W: Sink, L: Ledger>(
         (record { asked = F.asked files.old; begun = F.begun files.old; at = F.at files.old; read_faults = F.faults files.old; written = W.written out.old; write_faults = W.faults out.old })
         (record { asked = F.asked files.new; begun = F.begun files.new; at = F.at files.new; read_faults = F.faults files.new; written = W.written out.new; write_faults = W.faults out.new })
         result }
+    // The count of faults of the files rises only where a read of them ended the run, that of the sink only where a write did.
+    ensures quiet_files { result ≢ Status.ReadFault → F.faults files.new ≡ F.faults files.old }
+    ensures quiet_sink { result ≢ Status.WriteFault → W.faults out.new ≡ W.faults out.old }
+
     ensures unmoved { WithoutSteps result (steps.new ≡ steps.old) }
     ensures steps { (name : List ℕ) → file_of words.now ≡ Some name → IfHeld (F.text_of files.old name) (λ text. IsStepped text steps.old steps.new) }
 

@@ -10,8 +10,6 @@
 mod command;
 mod command_line;
 mod report;
-#[cfg(test)]
-mod tests;
 
 ghost use Rattle.std.specs.Prelude.{◌≡◌, ◌<◌};
 ghost use Rattle.sparrow.specs.Run.{Ends, exit_status};

@@ -1,9 +1,9 @@
 //! The report: the lines of alarms in order, each once, and their count.
 
-ghost use Rattle.std.specs.Prelude.{◌≡◌, IfOk, OnOk, map, string_bytes, length};
+ghost use Rattle.std.specs.Prelude.{◌≡◌, IfOk, OnOk, map, string_bytes};
 ghost use Rattle.std.specs.BTreeSet.{insert_key};
 ghost use Rattle.std.specs.List.{flat_map};
-ghost use Rattle.sparrow.specs.Report.{kind_rank, line_text, overrun_text, zero_text, line_of, line_cmp, report_text, lines_of, count_text, text_of};
+ghost use Rattle.sparrow.specs.Report.{kind_rank, line_text, overrun_text, zero_text, line_of, line_cmp, Lists, count_text, text_of};
 ghost use Rattle.sparrow.specs.Line.{seen, rank_number};
 
 use sp_scalars::{Alarm, AlarmKind};
@@ -131,8 +131,7 @@ pub struct Report {
 
 /// The report of alarms: a line for each, sorted by line, column, kind and bytes, each once, and then their count.
 pub fn make_report(alloc: Global, name: &str, alarms: &[Alarm]) -> Result<Report, AllocError>
-    ensures text { IfOk result (λ r. string_bytes r.text ≡ report_text (lines_of name.now alarms.now)) }
-    ensures count { IfOk result (λ r. r.count ≡ length (lines_of name.now alarms.now)) }
+    ensures { IfOk result (λ r. Lists name.now alarms.now (string_bytes r.text) r.count) }
 {
     let mut lines = BTreeSet::new(alloc);
     for alarm in alarms {
