@@ -6,17 +6,16 @@ top=$(cd "$(dirname "$0")/.." && pwd)
 . "$top/bench/room.sh"
 make_room sparse sp_lattice sp_interval sp_dense sp_deps sp_sparse
 
-# The program takes the systems over intervals from the tests of sp_sparse, with their proofs.
-tests=$top/crates/sp_sparse
+# The program takes the systems over intervals from engine_rows, with their definitions and proofs.
+rows=$top/crates/engine_rows
 folder=$room/crates/sparse_bench
-sed 's/pub(crate) /pub /' "$tests/src/tests/intervals.rt" >"$folder/src/intervals.rt"
+cp "$rows/src/systems.rt" "$folder/src/systems.rt"
 rm -rf "$folder/proofs" "$folder/specs"
 mkdir -p "$folder/proofs/main" "$folder/specs"
 cp "$top/bench/sparse/main.antt.in" "$folder/proofs/main/Invariants.antt"
-cp -R "$tests/proofs/tests/intervals" "$folder/proofs/intervals"
-find "$folder/proofs/intervals" -name '*.antt' -exec sed -i 's/sp_sparse\.proofs\.tests\.intervals/sparse_bench.proofs.intervals/' {} +
-: >"$folder/proofs/Lib.antt"
-: >"$folder/specs/Lib.antt"
+cp -R "$rows/proofs/systems" "$rows/proofs/SystemLaws.antt" "$rows/proofs/Listed.antt" "$rows/proofs/Lib.antt" "$folder/proofs/"
+cp "$rows"/specs/*.antt "$folder/specs/"
+find "$folder" -name out -prune -o \( -name '*.antt' -o -name '*.rt' \) -exec sed -i 's/Rattle\.engine_rows\./Rattle.sparse_bench./' {} +
 (cd "$folder" && rt run -- blocks 1000) >"$room/built.txt"
 
 line='%-7s %8s %13s %12s %12s %8s %12s %7s\n'

@@ -7,4 +7,3 @@ mod Writing
 mod Joining
 mod Evaluated
 mod Visiting
-mod RingLaws

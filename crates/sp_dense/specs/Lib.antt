@@ -2,4 +2,3 @@ pub mod Solution
 pub mod Cause
 pub mod Waiting
 pub mod Visit
-pub mod Examples

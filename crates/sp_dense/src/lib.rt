@@ -16,8 +16,6 @@ mod edges;
 mod evaluation;
 mod solver;
 mod tables;
-#[cfg(test)]
-mod tests;
 mod worklist;
 
 pub use solver::{DenseError, MOST_CELLS, solve_dense};

@@ -5,4 +5,3 @@ pub mod Progress
 pub mod Cause
 pub mod Walk
 pub mod Users
-pub mod Examples

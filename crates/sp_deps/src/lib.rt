@@ -28,8 +28,6 @@
 
 mod collect;
 mod earlier;
-#[cfg(test)]
-mod tests;
 mod triples;
 mod users;
 mod walk;

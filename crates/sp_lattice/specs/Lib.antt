@@ -1,6 +1,5 @@
 pub mod Ladder
 pub mod Lattice
-pub mod Numbers
 pub mod Range
 pub mod Relation
 pub mod System

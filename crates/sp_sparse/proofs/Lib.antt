@@ -11,5 +11,4 @@ mod Sending
 mod Windows
 mod CellLaws
 mod Turns
-pub mod SystemLaws
 pub mod Told

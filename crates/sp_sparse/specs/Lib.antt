@@ -3,4 +3,3 @@ pub mod Grid
 pub mod Engine
 pub mod Queue
 pub mod Solution
-pub mod Intervals

@@ -29,8 +29,6 @@ mod pickers;
 mod places;
 mod solver;
 mod tables;
-#[cfg(test)]
-mod tests;
 mod waiting;
 
 pub use pickers::{First, Last, Picker};

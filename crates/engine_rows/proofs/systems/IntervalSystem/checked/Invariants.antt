@@ -1,0 +1,6 @@
+use Rattle.std.proofs.Common.{length}
+use Rattle.engine_rows.specs.Intervals.{AreNodes}
+use Rattle.engine_rows.proofs.systems.IntervalSystem.checked.Given as goal
+
+abbrev pub invariant-loop-node : goal.invariant-loop-node
+invariant-loop-node l = AreNodes (length l.into.items) l.count l.locations l.into.items l.defs.items l.uses.items l.begins.items l.adds.items

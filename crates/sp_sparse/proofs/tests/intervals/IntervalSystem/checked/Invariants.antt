@@ -1,6 +1,0 @@
-use Rattle.std.proofs.Common.{length}
-use Rattle.sp_sparse.specs.Intervals.{AreNodes}
-use Rattle.sp_sparse.proofs.tests.intervals.IntervalSystem.checked.Given as goal
-
-abbrev pub invariant-loop-node : goal.invariant-loop-node
-invariant-loop-node l = AreNodes (length l.into.items) l.count l.locations l.into.items l.defs.items l.uses.items l.begins.items l.adds.items
