@@ -161,7 +161,7 @@ module _ (nodes locations passing : ℕ) (kept_back : List (ℕ × ℕ × ℕ)) 
   made_rises n i j low formed le =
       hull-monotone (snapped points (begins n)) (snapped points (added int_range i (adds n))) (snapped points (begins n)) (snapped points (added int_range j (adds n)))
       (interval_le-refl (snapped points (begins n)))
-      (snapped-monotone points (added int_range i (adds n)) (added int_range j (adds n)) (added-monotone int_range i (adds n) j (adds n) formed (formed_by (adds n) (fit n low).adds_formed) le (interval_le-refl (adds n))))
+      (snapped-monotone points (added int_range i (adds n)) (added int_range j (adds n)) (added-monotone int_range i (adds n) j (adds n) int_is formed (formed_by (adds n) (fit n low).adds_formed) le (interval_le-refl (adds n))))
 
   pub intervals_system_lawful : IsSystem interval_order (intervals_system nodes locations passing kept_back points into defs uses begins adds)
   intervals_system_lawful = record {

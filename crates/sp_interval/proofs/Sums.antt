@@ -36,23 +36,23 @@ added-least kind i j h g = record { exact = sum_of i j; is_hull = sum_of-hull i 
 pub subtracted-least : (kind : Range) (i j : Interval) → IsFormed i → IsFormed j → IsLeastResult IsDifference kind i j (subtracted kind i j)
 subtracted-least kind i j h g = record { exact = difference_of i j; is_hull = difference_of-hull i j (ordered_from_formed i h) (ordered_from_formed j g); is_ranged = refl }
 
-sum_of-ordered : (i j : Interval) → IsFormed i → IsFormed j → IsOrdered (sum_of i j)
+pub sum_of-ordered : (i j : Interval) → IsOrdered i → IsOrdered j → IsOrdered (sum_of i j)
 sum_of-ordered Empty j h g = tt
 sum_of-ordered (Of a b) Empty h g = tt
-sum_of-ordered (Of a b) (Of c d) h g = omega (arith, ints, h.0, g.0)
+sum_of-ordered (Of a b) (Of c d) h g = omega (arith, ints, h, g)
 
-difference_of-ordered : (i j : Interval) → IsFormed i → IsFormed j → IsOrdered (difference_of i j)
+pub difference_of-ordered : (i j : Interval) → IsOrdered i → IsOrdered j → IsOrdered (difference_of i j)
 difference_of-ordered Empty j h g = tt
 difference_of-ordered (Of a b) Empty h g = tt
-difference_of-ordered (Of a b) (Of c d) h g = omega (arith, ints, h.0, g.0)
+difference_of-ordered (Of a b) (Of c d) h g = omega (arith, ints, h, g)
 
 pub added-formed : (kind : Range) (i j : Interval) → IsIntegerRange kind → IsFormed i → IsFormed j → IsFormed (added kind i j)
-added-formed kind i j range h g = ranged-formed kind (sum_of i j) range (sum_of-ordered i j h g)
+added-formed kind i j range h g = ranged-formed kind (sum_of i j) range (sum_of-ordered i j (ordered_from_formed i h) (ordered_from_formed j g))
 
 pub subtracted-formed : (kind : Range) (i j : Interval) → IsIntegerRange kind → IsFormed i → IsFormed j → IsFormed (subtracted kind i j)
-subtracted-formed kind i j range h g = ranged-formed kind (difference_of i j) range (difference_of-ordered i j h g)
+subtracted-formed kind i j range h g = ranged-formed kind (difference_of i j) range (difference_of-ordered i j (ordered_from_formed i h) (ordered_from_formed j g))
 
-sum_of-monotone : (i j i' j' : Interval) → interval_le i i' ≡ true → interval_le j j' ≡ true → interval_le (sum_of i j) (sum_of i' j') ≡ true
+pub sum_of-monotone : (i j i' j' : Interval) → interval_le i i' ≡ true → interval_le j j' ≡ true → interval_le (sum_of i j) (sum_of i' j') ≡ true
 sum_of-monotone Empty j i' j' p q = refl
 sum_of-monotone (Of a b) Empty i' j' p q = refl
 sum_of-monotone (Of a b) (Of c d) Empty j' p q = absurd (false≢true p)
@@ -62,7 +62,7 @@ sum_of-monotone (Of a b) (Of c d) (Of e f) (Of k l) p q =
     let t = bounds_from_le c d k l q in
     le_from_bounds (a +ℤ c) (b +ℤ d) (e +ℤ k) (f +ℤ l) (omega (arith, ints, s.0, t.0)) (omega (arith, ints, s.1, t.1))
 
-difference_of-monotone : (i j i' j' : Interval) → interval_le i i' ≡ true → interval_le j j' ≡ true → interval_le (difference_of i j) (difference_of i' j') ≡ true
+pub difference_of-monotone : (i j i' j' : Interval) → interval_le i i' ≡ true → interval_le j j' ≡ true → interval_le (difference_of i j) (difference_of i' j') ≡ true
 difference_of-monotone Empty j i' j' p q = refl
 difference_of-monotone (Of a b) Empty i' j' p q = refl
 difference_of-monotone (Of a b) (Of c d) Empty j' p q = absurd (false≢true p)
@@ -72,8 +72,8 @@ difference_of-monotone (Of a b) (Of c d) (Of e f) (Of k l) p q =
     let t = bounds_from_le c d k l q in
     le_from_bounds (a -ℤ d) (b -ℤ c) (e -ℤ l) (f -ℤ k) (omega (arith, ints, s.0, t.1)) (omega (arith, ints, s.1, t.0))
 
-pub added-monotone : (kind : Range) (i j i' j' : Interval) → IsFormed i → IsFormed j → interval_le i i' ≡ true → interval_le j j' ≡ true → interval_le (added kind i j) (added kind i' j') ≡ true
-added-monotone kind i j i' j' h g p q = ranged-monotone kind (sum_of i j) (sum_of i' j') (sum_of-monotone i j i' j' p q)
+pub added-monotone : (kind : Range) (i j i' j' : Interval) → IsIntegerRange kind → IsFormed i → IsFormed j → interval_le i i' ≡ true → interval_le j j' ≡ true → interval_le (added kind i j) (added kind i' j') ≡ true
+added-monotone kind i j i' j' range h g p q = ranged-monotone kind (sum_of i j) (sum_of i' j') range (sum_of-ordered i j (ordered_from_formed i h) (ordered_from_formed j g)) (sum_of-monotone i j i' j' p q)
 
-pub subtracted-monotone : (kind : Range) (i j i' j' : Interval) → IsFormed i → IsFormed j → interval_le i i' ≡ true → interval_le j j' ≡ true → interval_le (subtracted kind i j) (subtracted kind i' j') ≡ true
-subtracted-monotone kind i j i' j' h g p q = ranged-monotone kind (difference_of i j) (difference_of i' j') (difference_of-monotone i j i' j' p q)
+pub subtracted-monotone : (kind : Range) (i j i' j' : Interval) → IsIntegerRange kind → IsFormed i → IsFormed j → interval_le i i' ≡ true → interval_le j j' ≡ true → interval_le (subtracted kind i j) (subtracted kind i' j') ≡ true
+subtracted-monotone kind i j i' j' range h g p q = ranged-monotone kind (difference_of i j) (difference_of i' j') range (difference_of-ordered i j (ordered_from_formed i h) (ordered_from_formed j g)) (difference_of-monotone i j i' j' p q)

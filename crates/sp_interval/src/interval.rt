@@ -1,15 +1,17 @@
 //! The type, the range rule, and the lattice of intervals under inclusion.
 ghost use Rattle.std.specs.Prelude.{◌≡◌, ℤ};
 ghost use Rattle.sp_lattice.specs.Range.{IsIntegerRange};
-ghost use Rattle.sp_interval.specs.Interval.{Holds, IsFormed, InRange, between, hull, ranged};
+ghost use Rattle.sp_interval.specs.Interval.{Holds, HoldsResidues, IsFormed, InRange, IsRanged, between, hull, interval_le, ranged};
+ghost use Rattle.sp_interval.specs.declared.interval.Interval.TheVariants.{Of};
 
+use crate::wide::{Wide, wrapped};
 use sp_lattice::{Lattice, Range};
 use std::alloc::{AllocError, Global};
 
 /// An interval of whole numbers: none, or those from `lo` to `hi`.
 ///
-/// An interval is formed where `lo` is at most `hi`, and both lie from -2^63 to 2^64-1 (`IsFormed` of
-/// `specs.Interval`). Each call needs formed intervals, and gives one.
+/// An interval is formed where `lo` is at most `hi`, and both lie from -2^63 to 2^64-1
+/// (`IsFormed` of `specs.Interval`). Each call needs formed intervals, and gives one.
 #[derive(Debug, Clone, Copy, PartialEq, Eq)]
 pub enum Interval {
     Empty,
@@ -18,11 +20,17 @@ pub enum Interval {
 
 impl Interval {
     /// The numbers that a conversion to the type gives: the range rule alone (C90 6.2.1.2).
+    ///
+    /// An interval within the range stays. For an unsigned type, where each member is past the
+    /// range by the same multiple of 2^width, that multiple is taken away. Every other interval
+    /// becomes the whole range.
     pub fn convert(self, kind: Range) -> Interval
         requires range { IsIntegerRange kind }
         requires formed { IsFormed self }
         ensures value { result ≡ ranged kind self }
+        ensures by_members { IsRanged kind self result }
         ensures holds { (v : ℤ) → Holds self v → InRange kind v → Holds result v }
+        ensures holds_residues { HoldsResidues kind self result }
         ensures formed { IsFormed result }
     {
         self.ranged(kind)
@@ -39,21 +47,31 @@ impl Interval {
         }
     }
 
-    // The range rule: an interval that isn't within the range becomes the whole range.
+    // The range rule: an interval within the range stays.
     pub(crate) fn ranged(self, kind: Range) -> Interval
+        requires { IsIntegerRange kind }
         ensures { result ≡ ranged kind self }
     {
         match self {
-            Interval::Of { lo, hi } if lo < kind.lo || kind.hi < hi => Interval::Of {
-                lo: kind.lo,
-                hi: kind.hi,
-            },
+            Interval::Of { lo, hi } if !self.is_within(kind) => {
+                wrapped(Wide::of(lo), Wide::of(hi), kind)
+            }
             within => within,
         }
     }
 
-    // The least interval above both.
-    pub(crate) fn hull(self, other: Interval) -> Interval
+    // Whether each member is within the range.
+    fn is_within(self, kind: Range) -> bool
+        ensures { result ≡ interval_le self (Of kind.lo kind.hi) }
+    {
+        match self {
+            Interval::Empty => true,
+            Interval::Of { lo, hi } => kind.lo <= lo && hi <= kind.hi,
+        }
+    }
+
+    /// The least interval that holds the members of both.
+    pub fn hull(self, other: Interval) -> Interval
         ensures { result ≡ hull self other }
     {
         match (self, other) {

@@ -10,13 +10,9 @@ use Rattle.sp_interval.specs.declared.interval.Interval.{Interval}
 use Rattle.sp_interval.specs.declared.interval.Interval.TheVariants.{Empty, Of}
 use Rattle.sp_interval.specs.Interval.{interval_le, IsFormed, IsHeld, met, refined, snapped, whole}
 use Rattle.sp_interval.specs.Inclusion.{interval_le-refl, bounds_from_le}
-use Rattle.sp_interval.proofs.Hulls.{whole-above}
 use Rattle.sp_lattice.proofs.Snaps.{int_le_true, le_from_int_le}
-use Rattle.sp_interval.proofs.Betweens.{between-monotone}
-use Rattle.sp_interval.proofs.Meets.{met-monotone, met-formed, refined-monotone, refined-formed}
-use Rattle.sp_interval.proofs.Sums.{added-monotone, added-formed}
-use Rattle.sp_interval.proofs.Quotients.{divided-monotone, divided-formed}
-use Rattle.sp_interval.proofs.Snapping.{snapped-monotone, snapped-formed, snapped-held, held-formed, int-held}
+use Rattle.sp_interval.specs.Laws.{IsRangeLawful}
+use Rattle.sp_interval.proofs.AllLaws.{interval_laws}
 use Rattle.sp_small.specs.declared.syntax.Atom.{Atom}
 use Rattle.sp_small.specs.declared.syntax.Atom.TheVariants.{Scalar, Number}
 use Rattle.sp_small.specs.declared.syntax.Sum.{Sum}
@@ -37,6 +33,9 @@ ltb_tells a b = elim (leb_tells (suc a) b) [ inl t ↦ inl (t.0, omega (arith, t
 -- int is an integer range
 int_is : IsIntegerRange int_range
 int_is = search rules
+
+int_laws : IsRangeLawful int_range
+int_laws = interval_laws.with_range int_range int_is
 
 every_int-formed : IsFormed every_int
 every_int-formed = (search (rules, ints), (search (rules, ints), search (rules, ints)), (search (rules, ints), search (rules, ints)))
@@ -61,11 +60,11 @@ uncrossed-formed (Of a b) h = by_test (bounds_from_le a b lowest highest h) (int
 uncrossed-monotone : (i j : Interval) → interval_le i j ≡ true → interval_le (uncrossed i) (uncrossed j) ≡ true
 uncrossed-monotone Empty j h = refl
 uncrossed-monotone (Of a b) Empty h = absurd cc
-uncrossed-monotone (Of a b) (Of c d) h = let k = bounds_from_le a b c d h in between-monotone a b c d k.0 k.1
+uncrossed-monotone (Of a b) (Of c d) h = let k = bounds_from_le a b c d h in interval_laws.between_monotone a b c d k.0 k.1
 
 uncrossed-held : (points : List ℤ) (i : Interval) → IsHeld points i → uncrossed i ≡ i
 uncrossed-held points Empty h = refl
-uncrossed-held points (Of a b) h = rw (int_le_true a b (held-formed points (Of a b) h).0) refl
+uncrossed-held points (Of a b) h = rw (int_le_true a b ((interval_laws.held points).formed (Of a b) h).0) refl
 
 pub scalars-formed : (count : ℕ) (s : ℕ → Interval) → ((l : ℕ) → l < count → interval_le (s l) whole ≡ true) → AllFormed (scalars_in count s)
 scalars-formed count s under l = by_test (ltb_tells l count)
@@ -100,13 +99,13 @@ value_of_atom-monotone s t (Number n) h = interval_le-refl (number_value n)
 
 value_of-formed : (s : Scalars) (v : Sum) → AllFormed s → IsFormed (value_of s v)
 value_of-formed s (One a) h = value_of_atom-formed s a h
-value_of-formed s (Plus a b) h = added-formed int_range (value_of_atom s a) (value_of_atom s b) int_is (value_of_atom-formed s a h) (value_of_atom-formed s b h)
-value_of-formed s (Over a place b) h = divided-formed int_range (value_of_atom s a) (value_of_atom s b) int_is (value_of_atom-formed s a h) (value_of_atom-formed s b h)
+value_of-formed s (Plus a b) h = int_laws.added_laws.formed (value_of_atom s a) (value_of_atom s b) (value_of_atom-formed s a h) (value_of_atom-formed s b h)
+value_of-formed s (Over a place b) h = int_laws.divided_laws.formed (value_of_atom s a) (value_of_atom s b) (value_of_atom-formed s a h) (value_of_atom-formed s b h)
 
 value_of-monotone : (s t : Scalars) (v : Sum) → AllFormed s → AllBelowThose s t → interval_le (value_of s v) (value_of t v) ≡ true
 value_of-monotone s t (One a) f h = value_of_atom-monotone s t a h
-value_of-monotone s t (Plus a b) f h = added-monotone int_range (value_of_atom s a) (value_of_atom s b) (value_of_atom t a) (value_of_atom t b) (value_of_atom-formed s a f) (value_of_atom-formed s b f) (value_of_atom-monotone s t a h) (value_of_atom-monotone s t b h)
-value_of-monotone s t (Over a place b) f h = divided-monotone int_range (value_of_atom s a) (value_of_atom s b) (value_of_atom t a) (value_of_atom t b) (value_of_atom-formed s a f) (value_of_atom-formed s b f) (value_of_atom-monotone s t a h) (value_of_atom-monotone s t b h)
+value_of-monotone s t (Plus a b) f h = int_laws.added_laws.monotone (value_of_atom s a) (value_of_atom s b) (value_of_atom t a) (value_of_atom t b) (value_of_atom-formed s a f) (value_of_atom-formed s b f) (value_of_atom-monotone s t a h) (value_of_atom-monotone s t b h)
+value_of-monotone s t (Over a place b) f h = int_laws.divided_laws.monotone (value_of_atom s a) (value_of_atom s b) (value_of_atom t a) (value_of_atom t b) (value_of_atom-formed s a f) (value_of_atom-formed s b f) (value_of_atom-monotone s t a h) (value_of_atom-monotone s t b h)
 
 -- ---- conditions
 
@@ -119,32 +118,32 @@ two-monotone true i j i' j' f g = f
 two-monotone false i j i' j' f g = g
 
 refined_by-formed : (op : Relation) (s : Scalars) (x : ℕ) (a : Atom) (l : ℕ) → AllFormed s → IsFormed (refined_by op s x a l)
-refined_by-formed op s x (Number n) l h = two-formed (nat_eq l x) (refined op (s x) (number_value n)) (s l) (refined-formed op (s x) (number_value n) (h x) (number_value-formed n)) (h l)
+refined_by-formed op s x (Number n) l h = two-formed (nat_eq l x) (refined op (s x) (number_value n)) (s l) ((interval_laws.refined_laws op).formed (s x) (number_value n) (h x) (number_value-formed n)) (h l)
 refined_by-formed op s x (Scalar y) l h =
-    let left = refined-formed op (s x) (s y) (h x) (h y) in
-    let right = refined-formed (flipped op) (s y) (s x) (h y) (h x) in
+    let left = (interval_laws.refined_laws op).formed (s x) (s y) (h x) (h y) in
+    let right = (interval_laws.refined_laws (flipped op)).formed (s y) (s x) (h y) (h x) in
     two-formed (nat_eq l x)
     (cond (nat_eq l y) (met (refined op (s x) (s y)) (refined (flipped op) (s y) (s x))) (refined op (s x) (s y)))
     (cond (nat_eq l y) (refined (flipped op) (s y) (s x)) (s l))
-    (two-formed (nat_eq l y) (met (refined op (s x) (s y)) (refined (flipped op) (s y) (s x))) (refined op (s x) (s y)) (met-formed (refined op (s x) (s y)) (refined (flipped op) (s y) (s x)) left right) left)
+    (two-formed (nat_eq l y) (met (refined op (s x) (s y)) (refined (flipped op) (s y) (s x))) (refined op (s x) (s y)) (interval_laws.met_laws.formed (refined op (s x) (s y)) (refined (flipped op) (s y) (s x)) left right) left)
     (two-formed (nat_eq l y) (refined (flipped op) (s y) (s x)) (s l) right (h l))
 
 refined_by-monotone : (op : Relation) (s t : Scalars) (x : ℕ) (a : Atom) (l : ℕ) → AllFormed s → AllBelowThose s t → interval_le (refined_by op s x a l) (refined_by op t x a l) ≡ true
 refined_by-monotone op s t x (Number n) l f h =
     two-monotone (nat_eq l x) (refined op (s x) (number_value n)) (s l) (refined op (t x) (number_value n)) (t l)
-    (refined-monotone op (s x) (number_value n) (t x) (number_value n) (f x) (number_value-formed n) (h x) (interval_le-refl (number_value n))) (h l)
+    ((interval_laws.refined_laws op).monotone (s x) (number_value n) (t x) (number_value n) (f x) (number_value-formed n) (h x) (interval_le-refl (number_value n))) (h l)
 refined_by-monotone op s t x (Scalar y) l f h =
-    let left = refined-monotone op (s x) (s y) (t x) (t y) (f x) (f y) (h x) (h y) in
-    let right = refined-monotone (flipped op) (s y) (s x) (t y) (t x) (f y) (f x) (h y) (h x) in
-    let formed = refined-formed op (s x) (s y) (f x) (f y) in
-    let formed' = refined-formed (flipped op) (s y) (s x) (f y) (f x) in
+    let left = (interval_laws.refined_laws op).monotone (s x) (s y) (t x) (t y) (f x) (f y) (h x) (h y) in
+    let right = (interval_laws.refined_laws (flipped op)).monotone (s y) (s x) (t y) (t x) (f y) (f x) (h y) (h x) in
+    let formed = (interval_laws.refined_laws op).formed (s x) (s y) (f x) (f y) in
+    let formed' = (interval_laws.refined_laws (flipped op)).formed (s y) (s x) (f y) (f x) in
     two-monotone (nat_eq l x)
     (cond (nat_eq l y) (met (refined op (s x) (s y)) (refined (flipped op) (s y) (s x))) (refined op (s x) (s y)))
     (cond (nat_eq l y) (refined (flipped op) (s y) (s x)) (s l))
     (cond (nat_eq l y) (met (refined op (t x) (t y)) (refined (flipped op) (t y) (t x))) (refined op (t x) (t y)))
     (cond (nat_eq l y) (refined (flipped op) (t y) (t x)) (t l))
     (two-monotone (nat_eq l y) (met (refined op (s x) (s y)) (refined (flipped op) (s y) (s x))) (refined op (s x) (s y)) (met (refined op (t x) (t y)) (refined (flipped op) (t y) (t x))) (refined op (t x) (t y))
-    (met-monotone (refined op (s x) (s y)) (refined (flipped op) (s y) (s x)) (refined op (t x) (t y)) (refined (flipped op) (t y) (t x)) formed formed' left right) left)
+    (interval_laws.met_laws.monotone (refined op (s x) (s y)) (refined (flipped op) (s y) (s x)) (refined op (t x) (t y)) (refined (flipped op) (t y) (t x)) formed formed' left right) left)
     (two-monotone (nat_eq l y) (refined (flipped op) (s y) (s x)) (s l) (refined (flipped op) (t y) (t x)) (t l) right (h l))
 
 -- ---- effects
@@ -156,12 +155,12 @@ module _ (points : List ℤ) (ladder : IsLadder points) where
   effect-formed Exit s l h = h l
   effect-formed Skip s l h = h l
   effect-formed Return s l h = h l
-  effect-formed (Assign x v) s l h = two-formed (nat_eq l x) (snapped points (value_of s v)) (s l) (snapped-formed points (value_of s v) ladder (value_of-formed s v h)) (h l)
+  effect-formed (Assign x v) s l h = two-formed (nat_eq l x) (snapped points (value_of s v)) (s l) ((interval_laws.on_ladder points ladder).snapped_formed (value_of s v) (value_of-formed s v h)) (h l)
   effect-formed (Store length index place v) s l h = h l
-  effect-formed (Assume c) s l h = two-formed (names c l) (snapped points (refined_by c.relation s c.scalar c.other l)) (s l) (snapped-formed points (refined_by c.relation s c.scalar c.other l) ladder (refined_by-formed c.relation s c.scalar c.other l h)) (h l)
+  effect-formed (Assume c) s l h = two-formed (names c l) (snapped points (refined_by c.relation s c.scalar c.other l)) (s l) ((interval_laws.on_ladder points ladder).snapped_formed (refined_by c.relation s c.scalar c.other l) (refined_by-formed c.relation s c.scalar c.other l h)) (h l)
 
   pub effect-capped : (c : Command) (s : Scalars) (l : ℕ) → AllFormed s → interval_le (effect_of points c s l) whole ≡ true
-  effect-capped c s l h = whole-above (effect_of points c s l) (effect-formed c s l h)
+  effect-capped c s l h = interval_laws.below_whole (effect_of points c s l) (effect-formed c s l h)
 
   two-held : (t : Bool) (i j : Interval) → IsHeld points i → IsHeld points j → IsHeld points (cond t i j)
   two-held true i j f g = f
@@ -169,13 +168,13 @@ module _ (points : List ℤ) (ladder : IsLadder points) where
 
   pub effect-held : (c : Command) (s : Scalars) (l : ℕ) → ((k : ℕ) → IsHeld points (s k)) → IsHeld points (effect_of points c s l)
   effect-held Start s l h = h l
-  effect-held Entry s l h = int-held points ladder
+  effect-held Entry s l h = (interval_laws.on_ladder points ladder).range_held int_range int_is
   effect-held Exit s l h = h l
   effect-held Skip s l h = h l
   effect-held Return s l h = h l
-  effect-held (Assign x v) s l h = two-held (nat_eq l x) (snapped points (value_of s v)) (s l) (snapped-held points (value_of s v) ladder (value_of-formed s v (λ k. held-formed points (s k) (h k)))) (h l)
+  effect-held (Assign x v) s l h = two-held (nat_eq l x) (snapped points (value_of s v)) (s l) ((interval_laws.on_ladder points ladder).snapped_held (value_of s v) (value_of-formed s v (λ k. (interval_laws.held points).formed (s k) (h k)))) (h l)
   effect-held (Store length index place v) s l h = h l
-  effect-held (Assume c) s l h = two-held (names c l) (snapped points (refined_by c.relation s c.scalar c.other l)) (s l) (snapped-held points (refined_by c.relation s c.scalar c.other l) ladder (refined_by-formed c.relation s c.scalar c.other l (λ k. held-formed points (s k) (h k)))) (h l)
+  effect-held (Assume c) s l h = two-held (names c l) (snapped points (refined_by c.relation s c.scalar c.other l)) (s l) ((interval_laws.on_ladder points ladder).snapped_held (refined_by c.relation s c.scalar c.other l) (refined_by-formed c.relation s c.scalar c.other l (λ k. (interval_laws.held points).formed (s k) (h k)))) (h l)
 
 pub effect-monotone : (points : List ℤ) (c : Command) (s t : Scalars) (l : ℕ) → AllFormed s → AllBelowThose s t → interval_le (effect_of points c s l) (effect_of points c t l) ≡ true
 effect-monotone points Start s t l f h = h l
@@ -183,6 +182,6 @@ effect-monotone points Entry s t l f h = interval_le-refl every_int
 effect-monotone points Exit s t l f h = h l
 effect-monotone points Skip s t l f h = h l
 effect-monotone points Return s t l f h = h l
-effect-monotone points (Assign x v) s t l f h = two-monotone (nat_eq l x) (snapped points (value_of s v)) (s l) (snapped points (value_of t v)) (t l) (snapped-monotone points (value_of s v) (value_of t v) (value_of-monotone s t v f h)) (h l)
+effect-monotone points (Assign x v) s t l f h = two-monotone (nat_eq l x) (snapped points (value_of s v)) (s l) (snapped points (value_of t v)) (t l) ((interval_laws.held points).snapped_monotone (value_of s v) (value_of t v) (value_of-monotone s t v f h)) (h l)
 effect-monotone points (Store length index place v) s t l f h = h l
-effect-monotone points (Assume c) s t l f h = two-monotone (names c l) (snapped points (refined_by c.relation s c.scalar c.other l)) (s l) (snapped points (refined_by c.relation t c.scalar c.other l)) (t l) (snapped-monotone points (refined_by c.relation s c.scalar c.other l) (refined_by c.relation t c.scalar c.other l) (refined_by-monotone c.relation s t c.scalar c.other l f h)) (h l)
+effect-monotone points (Assume c) s t l f h = two-monotone (names c l) (snapped points (refined_by c.relation s c.scalar c.other l)) (s l) (snapped points (refined_by c.relation t c.scalar c.other l)) (t l) ((interval_laws.held points).snapped_monotone (refined_by c.relation s c.scalar c.other l) (refined_by c.relation t c.scalar c.other l) (refined_by-monotone c.relation s t c.scalar c.other l f h)) (h l)

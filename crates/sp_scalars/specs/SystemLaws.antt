@@ -7,7 +7,7 @@ use Rattle.sp_interval.specs.declared.interval.Interval.{Interval}
 use Rattle.sp_interval.specs.declared.interval.Interval.TheVariants.{Empty}
 use Rattle.sp_interval.specs.Interval.{interval_order, whole}
 use Rattle.sp_interval.specs.Inclusion.{interval_le-refl}
-use Rattle.sp_interval.proofs.Snapping.{held-formed, hull-held, rank-rises, rank-bound}
+use Rattle.sp_interval.proofs.AllLaws.{interval_laws}
 use Rattle.sp_small.specs.declared.syntax.Edge.{Edge}
 use Rattle.sp_small.specs.declared.syntax.Command.{Command}
 use Rattle.sp_small.specs.Lowering.{IsWithin}
@@ -33,14 +33,14 @@ module _ (commands : List Command) (edges : List Edge) (scalars : ℕ) (points :
     defs_below = λ n h. below_numbers scalars;
     uses_ascend = λ n h. numbers_increase scalars;
     uses_below = λ n h. below_numbers scalars;
-    monotone = λ n s t h held below under l inside. effect-monotone points (command_at commands n) (scalars_in scalars s) (scalars_in scalars t) l (λ k. held-formed points (scalars_in scalars s k) (scalars-held points scalars s held k)) (scalars-monotone scalars s t below);
+    monotone = λ n s t h held below under l inside. effect-monotone points (command_at commands n) (scalars_in scalars s) (scalars_in scalars t) l (λ k. (interval_laws.held points).formed (scalars_in scalars s k) (scalars-held points scalars s held k)) (scalars-monotone scalars s t below);
     capped = λ n h l inside. effect-capped points ladder (command_at commands n) (scalars_in scalars (λ k. whole)) l (scalars-formed scalars (λ k. whole) (λ k less. interval_le-refl whole));
     bottom_held = tt;
-    join_held = λ l a b inside ha hb ua ub. hull-held points a b ha hb;
+    join_held = λ l a b inside ha hb ua ub. (interval_laws.held points).hull_held a b ha hb;
     effect_held = λ n s h held below l inside. effect-held points ladder (command_at commands n) (scalars_in scalars s) l (scalars-held points scalars s held);
     frame = λ n l s h inside below outside. absurd (let t = has_number scalars l inside in cc);
     support = λ n l s t h us ut same defined. ap (λ (u : Scalars). effect_of points (command_at commands n) u l) (fun_ext (same_scalars scalars s t (λ k less. same k (has_number scalars k less))));
-    rises = λ a b ha hb le above. rank-rises points a b ha hb le above;
-    ranked = λ l a inside ha ua. rank-bound points a;
+    rises = λ a b ha hb le above. (interval_laws.held points).rank_rises a b ha hb le above;
+    ranked = λ l a inside ha ua. (interval_laws.held points).rank_most a;
     height_below = omega arith;
   }
