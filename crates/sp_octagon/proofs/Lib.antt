@@ -10,4 +10,7 @@ pub mod Composing
 pub mod HeldLaws
 pub mod OrderLaws
 pub mod Made
+pub mod Proper
+pub mod Closed
+pub mod AllLaws
 pub mod Sound

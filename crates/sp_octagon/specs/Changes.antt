@@ -31,7 +31,10 @@ stands_for x r = r / 2 == x
 
 -- no bound off the diagonal in the rows and columns of x
 abbrev pub forgotten : Entries → ℕ → Entries
-forgotten m x i j = if i == j then m i j else if stands_for x i || stands_for x j then unbounded else m i j
+forgotten m x i j =
+    if i == j then m i j
+    else if stands_for x i || stands_for x j then unbounded
+    else m i j
 
 -- how much what r stands for grows as member x grows by k
 abbrev pub growth : ℕ → ℤ → ℕ → ℤ
@@ -39,7 +42,9 @@ growth x k r = if r == 2 * x then k else if r == 2 * x + 1 then neg_ℤ k else p
 
 -- x becomes x + k: each bound moves by the growth of its column less that of its row
 abbrev pub moved : Entries → ℕ → ℤ → Entries
-moved m x k i j = if int_lt (m i j) unbounded then cut (m i j +ℤ (growth x k j -ℤ growth x k i)) else unbounded
+moved m x k i j =
+    if int_lt (m i j) unbounded then cut (m i j +ℤ (growth x k j -ℤ growth x k i))
+    else unbounded
 
 -- x becomes y + k, where y is another member: x - y is bounded by k from both sides
 abbrev pub tied : Entries → ℕ → ℕ → ℤ → Entries
@@ -49,10 +54,12 @@ tied m x y k = with_pair (with_pair (forgotten m x) (2 * y) (2 * x) k) (2 * x) (
 abbrev pub assigned : Entries → ℕ → ℕ → ℤ → Entries
 assigned m x y k = if x == y then moved m x k else tied m x y k
 
--- x lies in the interval: 2x is at most twice its upper bound, and -2x at most twice the negative of its lower bound
+-- x lies in the interval: 2x is at most twice its upper bound, and -2x at most twice the negative
+-- of its lower bound
 abbrev pub bounded_by : Entries → ℕ → Interval → Entries
 bounded_by m x Empty = m
-bounded_by m x (Of lo hi) = lowered (lowered m (2 * x + 1) (2 * x) (hi +ℤ hi)) (2 * x) (2 * x + 1) (neg_ℤ (lo +ℤ lo))
+bounded_by m x (Of lo hi) =
+    lowered (lowered m (2 * x + 1) (2 * x) (hi +ℤ hi)) (2 * x) (2 * x + 1) (neg_ℤ (lo +ℤ lo))
 
 -- x - y is at most v
 abbrev pub difference_at_most : Entries → ℕ → ℕ → ℤ → Entries
@@ -69,7 +76,8 @@ constrained m x Different y = m
 
 -- the least point of the ladder that isn't below z, none past the greatest point
 abbrev pub snapped_bound : List ℤ → ℤ → ℤ
-snapped_bound points z = if int_lt highest z then unbounded else snapped_up points (int_max lowest z)
+snapped_bound points z =
+    if int_lt highest z then unbounded else snapped_up points (int_max lowest z)
 
 -- a unary entry, which bounds a member's double, becomes twice the snap of its half
 abbrev pub snapped_entries : List ℤ → Entries → Entries
@@ -78,13 +86,15 @@ snapped_entries points m i j =
     else if j == negative i then doubled (snapped_bound points (half (m i j)))
     else snapped_bound points (m i j)
 
--- the whole numbers that the two unary entries of x allow, within the bounds of all that is stored. Where there is
--- no bound, half of `unbounded` lies far outside these
+-- the whole numbers that the two unary entries of x allow, within the bounds of all that is
+-- stored. Where there is no bound, half of `unbounded` lies far outside these
 abbrev pub projected : Entries → ℕ → Interval
 projected m x =
-    between (int_max lowest (neg_ℤ (half (m (2 * x) (2 * x + 1))))) (int_min highest (half (m (2 * x + 1) (2 * x))))
+    between (int_max lowest (neg_ℤ (half (m (2 * x) (2 * x + 1)))))
+    (int_min highest (half (m (2 * x + 1) (2 * x))))
 
--- the unary entries of x allow the whole number v: v is at most half the one, -v at most half the other
+-- the unary entries of x allow the whole number v: v is at most half the one, -v at most half the
+-- other
 pub record Allows (m : Entries) (x : ℕ) (v : ℤ) : Type 0 where
   pub at_most : IsBound (m (2 * x + 1) (2 * x)) → (v +ℤ v) ≤ℤ m (2 * x + 1) (2 * x)
   pub at_least : IsBound (m (2 * x) (2 * x + 1)) → neg_ℤ (v +ℤ v) ≤ℤ m (2 * x) (2 * x + 1)

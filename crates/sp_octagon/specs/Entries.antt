@@ -6,7 +6,8 @@ use Rattle.std.specs.Int.{int_max, int_shr}
 abbrev pub Entries : Type 0
 Entries = ℕ → ℕ → ℤ
 
--- what stands where there is no bound. It is greater than every bound, so bounds are ordered as numbers are
+-- what stands where there is no bound. It is greater than every bound, so bounds are ordered as
+-- numbers are
 abbrev pub unbounded : ℤ
 unbounded = pos (2 ^ 120)
 
@@ -41,7 +42,8 @@ sum_of a b = if int_lt a unbounded && int_lt b unbounded then a +ℤ b else unbo
 abbrev pub half_sum : ℤ → ℤ → ℤ
 half_sum a b = if int_lt a unbounded && int_lt b unbounded then half (a +ℤ b) else unbounded
 
--- the row, or column, that stands for the negative of what r stands for: 2i+1 for 2i, and 2i for 2i+1
+-- the row, or column, that stands for the negative of what r stands for: 2i+1 for 2i, and 2i for
+-- 2i+1
 abbrev pub negative : ℕ → ℕ
 negative r = r + 1 - 2 * (r % 2)
 

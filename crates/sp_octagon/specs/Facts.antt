@@ -9,8 +9,9 @@ pub record IsInRange (z : ℤ) : Type 0 where
   pub high : IsBound z → z ≤ℤ greatest_bound
   pub most : z ≤ℤ unbounded
 
--- the entries of an octagon: those on the diagonal are 0; (r, c) equals the entry from c's negative to r's negative;
--- each is in range. Of the 16 rows and columns those from 2n on have no bound off the diagonal
+-- the entries of an octagon: those on the diagonal are 0; (r, c) equals the entry from c's
+-- negative to r's negative; each is in range. Of the 16 rows and columns those from 2n on have no
+-- bound off the diagonal
 pub record IsMatrix (size : ℕ) (m : Entries) : Type 0 where
   pub diagonal : (r : ℕ) → r < 16 → m r r ≡ pos 0
   pub coherent : (r c : ℕ) → r < 16 → c < 16 → m (negative c) (negative r) ≡ m r c

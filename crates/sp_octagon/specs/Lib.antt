@@ -7,3 +7,6 @@ pub mod Order
 pub mod Held
 pub mod Octagons
 pub mod Rounds
+pub mod Made
+pub mod Functions
+pub mod Laws

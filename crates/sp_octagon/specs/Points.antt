@@ -10,8 +10,8 @@ Point = ℕ → ℤ
 abbrev pub value_at : Point → ℕ → ℤ
 value_at p r = if r % 2 == 0 then p (r / 2) else neg_ℤ (p (r / 2))
 
--- the entries in the first `count` rows and columns hold a point when each bound among them does: column less row
--- is at most the entry, which is twice the entry in halves
+-- the entries in the first `count` rows and columns hold a point when each bound among them does:
+-- column less row is at most the entry, which is twice the entry in halves
 pub record Holds (count : ℕ) (m : Entries) (p : Point) : Type 0 where
   pub within : (r c : ℕ) → r < count → c < count → IsBound (m r c) → (value_at p c -ℤ value_at p r) ≤ℤ (m r c +ℤ m r c)
 

@@ -1,4 +1,5 @@
-//! Assignments and stores: a member forgotten, moved or tied to another, and the entries snapped to the ladder.
+//! Assignments and stores: a member forgotten, moved or tied to another, and the entries snapped
+//! to the ladder.
 ghost use Rattle.std.specs.Prelude.{◌≡◌, ◌<◌, ◌^◌, ◌≤ℤ◌, ℕ, ℤ, pos, neg_ℤ};
 ghost use Rattle.sp_octagon.specs.Changes.{growth, snapped_bound};
 ghost use Rattle.sp_octagon.specs.Entries.{doubled};
@@ -132,51 +133,60 @@ impl Change for Snapping<'_> {
 }
 
 impl Octagon {
-    ghost use Rattle.std.specs.Prelude.{◌≡◌, ◌≢◌, ◌<◌, ◌^◌, ◌≤ℤ◌, ◌+ℤ◌, ℕ, ℤ, pos, neg_ℤ};
-    ghost use Rattle.sp_octagon.specs.Entries.{Entries};
-    ghost use Rattle.sp_octagon.specs.Order.{Below};
-    ghost use Rattle.sp_octagon.specs.Changes.{forgotten, moved, assigned, snapped_entries};
-    ghost use Rattle.sp_octagon.specs.Held.{IsHeld};
-    ghost use Rattle.sp_octagon.specs.Points.{whole_point, replaced};
-    ghost use Rattle.sp_octagon.specs.Octagons.{rows, entries, Becomes, OctagonHolds};
+    ghost use Rattle.std.specs.Prelude.{◌≡◌, ◌<◌, ◌^◌, ◌≤ℤ◌, pos, neg_ℤ};
+    ghost use Rattle.sp_octagon.specs.Functions.{forgotten, shifted, snapped};
 
     /// Takes away the bounds off the diagonal in the rows and columns of member `x`.
     pub fn forget(&mut self, x: u32)
         requires { x < self.old.size }
-        ensures becomes { Becomes self.old self.new (forgotten (entries self.old) x) }
-        ensures monotone { (lesser : Entries) → Below (rows self.old) lesser (entries self.old) → Below (rows self.old) (forgotten lesser x) (entries self.new) }
-        ensures holds { (v : ℕ → ℤ) (w : ℤ) → OctagonHolds self.old (whole_point v) → OctagonHolds self.new (whole_point (replaced v x w)) }
+        ensures { self.new ≡ forgotten self.old x }
     {
-        let count = self.rows();
-        change_entries(&mut self.bounds, count, &Forgetting { member: x as usize });
+        self.clear(x);
     }
 
     /// Makes member `x` equal to member `y` plus `k`.
     ///
-    /// With `x` and `y` different, `x` is forgotten, and `x - y` bounded by `k` from both sides. With `x` equal to
-    /// `y` each bound of `x` moves by `k`, and those that leave the range are cut.
+    /// With `x` and `y` different, `x` is forgotten, and `x - y` bounded by `k` from both sides.
+    /// With `x` equal to `y` each bound of `x` moves by `k`, and those that leave the range are
+    /// cut.
     pub fn assign_shift(&mut self, x: u32, y: u32, k: i128)
         requires x { x < self.old.size }
         requires y { y < self.old.size }
         requires low { neg_ℤ (pos (2 ^ 64)) ≤ℤ k }
         requires high { k ≤ℤ pos (2 ^ 64) }
-        ensures becomes { Becomes self.old self.new (assigned (entries self.old) x y k) }
-        ensures monotone { (lesser : Entries) → Below (rows self.old) lesser (entries self.old) → Below (rows self.old) (assigned lesser x y k) (entries self.new) }
-        ensures holds { (v : ℕ → ℤ) → OctagonHolds self.old (whole_point v) → OctagonHolds self.new (whole_point (replaced v x (v y +ℤ k))) }
-        ensures only { (v : ℕ → ℤ) → x ≢ y → OctagonHolds self.new (whole_point v) → v x ≡ (v y +ℤ k) }
-        ensures within { Below (rows self.old) (entries self.new) (forgotten (entries self.old) x) }
+        ensures { self.new ≡ shifted self.old x y k }
     {
         self.assign(x, y, k);
     }
 
-    /// Moves each bound up to the nearest point of the ladder, a unary one to twice the nearest of its half, rounded
-    /// down first. Past the greatest point there is no bound.
+    /// Moves each bound up to the nearest point of the ladder, a unary one to twice the nearest
+    /// of its half, rounded down first. Past the greatest point there is no bound.
     pub fn snap(&mut self, ladder: &Ladder)
+        ensures { self.new ≡ snapped ladder.now self.old }
+    {
+        self.raise_to(ladder);
+    }
+}
+
+impl Octagon {
+    ghost use Rattle.std.specs.Prelude.{◌≡◌, ◌<◌, ◌^◌, ◌≤ℤ◌, pos, neg_ℤ};
+    ghost use Rattle.sp_lattice.specs.Ladder.{IsLadder};
+    ghost use Rattle.sp_octagon.specs.Changes.{forgotten, moved, assigned, snapped_entries};
+    ghost use Rattle.sp_octagon.specs.Octagons.{entries, Becomes};
+
+    // Takes away the bounds of a member.
+    fn clear(&mut self, x: u32)
+        requires { x < self.old.size }
+        ensures { Becomes self.old self.new (forgotten (entries self.old) x) }
+    {
+        let count = self.rows();
+        change_entries(&mut self.bounds, count, &Forgetting { member: x as usize });
+    }
+
+    // Moves each bound up to the ladder.
+    fn raise_to(&mut self, ladder: &Ladder)
         ensures becomes { Becomes self.old self.new (snapped_entries ladder.now (entries self.old)) }
-        ensures monotone { (lesser : Entries) → Below (rows self.old) lesser (entries self.old) → Below (rows self.old) (snapped_entries ladder.now lesser) (entries self.new) }
-        ensures held { IsHeld ladder.now (rows self.old) (entries self.new) }
-        ensures holds { (v : ℕ → ℤ) → OctagonHolds self.old (whole_point v) → OctagonHolds self.new (whole_point v) }
-        ensures same { IsHeld ladder.now (rows self.old) (entries self.old) → self.new ≡ self.old }
+        ensures ladder { IsLadder ladder.now }
     {
         let count = self.rows();
         // The contract of this call tells that the points are those of a ladder.
@@ -190,12 +200,12 @@ impl Octagon {
         requires y { y < self.old.size }
         requires low { neg_ℤ (pos (2 ^ 64)) ≤ℤ k }
         requires high { k ≤ℤ pos (2 ^ 64) }
-        ensures becomes { Becomes self.old self.new (assigned (entries self.old) x y k) }
+        ensures { Becomes self.old self.new (assigned (entries self.old) x y k) }
     {
         if x == y {
             self.shift(x, k);
         } else {
-            self.forget(x);
+            self.clear(x);
             self.set_entry(2 * y, 2 * x, k);
             self.set_entry(2 * x, 2 * y, -k);
         }

@@ -1,11 +1,12 @@
-//! The closure: least walks by rounds, then half-sums (Miné 2006; Bagnara, Hill and Zaffanella 2009).
+//! The closure: least walks by rounds, then half-sums (Miné 2006; Bagnara, Hill and Zaffanella
+//! 2009).
 ghost use Rattle.std.specs.Prelude.{◌≡◌, ◌+◌, ◌*◌, ◌<◌, ◌≤◌, ◌≤ℤ◌, ◌<ℤ◌, ℕ, ℤ, pos, length, max, MatchBool, slice_index_or};
 ghost use Rattle.sp_octagon.specs.Entries.{Entries, entries_of, cut, half_sum, negative, unbounded, sum_of};
-ghost use Rattle.sp_octagon.specs.Facts.{IsInRange};
+ghost use Rattle.sp_octagon.specs.Facts.{IsInRange, IsMatrix};
 ghost use Rattle.sp_octagon.specs.Walks.{HasNegativeWalk, closed_entry};
-ghost use Rattle.sp_octagon.specs.Rounds.{AfterRounds, round, reach, IsWithin};
+ghost use Rattle.sp_octagon.specs.Rounds.{AfterRounds, round, reach, IsWithin, Shortened, Closes};
 
-use crate::octagon::{Octagon, UNBOUNDED, negative};
+use crate::octagon::{Clearing, Octagon, UNBOUNDED, negative};
 use crate::passes::{Change, change_entries};
 
 /// The least bound that is kept: a lesser one is raised to it.
@@ -51,68 +52,38 @@ fn half_sum(first: i128, second: i128) -> i128
     }
 }
 
-// A round: walks may pass through one more row, whose entries, and those of its column, stand here.
-#[derive(Drop)]
-struct Through {
-    row: [i128; 16],
-    column: [i128; 16],
-}
-
-impl Change for Through {
-    ghost use Rattle.std.specs.Prelude.{ℕ, ℤ, pos, slice_index_or};
-    ghost use Rattle.std.specs.Int.{int_min};
-    ghost use Rattle.sp_octagon.specs.Entries.{unbounded, sum_of};
-    ghost use Rattle.sp_octagon.specs.Rounds.{IsWithin, reach};
-
-    ghost made = { λ pass r c z. int_min z (sum_of (slice_index_or pass.column r (pos 0)) (slice_index_or pass.row c (pos 0))) };
-
-    ghost allowed = { λ pass r c z. IsWithin (reach 16) (slice_index_or pass.column r (pos 0)) × IsWithin (reach 16) (slice_index_or pass.row c (pos 0)) };
-
-    fn change(&self, row: usize, column: usize, bound: i128) -> i128 {
-        bound.min(sum_of(self.column[row], self.row[column]))
-    }
-}
-
-// A row's entries in the first `count` columns.
-fn row_of(cells: &[i128], row: usize, count: usize) -> [i128; 16]
-    requires room { length cells.now ≡ 256 }
+// Lets the walks of a row pass through `middle`, which they reach by `first`.
+fn shorten_row(cells: &mut [i128], count: usize, row: usize, middle: usize, first: i128)
+    requires room { length cells.old ≡ 256 }
+    requires count { count ≤ 16 }
     requires row { row < 16 }
-    requires count { count ≤ 16 }
-    ensures { (c : ℕ) → c < count → slice_index_or result c (pos 0) ≡ entries_of cells.now row c }
+    requires middle { middle < 16 }
+    requires first { IsWithin (reach 16) first }
+    requires last { (c : ℕ) → c < count → IsWithin (reach 16) (entries_of cells.old middle c) }
+    ensures { Shortened count row middle first (entries_of cells.old) count (entries_of cells.new) }
 {
-    let mut entries = [0; 16];
     'columns: for column in 0..count {
-        entries[column] = cells[16 * row + column];
+        let sum = sum_of(first, cells[16 * middle + column]);
+        let bound = cells[16 * row + column];
+        cells[16 * row + column] = bound.min(sum);
     }
-    entries
 }
 
-// A column's entries in the first `count` rows.
-fn column_of(cells: &[i128], column: usize, count: usize) -> [i128; 16]
-    requires room { length cells.now ≡ 256 }
-    requires column { column < 16 }
-    requires count { count ≤ 16 }
-    ensures { (r : ℕ) → r < count → slice_index_or result r (pos 0) ≡ entries_of cells.now r column }
-{
-    let mut entries = [0; 16];
-    'rows: for row in 0..count {
-        entries[row] = cells[16 * row + column];
-    }
-    entries
-}
-
-// Lets walks pass through `middle`.
+// Lets walks pass through `middle`. Row and column `middle` stay as they are, since its diagonal is 0: so
+// the entries can be changed in place.
 fn pass_through(cells: &mut [i128], count: usize, middle: usize)
     requires room { length cells.old ≡ 256 }
     requires count { count ≤ 16 }
     requires middle { middle < count }
+    requires diagonal { entries_of cells.old middle middle ≡ pos 0 }
     requires within { (r c : ℕ) → r < count → c < count → IsWithin (reach 16) (entries_of cells.old r c) }
     ensures inside { (r c : ℕ) → r < count → c < count → entries_of cells.new r c ≡ round middle (entries_of cells.old) r c }
     ensures outside { (r c : ℕ) → r < 16 → c < 16 → count ≤ max r c → entries_of cells.new r c ≡ entries_of cells.old r c }
 {
-    let row = row_of(cells, middle, count);
-    let column = column_of(cells, middle, count);
-    change_entries(cells, count, &Through { row, column });
+    'rows: for row in 0..count {
+        let first = cells[16 * row + middle];
+        shorten_row(cells, count, row, middle, first);
+    }
 }
 
 // Whether an entry on the diagonal is negative.
@@ -193,32 +164,38 @@ fn take_half_sums(cells: &mut [i128], size: usize)
     change_entries(cells, 2 * size, &HalfSums { unary });
 }
 
-impl Octagon {
-    ghost use Rattle.std.specs.Prelude.{◌≡◌, ◌<◌, ◌≤ℤ◌, ℕ, ℤ, false, true, MatchBool};
-    ghost use Rattle.sp_octagon.specs.Entries.{Entries};
-    ghost use Rattle.sp_octagon.specs.Points.{Point, whole_point};
-    ghost use Rattle.sp_octagon.specs.Walks.{HasNegativeWalk, IsClosure};
-    ghost use Rattle.sp_octagon.specs.Order.{Below};
-    ghost use Rattle.sp_octagon.specs.Octagons.{rows, entries, OctagonHolds};
+// Puts the closure in place of the entries, and answers true; or takes all bounds away and
+// answers false, where a closed walk is negative.
+fn close_entries(cells: &mut [i128], size: usize) -> bool
+    requires room { length cells.old ≡ 256 }
+    requires size { size ≤ 8 }
+    requires matrix { IsMatrix size (entries_of cells.old) }
+    ensures closed { MatchBool result (Closes size (entries_of cells.old) (entries_of cells.new)) (HasNegativeWalk (2 * size) (entries_of cells.old)) }
+    ensures matrix { IsMatrix size (entries_of cells.new) }
+{
+    let count = 2 * size;
+    if shortest_walks(cells, count) {
+        take_half_sums(cells, size);
+        true
+    } else {
+        change_entries(cells, count, &Clearing);
+        false
+    }
+}
 
-    /// Puts the closure in place of the entries (`IsClosure`), or answers false exactly where the octagon holds no
-    /// point: then it is left as it was.
+impl Octagon {
+    ghost use Rattle.std.specs.Prelude.{◌≡◌, Some, None, MatchBool};
+    ghost use Rattle.sp_octagon.specs.Points.{Point};
+    ghost use Rattle.sp_octagon.specs.Octagons.{OctagonHolds};
+    ghost use Rattle.sp_octagon.specs.Functions.{closed};
+
+    /// Puts the closure in place of the entries (`closed`), or answers false exactly where the
+    /// octagon holds no point. Then it isn't to be used again: what it holds is left open.
     pub fn close(&mut self) -> bool
         ensures size { self.new.size ≡ self.old.size }
-        ensures negative { MatchBool result (HasNegativeWalk (rows self.old) (entries self.old) → ⊥) (HasNegativeWalk (rows self.old) (entries self.old)) }
-        ensures closed { result ≡ true → IsClosure (rows self.old) (entries self.old) (entries self.new) }
+        ensures closed { MatchBool result (closed self.old ≡ Some self.new) (closed self.old ≡ None) }
         ensures exact { MatchBool result ((p : Point) × OctagonHolds self.old p) ((p : Point) → OctagonHolds self.old p → ⊥) }
-        ensures stays { result ≡ false → self.new ≡ self.old }
-        ensures monotone { (lesser closed : Entries) → Below (rows self.old) lesser (entries self.old) → MatchBool result (IsClosure (rows self.old) lesser closed → Below (rows self.old) closed (entries self.new)) (HasNegativeWalk (rows self.old) lesser) }
-        ensures below { Below (rows self.old) (entries self.new) (entries self.old) }
-        ensures holds { (v : ℕ → ℤ) → OctagonHolds self.old (whole_point v) → OctagonHolds self.new (whole_point v) }
     {
-        let mut bounds = self.bounds;
-        if !shortest_walks(&mut bounds, self.rows()) {
-            return false;
-        }
-        take_half_sums(&mut bounds, self.size as usize);
-        self.bounds = bounds;
-        true
+        close_entries(&mut self.bounds, self.size as usize)
     }
 }

@@ -6,7 +6,8 @@ ghost use Rattle.sp_octagon.specs.Changes.{with_pair};
 
 use crate::passes::{Change, change_entries};
 
-/// What stands where there is no bound. It is greater than every bound, so bounds are ordered as numbers are.
+/// What stands where there is no bound. It is greater than every bound, so bounds are ordered as
+/// numbers are.
 pub(crate) const UNBOUNDED: i128 = 1 << 120;
 
 /// How many entries there is room for: sixteen rows of sixteen.
@@ -14,9 +15,10 @@ const ROOM: usize = 256;
 
 /// Bounds on 2 to 8 members, and on the differences and sums of two of them.
 ///
-/// `bounds` has sixteen rows of sixteen entries for every size, so that an octagon needs no memory of its own; those from
-/// row or column 2n on have no bound off the diagonal. Contracts see an octagon as its size and its entries
-/// (`entries` of `specs.Octagons`); its facts are `IsOctagon` of `specs.Facts`.
+/// `bounds` has sixteen rows of sixteen entries for every size, so that an octagon needs no
+/// memory of its own; those from row or column 2n on have no bound off the diagonal. Contracts
+/// see an octagon as its size and its entries (`entries` of `specs.Octagons`); its facts are
+/// `IsOctagon` of `specs.Facts`.
 #[derive(Clone, Copy)]
 pub struct Octagon {
     pub(crate) size: u32,
@@ -26,7 +28,7 @@ pub struct Octagon {
 
 // A pass that leaves no bound off the diagonal.
 #[derive(Drop)]
-struct Clearing;
+pub(crate) struct Clearing;
 
 impl Change for Clearing {
     ghost use Rattle.std.specs.Prelude.{ℕ, ℤ};
@@ -133,39 +135,27 @@ impl Change for Joining<'_> {
 }
 
 impl Octagon {
-    ghost use Rattle.std.specs.Prelude.{◌≡◌, ◌+◌, ◌*◌, ◌<◌, ◌≤◌, ◌↔◌, ◌⊎◌, length, not, true, false, int_le, List, ℕ, ℤ};
-    ghost use Rattle.sp_octagon.specs.Entries.{Entries};
-    ghost use Rattle.sp_octagon.specs.Order.{Below, joined, all_below};
-    ghost use Rattle.sp_octagon.specs.Points.{Point};
-    ghost use Rattle.sp_octagon.specs.Held.{IsHeld, rank_of};
-    ghost use Rattle.sp_octagon.specs.Octagons.{rows, entries, Becomes, octagon_le, OctagonHolds};
+    ghost use Rattle.std.specs.Prelude.{◌≡◌, ◌<◌, ◌↔◌, not, true, int_le};
+    ghost use Rattle.sp_octagon.specs.Order.{Below, all_below};
+    ghost use Rattle.sp_octagon.specs.Order.{joined as raised};
+    ghost use Rattle.sp_octagon.specs.Functions.{joined};
+    ghost use Rattle.sp_octagon.specs.Octagons.{rows, entries, Becomes, octagon_le};
 
     /// Whether no entry is greater than that of an octagon of the same size.
     pub fn leq(&self, other: &Octagon) -> bool
         requires { self.now.size ≡ other.now.size }
         ensures value { result ≡ octagon_le self.now other.now }
         ensures below { result ≡ true ↔ Below (rows self.now) (entries self.now) (entries other.now) }
-        ensures reflexive { octagon_le self.now self.now ≡ true }
-        ensures transitive { (third : Octagon) → result ≡ true → third.size ≡ self.now.size → octagon_le other.now third ≡ true → octagon_le self.now third ≡ true }
-        ensures antisymmetric { result ≡ true → octagon_le other.now self.now ≡ true → self.now ≡ other.now }
-        ensures holds { (p : Point) → result ≡ true → OctagonHolds self.now p → OctagonHolds other.now p }
-        ensures rises { (points : List ℤ) → IsHeld points (rows self.now) (entries self.now) → IsHeld points (rows self.now) (entries other.now) → result ≡ true → octagon_le other.now self.now ≡ false → rank_of points (rows self.now) (entries self.now) < rank_of points (rows self.now) (entries other.now) }
-        ensures ranked { (points : List ℤ) → rank_of points (rows self.now) (entries self.now) ≤ 1 + 240 * length points }
     {
         self.is_below(other)
     }
 
-    /// Raises each entry to that of an octagon of the same size, where that is greater, and says whether any grew.
+    /// Raises each entry to that of an octagon of the same size, where that is greater, and says
+    /// whether any grew.
     pub fn join_into(&mut self, other: &Octagon) -> bool
         requires { self.old.size ≡ other.now.size }
-        ensures becomes { Becomes self.old self.new (joined (entries self.old) (entries other.now)) }
+        ensures value { self.new ≡ joined self.old other.now }
         ensures grew { result ≡ not (octagon_le other.now self.old) }
-        ensures above { octagon_le self.old self.new ≡ true }
-        ensures above_other { octagon_le other.now self.new ≡ true }
-        ensures least { (third : Octagon) → third.size ≡ self.old.size → octagon_le self.old third ≡ true → octagon_le other.now third ≡ true → octagon_le self.new third ≡ true }
-        ensures monotone { (lesser second : Entries) → Below (rows self.old) lesser (entries self.old) → Below (rows self.old) second (entries other.now) → Below (rows self.old) (joined lesser second) (entries self.new) }
-        ensures holds { (p : Point) → OctagonHolds self.old p ⊎ OctagonHolds other.now p → OctagonHolds self.new p }
-        ensures held { (points : List ℤ) → IsHeld points (rows self.old) (entries self.old) → IsHeld points (rows self.old) (entries other.now) → IsHeld points (rows self.old) (entries self.new) }
     {
         let grew = !other.leq(self);
         self.raise(other);
@@ -175,7 +165,7 @@ impl Octagon {
     // Raises each entry.
     fn raise(&mut self, other: &Octagon)
         requires { self.old.size ≡ other.now.size }
-        ensures becomes { Becomes self.old self.new (joined (entries self.old) (entries other.now)) }
+        ensures { Becomes self.old self.new (raised (entries self.old) (entries other.now)) }
     {
         let count = self.rows();
         change_entries(&mut self.bounds, count, &Joining { other });

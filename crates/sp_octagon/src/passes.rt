@@ -4,7 +4,8 @@ ghost use Rattle.sp_octagon.specs.Entries.{entries_of};
 
 /// What a pass makes of an entry.
 ///
-/// `made` says what, from the row, the column and the entry. `allowed` says of which entries it can be made.
+/// `made` says what, from the row, the column and the entry. `allowed` says of which entries it
+/// can be made.
 pub(crate) trait Change {
     ghost made: { Self → ℕ → ℕ → ℤ → ℤ };
 

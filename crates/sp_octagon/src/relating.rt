@@ -20,42 +20,32 @@ fn lower_pair(cells: &mut [i128], row: usize, column: usize, to: i128)
 }
 
 impl Octagon {
-    ghost use Rattle.std.specs.Prelude.{◌≡◌, ◌≢◌, ◌↔◌, ◌+◌, ◌*◌, ◌<◌, ◌≤ℤ◌, ◌+ℤ◌, ℕ, ℤ, true, neg_ℤ};
+    ghost use Rattle.std.specs.Prelude.{◌≡◌, ◌≢◌, ◌↔◌, ◌<◌, ℤ};
     ghost use Rattle.sp_lattice.specs.Ladder.{InBounds};
-    ghost use Rattle.sp_interval.specs.Interval.{Holds, IsFormed, interval_le};
-    ghost use Rattle.sp_octagon.specs.Entries.{Entries, least_bound, greatest_bound};
-    ghost use Rattle.sp_octagon.specs.Order.{Below};
-    ghost use Rattle.sp_octagon.specs.Changes.{lowered, bounded_by, constrained, difference_at_most, projected, Allows};
-    ghost use Rattle.sp_lattice.specs.Relation.{holds};
-    ghost use Rattle.sp_octagon.specs.Points.{whole_point};
-    ghost use Rattle.sp_octagon.specs.Octagons.{rows, entries, Becomes, OctagonHolds};
+    ghost use Rattle.sp_interval.specs.Interval.{Holds, IsFormed};
+    ghost use Rattle.sp_octagon.specs.Changes.{projected, Allows};
+    ghost use Rattle.sp_octagon.specs.Functions.{bounded, constrained};
+    ghost use Rattle.sp_octagon.specs.Octagons.{entries};
 
     /// Lowers the two unary entries of `x` to an interval that isn't empty, where they are greater.
     pub fn set_bounds(&mut self, x: u32, to: Interval)
         requires x { x < self.old.size }
         requires formed { IsFormed to }
         requires some { to ≢ Interval.Empty }
-        ensures becomes { Becomes self.old self.new (bounded_by (entries self.old) x to) }
-        ensures monotone { (lesser : Entries) (within : Interval) → Below (rows self.old) lesser (entries self.old) → within ≢ Interval.Empty → interval_le within to ≡ true → Below (rows self.old) (bounded_by lesser x within) (entries self.new) }
-        ensures holds { (v : ℕ → ℤ) → OctagonHolds self.old (whole_point v) → Holds to (v x) → OctagonHolds self.new (whole_point v) }
-        ensures below { Below (rows self.old) (entries self.new) (entries self.old) }
-        ensures only { (v : ℕ → ℤ) → OctagonHolds self.new (whole_point v) → OctagonHolds self.old (whole_point v) × Holds to (v x) }
+        ensures { self.new ≡ bounded self.old x to }
     {
         if let Interval::Of { lo, hi } = to {
             self.lower_to(x, lo, hi);
         }
     }
 
-    /// Lowers entries so that `x` stands in the relation to `y`, as whole numbers. `Different` changes nothing.
+    /// Lowers entries so that `x` stands in the relation to `y`, as whole numbers. `Different`
+    /// changes nothing.
     pub fn constrain(&mut self, x: u32, op: Relation, y: u32)
         requires x { x < self.old.size }
         requires y { y < self.old.size }
         requires different { x ≢ y }
-        ensures becomes { Becomes self.old self.new (constrained (entries self.old) x op y) }
-        ensures monotone { (lesser : Entries) → Below (rows self.old) lesser (entries self.old) → Below (rows self.old) (constrained lesser x op y) (entries self.new) }
-        ensures holds { (v : ℕ → ℤ) → OctagonHolds self.old (whole_point v) → holds op (v x) (v y) ≡ true → OctagonHolds self.new (whole_point v) }
-        ensures below { Below (rows self.old) (entries self.new) (entries self.old) }
-        ensures only { (v : ℕ → ℤ) → op ≢ Relation.Different → OctagonHolds self.new (whole_point v) → OctagonHolds self.old (whole_point v) × (holds op (v x) (v y) ≡ true) }
+        ensures { self.new ≡ constrained self.old x op y }
     {
         self.relate(x, op, y);
     }
@@ -65,15 +55,21 @@ impl Octagon {
         requires { x < self.now.size }
         ensures value { result ≡ projected (entries self.now) x }
         ensures exact { (v : ℤ) → Holds result v ↔ (InBounds v × Allows (entries self.now) x v) }
-        ensures holds { (v : ℕ → ℤ) → OctagonHolds self.now (whole_point v) → InBounds (v x) → Holds result (v x) }
         ensures formed { IsFormed result }
-        ensures monotone { (lesser : Entries) → Below (rows self.now) lesser (entries self.now) → interval_le (projected lesser x) result ≡ true }
     {
         let row = 2 * x as usize;
         let below = self.bound(row, row + 1);
         let above = self.bound(row + 1, row);
         Interval::between(LOWEST.max(-(below >> 1)), HIGHEST.min(above >> 1))
     }
+}
+
+impl Octagon {
+    ghost use Rattle.std.specs.Prelude.{◌≡◌, ◌≢◌, ◌<◌, ◌≤ℤ◌};
+    ghost use Rattle.sp_lattice.specs.Ladder.{InBounds};
+    ghost use Rattle.sp_octagon.specs.Entries.{least_bound, greatest_bound};
+    ghost use Rattle.sp_octagon.specs.Changes.{lowered, bounded_by, constrained};
+    ghost use Rattle.sp_octagon.specs.Octagons.{rows, entries, Becomes};
 
     // Lowers the two unary entries of a member to the numbers from `lo` to `hi`.
     fn lower_to(&mut self, x: u32, lo: i128, hi: i128)

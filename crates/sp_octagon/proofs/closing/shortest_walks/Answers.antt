@@ -7,6 +7,9 @@ pub pass_through-requires-clause-within : goal.pass_through-requires-clause-with
 pass_through-requires-clause-within c =
     within_all c.args.count (entries_of c.args.cells.now) c.rounds.middle (entries_of c.rounds.cells) (omega (arith, c.requires.count)) c.rounds.invariant.after
 
+pub pass_through-requires-clause-diagonal : goal.pass_through-requires-clause-diagonal
+pass_through-requires-clause-diagonal c = c.rounds.invariant.after.diagonal c.rounds.middle c.rounds-test.true
+
 pub returns-then-has_negative-clause-walks : goal.returns-then-has_negative-clause-walks
 returns-then-has_negative-clause-walks c =
     let found = c.if-has_negative.ensures in

@@ -19,6 +19,6 @@ returns-else-x-y c =
     let first = simp to_z-of_z at c.set_entry.ensures.becomes in
     let last = simp to_z-of_z at c.set_entry-else-x-y.ensures.becomes in
     let second = subst (λ (z : ℤ). Becomes c.set_entry.new.self c.set_entry-else-x-y.new.self (with_pair (entries c.set_entry.new.self) (2 * c.args.x) (2 * c.args.y) z)) minus last in
-    let one = with_pair_after c.args.self.now c.forget.new.self c.set_entry.new.self (2 * y) (2 * x) c.args.k (forgotten m x) c.forget.ensures.becomes first in
+    let one = with_pair_after c.args.self.now c.clear.new.self c.set_entry.new.self (2 * y) (2 * x) c.args.k (forgotten m x) c.clear.ensures first in
     let both = with_pair_after c.args.self.now c.set_entry.new.self c.set_entry-else-x-y.new.self (2 * x) (2 * y) (neg_ℤ c.args.k) (with_pair (forgotten m x) (2 * y) (2 * x) c.args.k) one second in
-    record { becomes = subst (λ (e : Entries). Becomes c.args.self.now c.set_entry-else-x-y.new.self e) (sym (assigned_other m x y c.args.k c.if-x-y.false)) both }
+    subst (λ (e : Entries). Becomes c.args.self.now c.set_entry-else-x-y.new.self e) (sym (assigned_other m x y c.args.k c.if-x-y.false)) both

@@ -1,15 +1,14 @@
-use Rattle.std.proofs.Common.{rules, FitsSigned, ◌≡◌, ◌∙◌, ap, sym, subst, true, ◌*◌, ◌+◌, pos, ◌-ℤ◌, neg_ℤ, arith}
+use Rattle.std.proofs.Common.{rules, FitsSigned, ◌≡◌, ◌∙◌, ap, sym, subst, ◌*◌, ◌+◌, pos, ◌-ℤ◌, neg_ℤ, arith}
 use Rattle.std.specs.Int.{w128, int_min, int_max}
 use Rattle.std.proofs.lemmas.Int.{to_z-of_z, ints}
 use Rattle.sp_lattice.specs.Ladder.{lowest, highest, InBounds}
 use Rattle.sp_interval.specs.declared.interval.Interval.{Interval}
-use Rattle.sp_interval.specs.Interval.{between, IsFormed, Holds, interval_le}
+use Rattle.sp_interval.specs.Interval.{between, IsFormed, Holds}
 use Rattle.sp_octagon.specs.Entries.{half}
-use Rattle.sp_octagon.specs.Changes.{projected, Allows}
+use Rattle.sp_octagon.specs.Changes.{Allows}
 use Rattle.sp_octagon.specs.Octagons.{entries}
 use Rattle.sp_octagon.proofs.Numbers.{half-is}
-use Rattle.sp_octagon.proofs.ChangeLaws.{projected-formed, projected-exact, projected-monotone}
-use Rattle.sp_octagon.proofs.Sound.{projected-holds}
+use Rattle.sp_octagon.proofs.ChangeLaws.{projected-formed, projected-exact}
 use Rattle.sp_octagon.proofs.octagon.Octagon.project.Goals as goal
 
 pub returns-clause-value : goal.returns-clause-value
@@ -35,13 +34,3 @@ returns-clause-exact c = λ v. subst (λ (i : Interval). (Holds i v → InBounds
 
 pub returns-clause-formed : goal.returns-clause-formed
 returns-clause-formed c = subst (λ (i : Interval). IsFormed i) (sym (returns-clause-value c)) (projected-formed (entries c.args.self.now) c.args.x)
-
-pub returns-clause-monotone : goal.returns-clause-monotone
-returns-clause-monotone c = λ lesser below.
-    let o = c.args.self.now in
-    subst (λ (i : Interval). interval_le (projected lesser c.args.x) i ≡ true) (sym (returns-clause-value c)) (projected-monotone o.size c.args.x lesser (entries o) c.requires below)
-
-pub returns-clause-holds : goal.returns-clause-holds
-returns-clause-holds c = λ v h in_bounds.
-    let o = c.args.self.now in
-    subst (λ (i : Interval). Holds i (v c.args.x)) (sym (returns-clause-value c)) (projected-holds o.size (entries o) c.args.x v c.requires h in_bounds)
