@@ -98,7 +98,7 @@ pub fn scanned(alloc: Global, given: &str) -> Result<String, AllocError> {
 
 /// Adds the names to a line, by their numbers, with blanks between them.
 fn show_names(line: &mut String, names: &Names) -> Result<(), AllocError> {
-    for number in 0..names.len() as u32 {
+    for number in (0..u32::MAX).take(names.len()) {
         if number > 0 {
             line.push_str(" ")?;
         }

@@ -43,7 +43,7 @@ fn add_names(names: &mut Names, line: &mut String, given: &str) -> Result<(), Al
 
 /// Adds to the line what each number stands for, and one number more.
 fn show_names(names: &Names, line: &mut String) -> Result<(), AllocError> {
-    for number in 0..names.len() as u32 + 1 {
+    for number in (0..u32::MAX).take(names.len().saturating_add(1)) {
         match names.get(number) {
             Some(name) => write!(line, " {number}={}", shown(name))?,
             None => write!(line, " {number} is none")?,
