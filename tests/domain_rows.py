@@ -303,8 +303,14 @@ WORKED = [
     ("octagon 2; constrain 0 == 1; entry 2 0; entry 1 3; entry 0 2; entry 3 1", "0 0 0 0"),
     ("octagon 2; set 0 1 -3; snap -2; entry 0 1", "-4"),
     ("octagon 8; set 14 1 -3; close; entry 0 15; entry 14 1; project 7", f"true -3 -3 [{LOWEST},{HIGHEST}]"),
-    ("octagon 2; set 1 0 5; set 0 1 -5; close", "false"),
-    ("octagon 2; set 1 0 4; set 3 2 3; close; entry 3 0; entry 3 2", "true 3 2"),
+    ("octagon 2; set 2 0 7; set 1 0 9; keep; entry 2 0; entry 1 3; entry 1 0; entry 0 1; size", "12 7 7 9 none 2"),
+    ("octagon 3; bounds 2 [-4,9]; constrain 1 < 2; copy; keep; leq; swap; leq; project 2", "24 true true [-4,9]"),
+    ("octagon 8; set 14 1 -3; set 3 9 5; keep; entry 0 15; entry 14 1; entry 3 9; entry 8 2; entry 9 3", "144 -3 -3 5 5 none"),
+    # twice the first member is 5: a point of halves
+    ("octagon 2; set 1 0 5; set 0 1 -5; close", "true"),
+    ("octagon 2; set 1 0 5; set 0 1 -6; close", "false"),
+    # half the sum of 3 and 4, rounded down
+    ("octagon 2; set 1 0 4; set 3 2 3; close; entry 3 0; entry 3 2", "true 3 3"),
     ("# not rows", None),
     ("octagon 9; close", "not a row"),
     ("octagon 2; forget 2", "not a row"),

@@ -7,7 +7,7 @@ ghost use Rattle.sp_interval.specs.Interval.{IsFormed};
 use crate::fields::{self, field};
 use sp_interval::Interval;
 use sp_lattice::Ladder;
-use sp_octagon::Octagon;
+use sp_octagon::{Kept, Octagon};
 use std::alloc::{AllocError, Global};
 
 /// Past it a bound isn't kept.
@@ -172,7 +172,17 @@ impl Pair {
         Ok(())
     }
 
+    // `keep`: puts what is kept of the first in its place, and tells how many bounds that took.
+    fn keep(&mut self, alloc: Global) -> Result<Told, AllocError> {
+        let kept = Kept::new(alloc, &self.first)?;
+        self.first = kept.copy()?.octagon();
+        Ok(Told::Number(kept.room() as i128))
+    }
+
     fn run(&mut self, alloc: Global, call: &[&str]) -> Result<Option<Told>, AllocError> {
+        if field(call, 0) == "keep" {
+            return Ok(Some(self.keep(alloc)?));
+        }
         if field(call, 0) == "snap" {
             self.snap(alloc, field(call, 1))?;
             return Ok(Some(Told::Nothing));

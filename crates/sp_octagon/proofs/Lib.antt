@@ -14,3 +14,4 @@ pub mod Proper
 pub mod Closed
 pub mod AllLaws
 pub mod Sound
+pub mod Halves

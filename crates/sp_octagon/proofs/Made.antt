@@ -18,24 +18,24 @@ use Rattle.sp_octagon.proofs.OrderLaws.{becomes_unique}
 
 -- ---- entries as a list
 
-listed-zero : (f : ℕ → ℤ) → listed 0 f ≡ []
+pub listed-zero : (f : ℕ → ℤ) → listed 0 f ≡ []
 unfolding listed
 listed-zero f = refl
 
-listed-suc : (n : ℕ) (f : ℕ → ℤ) → listed (suc n) f ≡ f 0 ∷ listed n (λ k. f (suc k))
+pub listed-suc : (n : ℕ) (f : ℕ → ℤ) → listed (suc n) f ≡ f 0 ∷ listed n (λ k. f (suc k))
 unfolding listed
 listed-suc n f = refl
 
-listed-length : (n : ℕ) (f : ℕ → ℤ) → length (listed n f) ≡ n
+pub listed-length : (n : ℕ) (f : ℕ → ℤ) → length (listed n f) ≡ n
 listed-length zero f = ap length (listed-zero f)
 listed-length (suc n) f = ap length (listed-suc n f) ∙ ap suc (listed-length n (λ k. f (suc k)))
 
-listed-at : (n : ℕ) (f : ℕ → ℤ) (k : ℕ) (d : ℤ) → k < n → get_or (listed n f) k d ≡ f k
+pub listed-at : (n : ℕ) (f : ℕ → ℤ) (k : ℕ) (d : ℤ) → k < n → get_or (listed n f) k d ≡ f k
 listed-at zero f k d h = absurd (omega arith)
 listed-at (suc n) f zero d h = ap (λ xs. get_or xs 0 d) (listed-suc n f)
 listed-at (suc n) f (suc k) d h = ap (λ xs. get_or xs (suc k) d) (listed-suc n f) ∙ listed-at n (λ i. f (suc i)) k d (omega arith)
 
-bounds_of-at : (m : Entries) (r c : ℕ) → r < 16 → c < 16 → entries_of (bounds_of m) r c ≡ m r c
+pub bounds_of-at : (m : Entries) (r c : ℕ) → r < 16 → c < 16 → entries_of (bounds_of m) r c ≡ m r c
 unfolding bounds_of
 bounds_of-at m r c hr hc =
     let row : (16 * r + c) / 16 ≡ r = omega arith in
@@ -43,7 +43,7 @@ bounds_of-at m r c hr hc =
     listed-at 256 (λ k. m (k / 16) (k % 16)) (16 * r + c) unbounded (omega arith)
     ∙ ap (λ i. m i ((16 * r + c) % 16)) row ∙ ap (m r) column
 
-bounds_of-length : (m : Entries) → length (bounds_of m) ≡ 256
+pub bounds_of-length : (m : Entries) → length (bounds_of m) ≡ 256
 unfolding bounds_of
 bounds_of-length m = listed-length 256 (λ k. m (k / 16) (k % 16))
 
@@ -109,7 +109,7 @@ entry_test size m h r c hr hc =
     by false e true f = refl
     by false e false f = (Decides-int_eq (m r c) unbounded).1 (h.outside r c hr hc (far (max r c) (2 * size) e) (other r c f))
 
-test_from_octagon : (size : ℕ) (bounds : List ℤ) → IsOctagon size bounds → is_octagon size bounds ≡ true
+pub test_from_octagon : (size : ℕ) (bounds : List ℤ) → IsOctagon size bounds → is_octagon size bounds ≡ true
 test_from_octagon size bounds h =
     both (nat_le 2 size && nat_le size 8 && length bounds == 256) (every 16 (row_fits size (entries_of bounds)))
     (both (nat_le 2 size && nat_le size 8) (length bounds == 256) (both (nat_le 2 size) (nat_le size 8) (le 2 size h.some) (le size 8 h.few)) (same (length bounds) 256 h.room))

@@ -10,3 +10,4 @@ pub mod Rounds
 pub mod Made
 pub mod Functions
 pub mod Laws
+pub mod Kept

@@ -13,6 +13,9 @@
 //! `specs.Laws`, the contract of [`octagons_are_lawful`]): what each makes of the entries, the
 //! order, that each is monotone, the points that are held, and the rank on the ladder.
 //!
+//! An [`Octagon`] has room for eight members, whatever its size, so that no call of it takes memory. Where
+//! one is kept, [`Kept`] has the room of its size: 2n(n+1) bounds.
+//!
 //! # Notation
 //!
 //! `m`, `d`: entries, by row and column; `d` those of least walks. `r`, `c` (or `i`, `j`): a row
@@ -32,10 +35,12 @@
 
 mod changes;
 mod closing;
+mod kept;
 mod lawful;
 mod octagon;
 mod passes;
 mod relating;
 
+pub use kept::Kept;
 pub use lawful::octagons_are_lawful;
 pub use octagon::Octagon;
