@@ -5,7 +5,7 @@ usage: tests/domain_rows.py          writes crates/domain_rows/stdin and stdout
        tests/domain_rows.py --check  says whether they are as it would write them
 
 Intervals are gone through member by member, octagons point by point: nothing here knows the formulas of the
-crates. tests/cases/interval.tsv has cases with wider numbers, of the same form: call, operands, range, answer.
+crates. tests/rows/interval.tsv has cases with wider numbers, of the same form: call, operands, range, answer.
 The rows under "worked" have answers that were found by hand.
 """
 import itertools
@@ -13,7 +13,7 @@ import os
 import sys
 
 TOP = os.path.dirname(os.path.dirname(os.path.abspath(__file__)))
-CASES = f"{TOP}/tests/cases/interval.tsv"
+CASES = f"{TOP}/tests/rows/interval.tsv"
 ROWS = f"{TOP}/crates/domain_rows"
 
 LOWEST, HIGHEST = -(2**63), 2**64 - 1

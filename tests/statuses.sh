@@ -32,10 +32,10 @@ check 'a full device' 5 '' full
 check 'no standard output' 5 '' shut
 check_said 'a full device' "sparrow: standard output can't be written" full
 
-endless=$'/dev/zero:1:1: refused N0: form not built yet\n'
+endless=$'/dev/zero:1:1: refused M7: text past 16777216 bytes\n'
 check 'a file without an end' 2 "$endless" ./sparrow analyse /dev/zero
 
-# The longest text that is read has 16,384 bytes.
+# The longest text of the small language has 16,384 bytes.
 for length in 16384 16385; do
     { cat "$file"; head -c "$length" /dev/zero | tr '\0' ' '; } | head -c "$length" >"$room/$length.c"
 done
@@ -44,8 +44,4 @@ check '16,384 bytes' 1 "$report" ./sparrow analyse "$room/16384.c"
 refused="$room/16385.c"$':1:1: refused N0: form not built yet\n'
 check '16,385 bytes' 2 "$refused" ./sparrow analyse "$room/16385.c"
 
-# A source that is touched and not changed builds nothing that is told as not built.
-touch crates/sparrow/src/main.rt
-check 'a touched source' 0 $'0 alarms\n' ./sparrow analyse examples/in_bounds.c
-check_said 'a program that is up to date' "$commands" ./sparrow
 finish

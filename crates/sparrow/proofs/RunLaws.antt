@@ -1,11 +1,15 @@
 -- From what was read and written to the end of a run.
-use Rattle.std.proofs.Common.{◌≡◌, ◌⊎◌, refl, ◌≢◌, ℕ, ◌<◌, inl, inr, List, length, sym, subst, arith, String}
+use Rattle.std.proofs.Common.{◌≡◌, ◌⊎◌, refl, ◌≢◌, ℕ, inl, inr, List, sym, subst, String, Result, Ok, Err, IfOk}
 use Rattle.std.specs.declared.alloc.Global.{Global}
 use Rattle.sp_outside.specs.Told.{Told, untold, missing, held, IfHeld}
-use Rattle.sp_small.specs.Syntax.{IsOutside}
 use Rattle.sparrow.specs.declared.command.Status.{Status}
 use Rattle.sparrow.specs.declared.command.Status.TheVariants.{Clean, Alarms, Refused, Usage, ReadFault, WriteFault, NoMemory}
 use Rattle.sparrow.specs.Run.{World, IfReadable, Answers, Ends, IsWriting, IsDone}
+
+-- what holds of a result by two clauses
+pub by_both : {X Y : Type 0} (r : Result X Y) (P Q R : X → Type 0) → ((x : X) → P x → Q x → R x) → IfOk r P → IfOk r Q → IfOk r R
+by_both (Ok x) P Q R f p q = f x p q
+by_both (Err e) P Q R f p q = tt
 
 pub held_weaker : (t : Told) {P Q : List ℕ → Type 0} → ((text : List ℕ) → P text → Q text) → IfHeld t P → IfHeld t Q
 held_weaker untold f p = tt
@@ -21,10 +25,6 @@ readable {A = A} {B = B} P missing none first second p = neither (none refl)
     neither (inl a) = first a
     neither (inr b) = second b
 readable P (held text) none first second p = p
-
--- a text that is too long is outside the language
-pub long_outside : (text : List ℕ) → 16384 < length text → IsOutside text
-long_outside text long tokens declared statements t = omega (arith, t.small)
 
 pub ended : (words : List (String Global)) (texts : List ℕ → Told) (old new : World) (status result : Status) (bytes : List ℕ) → IsDone status → Answers words texts status bytes → IsWriting result status bytes old.written new.written old.write_faults new.write_faults → Ends words texts old new result
 ended words texts old new status result bytes done answers (inl p) = subst (Ends words texts old new) (sym p.0) (by_status status done answers)

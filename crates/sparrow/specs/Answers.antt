@@ -1,8 +1,13 @@
 -- What is written for a text, and with which status.
-use Rattle.std.specs.Prelude.{◌≡◌, ◌⊎◌, ℕ, ◌<◌, ◌≤◌, List, [], ◌∷◌, ◌++◌, codes}
+use Rattle.std.specs.Prelude.{◌≡◌, ℕ, ◌<◌, ◌≤◌, List, [], ◌∷◌, ◌++◌, length, codes, Option, Some, None, Result, Ok, Err, slice_get}
+use Rattle.std.specs.Fmt.{decimal}
+use Rattle.sp_tree.specs.declared.fault.Fault.{Fault}
+use Rattle.sp_tree.specs.declared.token.Token.{Token}
+use Rattle.sp_lexer.specs.Scan.{start}
+use Rattle.sp_lexer.specs.Answers.{IsOnlyAnswer}
 use Rattle.sp_tree.specs.Faults.{code_of, text_of}
 use Rattle.sp_tree.specs.declared.fault.FaultKind.{FaultKind}
-use Rattle.sp_tree.specs.declared.fault.FaultKind.TheVariants.{Unbuilt, M8}
+use Rattle.sp_tree.specs.declared.fault.FaultKind.TheVariants.{Unbuilt, M7, M8}
 use Rattle.sp_small.specs.Syntax.{IsOutside}
 use Rattle.sp_scalars.specs.declared.alarms.Alarm.{Alarm}
 use Rattle.sp_scalars.specs.Equations.{HasAlarms}
@@ -14,6 +19,41 @@ use Rattle.sparrow.specs.declared.command.Status.TheVariants.{Clean, Alarms, Ref
 -- the line that refuses a file at its beginning
 abbrev pub refusal_text : List ℕ → FaultKind → List ℕ
 refusal_text name kind = name ++ (codes ":1:1: refused " ++ (code_of kind ++ (codes ": " ++ (text_of kind ++ 10 ∷ []))))
+
+-- the bytes of a name by its number
+abbrev pub name_of : Option (List ℕ) → List ℕ
+name_of None = []
+name_of (Some bytes) = bytes
+
+-- what follows the name in the line of a fault
+abbrev pub fault_tail : Fault → List ℕ
+fault_tail f = codes ":" ++ (decimal f.place.line ++ (codes ":" ++ (decimal f.place.column ++ (codes ": refused " ++ (code_of f.kind ++ (codes ": " ++ (text_of f.kind ++ 10 ∷ [])))))))
+
+-- the line that refuses a file at the place of a fault
+abbrev pub fault_text : List (List ℕ) → Fault → List ℕ
+fault_text names f = name_of (slice_get names f.place.name) ++ fault_tail f
+
+-- the longest text that is read, and the most tokens of one
+abbrev pub max_text : ℕ
+max_text = 16777216
+
+abbrev pub max_tokens : ℕ
+max_tokens = 2000000
+
+-- The text has this first fault or these tokens, where names have these numbers.
+pub record IsScannedTo (name text : List ℕ) (names : List (List ℕ)) (found : Result (List Token) Fault) : Type 0 where
+  pub number : ℕ
+  pub own : slice_get names number ≡ Some name
+  pub answer : IsOnlyAnswer names text (start number) max_tokens found
+
+-- The bytes refuse the text at its first fault, or, where it has none, as a form that isn't built.
+pub data IsScanned (name text bytes : List ℕ) : Type 0 where
+  faulty :
+      (names : List (List ℕ)) (fault : Fault) → IsScannedTo name text names (Err fault)
+      → bytes ≡ fault_text names fault → IsScanned name text bytes
+  unbuilt :
+      (names : List (List ℕ)) (tokens : List Token) → IsScannedTo name text names (Ok tokens)
+      → bytes ≡ refusal_text name Unbuilt → IsScanned name text bytes
 
 -- The bytes are the report on the alarms of the text's program, and there are so many.
 pub record HasReport (name text : List ℕ) (count : ℕ) (bytes : List ℕ) : Type 0 where
@@ -31,11 +71,18 @@ pub record HasTooMany (name text bytes : List ℕ) : Type 0 where
   pub many : most_slots < slots
   pub bytes_are : bytes ≡ refusal_text name (M8 slots)
 
+-- The bytes refuse the text: it is too long; or it isn't in the small language, and is scanned; or its
+-- program has too many slots.
+pub data Refuses (name text bytes : List ℕ) : Type 0 where
+  too_long : max_text < length text → bytes ≡ refusal_text name M7 → Refuses name text bytes
+  outside : length text ≤ max_text → IsOutside text → IsScanned name text bytes → Refuses name text bytes
+  too_many : HasTooMany name text bytes → Refuses name text bytes
+
 -- The bytes are what is written for the text under this name, with this status.
 abbrev pub IsAnswer : List ℕ → List ℕ → Status → List ℕ → Type 0
 IsAnswer name text Clean bytes = HasReport name text 0 bytes
 IsAnswer name text Alarms bytes = (count : ℕ) × (0 < count) × HasReport name text count bytes
-IsAnswer name text Refused bytes = (IsOutside text × (bytes ≡ refusal_text name Unbuilt)) ⊎ HasTooMany name text bytes
+IsAnswer name text Refused bytes = Refuses name text bytes
 IsAnswer name text Usage bytes = ⊥
 IsAnswer name text ReadFault bytes = ⊥
 IsAnswer name text WriteFault bytes = ⊥

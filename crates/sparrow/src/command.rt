@@ -6,17 +6,17 @@ ghost use Rattle.sp_outside.specs.Told.{missing, IfHeld};
 ghost use Rattle.sp_outside.specs.Counts.{Rose};
 ghost use Rattle.sparrow.specs.Words.{file_of, usage_text};
 ghost use Rattle.sp_scalars.specs.Outcomes.{IsStepped};
-ghost use Rattle.sparrow.specs.Answers.{IsAnswer, Reports, WithoutSteps, refusal_text};
+ghost use Rattle.sparrow.specs.Answers.{IsAnswer, IsScanned, Reports, WithoutSteps, refusal_text, fault_tail, fault_text};
 ghost use Rattle.sparrow.specs.Run.{World, Ends, IfReadable, IsWhole, IsWriting, IsDone, IsFault, exit_status};
 ghost use Rattle.sparrow.specs.declared.command.NoAnswer.TheVariants.{NoMemory};
 
 use crate::command_line::file_of;
 use crate::report::{Report, make_report};
 use sp_lattice::Steps;
+use sp_lexer::{ScanError, scan};
 use sp_outside::{Files, ReadError, Sink, read_whole, write_whole};
 use sp_scalars::{Alarm, Outcome, analyse};
-use sp_small::MOST_BYTES;
-use sp_tree::FaultKind;
+use sp_tree::{Fault, FaultKind, Names, Place};
 use std::alloc::{AllocError, Global};
 use std::sync::ledger::Ledger;
 
@@ -48,29 +48,74 @@ impl Status {
     }
 }
 
-/// The text of the answer to a file, and its status.
+/// The longest text that is read, in bytes.
+const MAX_TEXT: u64 = 16_777_216;
+
+/// The most tokens that a text may have, its end not counted.
+const MAX_TOKENS: u64 = 2_000_000;
+
+/// What is written for a file, and its status.
 #[derive(Drop)]
 struct Answer {
     status: Status,
-    text: String,
+    text: Vec<u8>,
 }
 
 /// The line that refuses a file at its beginning.
 fn refusal(alloc: Global, name: &str, kind: FaultKind) -> Result<Answer, AllocError>
     ensures status { IfOk result (λ a. a.status ≡ Status.Refused) }
-    ensures text { IfOk result (λ a. string_bytes a.text ≡ refusal_text name.now kind) }
+    ensures text { IfOk result (λ a. a.text.items ≡ refusal_text name.now kind) }
 {
     let code = kind.code();
     let text = format!(in alloc; "{name}:1:1: refused {code}: {kind}\n")?;
+    Ok(Answer {
+        status: Status::Refused,
+        text: text.into_bytes(),
+    })
+}
+
+/// What follows the name in the line of a fault.
+fn fault_tail(alloc: Global, fault: Fault) -> Result<String, AllocError>
+    ensures { IfOk result (λ s. string_bytes s ≡ fault_tail fault) }
+{
+    let Fault { kind, place } = fault;
+    let Place { line, column, .. } = place;
+    let code = kind.code();
+    format!(in alloc; ":{line}:{column}: refused {code}: {kind}\n")
+}
+
+/// The line that refuses a file at the place of a fault.
+fn refusal_at(alloc: Global, names: &Names, fault: Fault) -> Result<Answer, AllocError>
+    ensures status { IfOk result (λ a. a.status ≡ Status.Refused) }
+    ensures text { IfOk result (λ a. a.text.items ≡ fault_text names.now fault) }
+{
+    let name = names.get(fault.place.name).unwrap_or(b"".as_slice());
+    let mut text = Vec::from_slice(alloc, name)?;
+    text.extend_from_slice(fault_tail(alloc, fault)?.as_bytes())?;
     Ok(Answer {
         status: Status::Refused,
         text,
     })
 }
 
+/// The answer to a text outside the small language: it is scanned.
+fn refusal_outside(alloc: Global, name: &str, text: &[u8]) -> Result<Answer, AllocError>
+    requires { length text.now ≤ MAX_TEXT }
+    ensures status { IfOk result (λ a. a.status ≡ Status.Refused) }
+    ensures text { IfOk result (λ a. IsScanned name.now text.now a.text.items) }
+{
+    let mut names = Names::new(alloc);
+    let number = names.add(name.as_bytes())?;
+    match scan(alloc, text, number, MAX_TOKENS, &mut names) {
+        Ok(_tokens) => refusal(alloc, name, FaultKind::Unbuilt),
+        Err(ScanError::Fault(fault)) => refusal_at(alloc, &names, fault),
+        Err(ScanError::NoMemory) => Err(AllocError),
+    }
+}
+
 /// The report on alarms.
 fn report_on(alloc: Global, name: &str, alarms: &[Alarm]) -> Result<Answer, AllocError>
-    ensures { IfOk result (λ a. Reports name.now alarms.now a.status (string_bytes a.text)) }
+    ensures { IfOk result (λ a. Reports name.now alarms.now a.status a.text.items) }
 {
     let Report { text, count } = make_report(alloc, name, alarms)?;
     let status = if count == 0 {
@@ -78,7 +123,10 @@ fn report_on(alloc: Global, name: &str, alarms: &[Alarm]) -> Result<Answer, Allo
     } else {
         Status::Alarms
     };
-    Ok(Answer { status, text })
+    Ok(Answer {
+        status,
+        text: text.into_bytes(),
+    })
 }
 
 /// The answer to a text.
@@ -88,13 +136,14 @@ fn answer_of<L: Ledger>(
     text: &[u8],
     steps: &mut Steps<L>,
 ) -> Result<Answer, AllocError>
-    ensures answer { IfOk result (λ a. IsAnswer name.now text.now a.status (string_bytes a.text)) }
+    requires { length text.now ≤ MAX_TEXT }
+    ensures answer { IfOk result (λ a. IsAnswer name.now text.now a.status a.text.items) }
     ensures refused { IfOk result (λ a. WithoutSteps a.status (steps.new ≡ steps.old)) }
     ensures done { IfOk result (λ a. IsDone a.status) }
     ensures steps { IsStepped text.now steps.old steps.new }
 {
     match analyse(alloc, text, steps)? {
-        Outcome::Outside => refusal(alloc, name, FaultKind::Unbuilt),
+        Outcome::Outside => refusal_outside(alloc, name, text),
         Outcome::TooLarge { cells } => refusal(alloc, name, FaultKind::M8 { cells }),
         Outcome::Alarms(alarms) => report_on(alloc, name, &alarms),
     }
@@ -123,7 +172,7 @@ fn read_and_answer<F: Files, L: Ledger>(
     files: &mut F,
     steps: &mut Steps<L>,
 ) -> Result<Answer, NoAnswer>
-    ensures answer { IfOk result (λ a. IfReadable (F.text_of files.old name.now) (λ text. IsAnswer name.now text a.status (string_bytes a.text))) }
+    ensures answer { IfOk result (λ a. IfReadable (F.text_of files.old name.now) (λ text. IsAnswer name.now text a.status (a.text.items))) }
     ensures done { IfOk result (λ a. IsDone a.status) }
     ensures refused { IfOk result (λ a. WithoutSteps a.status (steps.new ≡ steps.old)) }
     ensures steps { IfHeld (F.text_of files.old name.now) (λ text. IsStepped text steps.old steps.new) }
@@ -133,9 +182,9 @@ fn read_and_answer<F: Files, L: Ledger>(
     ensures unread { F.text_of files.old name.now ≡ missing → steps.new ≡ steps.old }
     ensures reads { F.failing files.old ≡ Some [] → F.text_of files.old name.now ≢ missing → result ≢ Err NoAnswer.ReadFault }
 {
-    match read_whole(alloc, files, name, MOST_BYTES as u64) {
+    match read_whole(alloc, files, name, MAX_TEXT) {
         Ok(text) => Ok(answer_of(alloc, name, &text, steps)?),
-        Err(ReadError::TooLong) => Ok(refusal(alloc, name, FaultKind::Unbuilt)?),
+        Err(ReadError::TooLong) => Ok(refusal(alloc, name, FaultKind::M7)?),
         Err(ReadError::Fault) => Err(NoAnswer::ReadFault),
         Err(ReadError::NoMemory) => Err(NoAnswer::NoMemory),
     }
@@ -194,7 +243,7 @@ pub fn run<F: Files, W: Sink, L: Ledger>(
         return write_out(out, USAGE, Status::Usage);
     };
     match read_and_answer(alloc, name, files, steps) {
-        Ok(answer) => write_out(out, answer.text.as_bytes(), answer.status),
+        Ok(answer) => write_out(out, &answer.text, answer.status),
         Err(NoAnswer::ReadFault) => Status::ReadFault,
         Err(NoAnswer::NoMemory) => Status::NoMemory,
     }
