@@ -4,7 +4,7 @@
 set -eu
 top=$(cd "$(dirname "$0")/.." && pwd)
 . "$top/bench/room.sh"
-make_room parse sp_tree sp_syntax sp_grammar sp_c_grammar sp_lexer sp_expr_parser
+make_room parse sp_tree sp_syntax sp_grammar sp_c_tokens sp_c_spelling sp_c_grammar sp_c_reader sp_lexer sp_expr_parser
 mkdir -p "$room/texts"
 python3 "$top/bench/parse_texts.py" "$room/texts"
 (cd "$room/crates/parse_bench" && rt run -- "$room/texts/parens-1-expression" expression) > "$room/built.txt"

@@ -9,10 +9,10 @@ use Rattle.sp_syntax.specs.Syntax.{Expression, ExpressionForm, expression, Expre
 use Rattle.sp_syntax.specs.View as view
 use Rattle.sp_grammar.specs.CTable as grammar
 use Rattle.sp_grammar.specs.CTable.{ItemAnswer}
-use Rattle.sp_c_grammar.specs.Sorts.{nowhere}
+use Rattle.sp_c_tokens.specs.Sorts.{nowhere}
 use Rattle.sp_c_grammar.specs.Bare.{bare, bare_expressions, bare_maybe, bare_specifier, bare_specifiers, bare_enumerators, bare_declarator, bare_param, bare_params, bare_type_name, bare_item, bare_items, bare_declaration, bare_declarations}
-use Rattle.sp_c_grammar.specs.Makers as make
-use Rattle.sp_c_grammar.specs.Depths.{Part}
+use Rattle.sp_c_tokens.specs.Makers as make
+use Rattle.sp_c_tokens.specs.Depths.{Part}
 
 -- ---- each answer
 

@@ -10,24 +10,24 @@ use Rattle.sp_syntax.specs.Spelling.{tokens_of, type_name_tokens, specifiers_tok
 use Rattle.sp_syntax.specs.Places.{place_at, behind, Spells, Placed, PlacedTypeName, PlacedSpecifiers, PlacedDeclarator}
 use Rattle.sp_syntax.specs.Levels.{is_specifier_list, IsLevelledTypeName, AreLevelledSpecifiers}
 use Rattle.sp_syntax.specs.Depth.{depth, specifiers_depth, type_name_depth, declarator_depth}
-use Rattle.sp_c_grammar.specs.Depths.{c_depths}
+use Rattle.sp_c_tokens.specs.Depths.{c_depths}
 use Rattle.sp_grammar.specs.CTokens.{nothing_seen}
 use Rattle.sp_grammar.specs.CTable as grammar
 use Rattle.sp_grammar.specs.CTable.{Ask, Answer, at}
 use Rattle.sp_grammar.specs.Table.{ask, Reads, read_done}
 use Rattle.sp_grammar.proofs.Readings.{join, at_tokens}
-use Rattle.sp_c_grammar.specs.Sorts.{Terminal, c_tokens}
-use Rattle.sp_c_grammar.specs.SyntaxTrees.{c_table}
+use Rattle.sp_c_tokens.specs.Sorts.{Terminal, c_tokens}
+use Rattle.sp_c_tokens.specs.SyntaxTrees.{c_table}
 use Rattle.sp_c_grammar.specs.Bare.{bare, bare_type_name, bare_specifiers, bare_declarator}
-use Rattle.sp_c_grammar.specs.Makers as make
+use Rattle.sp_c_tokens.specs.Makers as make
 use Rattle.sp_c_grammar.specs.Answers.{expressions, type_names, specifier_lists, declarators, expression_ask, type_name_ask, specifiers_ask, declarator_ask}
 use Rattle.sp_c_grammar.proofs.BareTrees.{bare_tokens, bare_specifiers_tokens, bare_declarator_tokens, bare_type_name_tokens, bare_depth, bare_specifiers_depth, bare_declarator_depth, bare_type_name_depth}
 use Rattle.sp_c_grammar.proofs.BareAnswers.{settle_type_bare}
 use Rattle.sp_c_grammar.proofs.Placing.{put, put_specifiers, put_declarator, put_type_name, restored, restored_specifiers, restored_declarator, restored_type_name}
-use Rattle.sp_c_grammar.proofs.Spelling.{kinds_at, Agrees}
-use Rattle.sp_c_grammar.proofs.SpellingDeclarators.{settle_type_tokens, settled}
-use Rattle.sp_c_grammar.proofs.SpelledAnswers.{SoFar, none_yet, some_yet}
-use Rattle.sp_c_grammar.proofs.SpelledTable.{is_spelled}
+use Rattle.sp_c_spelling.specs.Spelled.{kinds_at, Agrees}
+use Rattle.sp_c_spelling.proofs.SpellingDeclarators.{settle_type_tokens, settled}
+use Rattle.sp_c_spelling.proofs.SpelledAnswers.{SoFar, none_yet, some_yet}
+use Rattle.sp_c_spelling.proofs.SpelledTable.{is_spelled}
 use Rattle.sp_c_grammar.proofs.LevelledLists.{settle_type_levelled}
 use Rattle.sp_c_grammar.proofs.LevelledTable.{is_levelled}
 use Rattle.sp_c_grammar.proofs.Lifts.{Reader, the_end, kinds_of_tokens}

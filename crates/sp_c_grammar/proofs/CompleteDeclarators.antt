@@ -21,13 +21,13 @@ use Rattle.sp_grammar.specs.CTable.{Context, Declared, Parameters, Form, at, pla
 use Rattle.sp_grammar.specs.Table.{done, read_done, read_take}
 use Rattle.sp_grammar.proofs.Readings.{join, at_tokens}
 use Rattle.sp_grammar.proofs.CChecked.{if_true, if_false, no_qualifier}
-use Rattle.sp_c_grammar.specs.Makers as make
-use Rattle.sp_c_grammar.specs.Sorts.{Terminal, sort_of, word_sort}
-use Rattle.sp_c_grammar.specs.SyntaxTrees.{syntax_trees}
+use Rattle.sp_c_tokens.specs.Makers as make
+use Rattle.sp_c_tokens.specs.Sorts.{Terminal, sort_of, word_sort}
+use Rattle.sp_c_tokens.specs.SyntaxTrees.{syntax_trees}
 use Rattle.sp_c_grammar.specs.Bare.{bare, bare_declarator}
 use Rattle.sp_c_grammar.proofs.BareTrees.{ap₃}
 use Rattle.sp_c_grammar.proofs.BareAnswers.{unplaced_declarator, settle_bare, closed_bare, first_same, second_same}
-use Rattle.sp_c_grammar.proofs.Spelling.{kinds_at}
+use Rattle.sp_c_spelling.specs.Spelled.{kinds_at}
 use Rattle.sp_c_grammar.proofs.Completing.{Head, cut, head, between, sort_at, mark_taken, Read, Reading, chosen, nothing, moved}
 use Rattle.sp_c_grammar.proofs.CompleteExpressions.{Complete, Begins, none_left, name_sort}
 use Rattle.sp_c_grammar.proofs.CompleteParts.{Next, closing_sort}

@@ -11,7 +11,7 @@ use Rattle.sp_syntax.specs.Syntax as syntax
 use Rattle.sp_syntax.specs.Syntax.{Expression, ExpressionForm, Expressions}
 use Rattle.sp_syntax.specs.Spelling.{tokens_of}
 use Rattle.sp_syntax.specs.Levels.{level}
-use Rattle.sp_c_grammar.specs.Makers as make
+use Rattle.sp_c_tokens.specs.Makers as make
 use Rattle.sp_grammar.specs.CTokens as tokens
 use Rattle.sp_grammar.specs.CTokens.{Sort, view, is_mark, looseness, is_specifier}
 use Rattle.sp_grammar.specs.CTable as grammar
@@ -19,12 +19,12 @@ use Rattle.sp_grammar.specs.CTable.{Context, Operand, ItemAnswer, Ask, at, c_sym
 use Rattle.sp_grammar.specs.Table.{done, read_done, read_take, read_call}
 use Rattle.sp_grammar.proofs.Readings.{join, at_tokens}
 use Rattle.sp_grammar.proofs.CChecked.{if_false}
-use Rattle.sp_c_grammar.specs.Sorts.{Terminal, sort_of, punct_sort}
-use Rattle.sp_c_grammar.specs.SyntaxTrees.{syntax_trees}
+use Rattle.sp_c_tokens.specs.Sorts.{Terminal, sort_of, punct_sort}
+use Rattle.sp_c_tokens.specs.SyntaxTrees.{syntax_trees}
 use Rattle.sp_c_grammar.specs.Bare.{bare, bare_form}
 use Rattle.sp_c_grammar.proofs.BareTrees.{ap₃}
 use Rattle.sp_c_grammar.proofs.BareAnswers.{unplaced, member_bare}
-use Rattle.sp_c_grammar.proofs.Spelling.{kinds_at}
+use Rattle.sp_c_spelling.specs.Spelled.{kinds_at}
 use Rattle.sp_c_grammar.proofs.Completing.{head, between, sort_at, mark_taken, Read, Reading, chosen, nothing, moved, Leveled, raise}
 
 -- an operand, in each of the places where it may stand: as a level, before operators, behind `sizeof`

@@ -15,12 +15,12 @@ use Rattle.sp_grammar.specs.CTable.{Context, Declared, Specified, Parameters, It
 use Rattle.sp_grammar.specs.Table.{read_done, read_take}
 use Rattle.sp_grammar.proofs.Readings.{join, at_tokens}
 use Rattle.sp_grammar.proofs.CChecked.{if_true, if_false}
-use Rattle.sp_c_grammar.specs.Makers as make
-use Rattle.sp_c_grammar.specs.Sorts.{Terminal}
-use Rattle.sp_c_grammar.specs.SyntaxTrees.{syntax_trees}
+use Rattle.sp_c_tokens.specs.Makers as make
+use Rattle.sp_c_tokens.specs.Sorts.{Terminal}
+use Rattle.sp_c_tokens.specs.SyntaxTrees.{syntax_trees}
 use Rattle.sp_c_grammar.specs.Bare.{bare_specifiers, bare_declarator, bare_param}
 use Rattle.sp_c_grammar.proofs.BareAnswers.{before_params, no_param_behind, param_behind, settle_last_bare}
-use Rattle.sp_c_grammar.proofs.Spelling.{kinds_at}
+use Rattle.sp_c_spelling.specs.Spelled.{kinds_at}
 use Rattle.sp_c_grammar.proofs.Completing.{cut, head, sort_at, Reading, chosen, nothing, moved}
 use Rattle.sp_c_grammar.proofs.CompleteExpressions.{none_left}
 use Rattle.sp_c_grammar.proofs.CompleteOperators.{TypeComplete}

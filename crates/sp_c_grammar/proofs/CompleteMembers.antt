@@ -16,12 +16,12 @@ use Rattle.sp_grammar.specs.CTable.{Context, Items, at, plan, begins_specifiers,
 use Rattle.sp_grammar.specs.Table.{read_done, read_take}
 use Rattle.sp_grammar.proofs.Readings.{join, at_tokens}
 use Rattle.sp_grammar.proofs.CChecked.{if_true}
-use Rattle.sp_c_grammar.specs.Makers as make
-use Rattle.sp_c_grammar.specs.Sorts.{Terminal, nowhere}
-use Rattle.sp_c_grammar.specs.SyntaxTrees.{syntax_trees}
+use Rattle.sp_c_tokens.specs.Makers as make
+use Rattle.sp_c_tokens.specs.Sorts.{Terminal, nowhere}
+use Rattle.sp_c_tokens.specs.SyntaxTrees.{syntax_trees}
 use Rattle.sp_c_grammar.specs.Bare.{bare, bare_specifiers, bare_declarator}
 use Rattle.sp_c_grammar.proofs.BareAnswers.{before_items, no_item_behind, item_behind, before_declarations, no_declaration_behind, declaration_behind, before_enumerators, no_enumerator_behind, enumerator_behind, joined}
-use Rattle.sp_c_grammar.proofs.Spelling.{kinds_at}
+use Rattle.sp_c_spelling.specs.Spelled.{kinds_at}
 use Rattle.sp_c_grammar.proofs.Completing.{cut, head, between, sort_at, mark_taken, Reading, chosen, nothing, moved}
 use Rattle.sp_c_grammar.proofs.CompleteExpressions.{Complete, none_left, name_sort}
 use Rattle.sp_c_grammar.proofs.CompleteParts.{Next, Commas, no_comma, a_comma, next_of}

@@ -18,13 +18,13 @@ use Rattle.sp_grammar.specs.CTable.{Context, Operand, ItemAnswer, Ask, at, c_sym
 use Rattle.sp_grammar.specs.Table.{done, read_done, read_take}
 use Rattle.sp_grammar.proofs.Readings.{join, at_tokens}
 use Rattle.sp_grammar.proofs.CChecked.{if_true, which}
-use Rattle.sp_c_grammar.specs.Sorts.{Terminal, sort_of, punct_sort}
+use Rattle.sp_c_tokens.specs.Sorts.{Terminal, sort_of, punct_sort}
 use Rattle.sp_c_grammar.specs.Bare.{bare}
-use Rattle.sp_c_grammar.specs.Makers as make
-use Rattle.sp_c_grammar.specs.SyntaxTrees.{syntax_trees}
+use Rattle.sp_c_tokens.specs.Makers as make
+use Rattle.sp_c_tokens.specs.SyntaxTrees.{syntax_trees}
 use Rattle.sp_c_grammar.proofs.BareTrees.{ap₃}
 use Rattle.sp_c_grammar.proofs.BareAnswers.{unplaced, settle_type_bare}
-use Rattle.sp_c_grammar.proofs.Spelling.{kinds_at}
+use Rattle.sp_c_spelling.specs.Spelled.{kinds_at}
 use Rattle.sp_c_grammar.proofs.Completing.{head, between, sort_at, mark_taken, Read, Reading, chosen, nothing, moved, Leveled, moved_level, raise}
 use Rattle.sp_c_grammar.proofs.CompleteExpressions.{moved_triple, Complete, up_on, of_zero, of_operand, from_unary, closed, none_left}
 

@@ -19,12 +19,12 @@ use Rattle.sp_grammar.specs.CTable.{Context, Operand, Specified, ItemAnswer, at,
 use Rattle.sp_grammar.specs.Table.{ask, Reads, read_done, read_take}
 use Rattle.sp_grammar.proofs.Readings.{join, at_tokens}
 use Rattle.sp_grammar.proofs.CChecked.{if_true}
-use Rattle.sp_c_grammar.specs.Sorts.{Terminal, word_sort}
-use Rattle.sp_c_grammar.specs.SyntaxTrees.{syntax_trees, c_table}
+use Rattle.sp_c_tokens.specs.Sorts.{Terminal, word_sort}
+use Rattle.sp_c_tokens.specs.SyntaxTrees.{syntax_trees, c_table}
 use Rattle.sp_c_grammar.specs.Bare.{bare}
-use Rattle.sp_c_grammar.specs.Makers as make
+use Rattle.sp_c_tokens.specs.Makers as make
 use Rattle.sp_c_grammar.proofs.BareAnswers.{before_arguments, no_argument_behind, argument_behind}
-use Rattle.sp_c_grammar.proofs.Spelling.{kinds_at}
+use Rattle.sp_c_spelling.specs.Spelled.{kinds_at}
 use Rattle.sp_c_grammar.proofs.Completing.{cut, head, sort_at, Reading, chosen, nothing, moved}
 use Rattle.sp_c_grammar.proofs.CompleteExpressions.{Complete, Begins, none_left}
 

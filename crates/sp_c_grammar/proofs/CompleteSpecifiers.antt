@@ -11,7 +11,7 @@ use Rattle.sp_syntax.specs.Syntax as syntax
 use Rattle.sp_syntax.specs.Syntax.{Specifier, Specifiers, no_specifiers, next_specifier}
 use Rattle.sp_syntax.specs.Spelling.{specifier_tokens, specifiers_tokens}
 use Rattle.sp_syntax.specs.Levels.{storages, basics, wholes, most_one, is_specifier_list, may_declare, whole as counts_whole}
-use Rattle.sp_c_grammar.specs.Depths.{Part}
+use Rattle.sp_c_tokens.specs.Depths.{Part}
 use Rattle.sp_grammar.specs.CTokens as tokens
 use Rattle.sp_grammar.specs.CTokens.{Sort, Seen, TypeWord, view, is_mark, is_specifier, is_typed, typed, whole_seen, nothing_seen, add, add_word}
 use Rattle.sp_grammar.specs.CTable as grammar
@@ -19,12 +19,12 @@ use Rattle.sp_grammar.specs.CTable.{Context, Specified, at, plan, specifiers_pla
 use Rattle.sp_grammar.specs.Table.{done, read_done, read_take}
 use Rattle.sp_grammar.proofs.Readings.{join, at_tokens}
 use Rattle.sp_grammar.proofs.CChecked.{if_true}
-use Rattle.sp_c_grammar.specs.Makers as make
-use Rattle.sp_c_grammar.specs.Sorts.{Terminal, sort_of, word_sort, nowhere}
-use Rattle.sp_c_grammar.specs.SyntaxTrees.{syntax_trees}
+use Rattle.sp_c_tokens.specs.Makers as make
+use Rattle.sp_c_tokens.specs.Sorts.{Terminal, sort_of, word_sort, nowhere}
+use Rattle.sp_c_tokens.specs.SyntaxTrees.{syntax_trees}
 use Rattle.sp_c_grammar.specs.Bare.{bare_specifier, bare_specifiers}
 use Rattle.sp_c_grammar.proofs.BareAnswers.{Bare, before_specifiers, no_specifier_behind, specifier_behind}
-use Rattle.sp_c_grammar.proofs.Spelling.{kinds_at}
+use Rattle.sp_c_spelling.specs.Spelled.{kinds_at}
 use Rattle.sp_c_grammar.proofs.SpecifierWords.{SeenWords, by_words, by_whole, nothing_yet, word_more, whole_more, word_read, whole_read}
 use Rattle.sp_c_grammar.proofs.Completing.{cut, head, sort_at, Read, Reading, chosen, nothing, moved}
 use Rattle.sp_c_grammar.proofs.CompleteExpressions.{none_left}

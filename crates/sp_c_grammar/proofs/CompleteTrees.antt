@@ -16,11 +16,11 @@ use Rattle.sp_syntax.specs.Levels.{level, storages, basics, wholes, is_specifier
 use Rattle.sp_grammar.specs.CTokens as tokens
 use Rattle.sp_grammar.specs.CTokens.{Sort, view, nothing_seen}
 use Rattle.sp_grammar.specs.CTable.{Context, begins_expression, in_structure}
-use Rattle.sp_c_grammar.specs.Sorts.{Terminal, nowhere, sort_of, punct_sort}
+use Rattle.sp_c_tokens.specs.Sorts.{Terminal, nowhere, sort_of, punct_sort}
 use Rattle.sp_c_grammar.specs.Bare.{bare, bare_expressions, bare_maybe, bare_members, bare_constants, bare_enumerators, bare_declarator, bare_param, bare_params, bare_type_name, bare_items, bare_declaration, bare_declarations}
-use Rattle.sp_c_grammar.specs.Makers as make
+use Rattle.sp_c_tokens.specs.Makers as make
 use Rattle.sp_c_grammar.proofs.BareAnswers.{unplaced, unplaced_declarator}
-use Rattle.sp_c_grammar.proofs.Spelling.{kinds_at}
+use Rattle.sp_c_spelling.specs.Spelled.{kinds_at}
 use Rattle.sp_c_grammar.proofs.Completing.{cut, head, sort_at}
 use Rattle.sp_c_grammar.proofs.CompleteExpressions.{Complete, Begins, name_sort, name_complete, constant_complete, texts_complete, paren_complete, suffix_complete, index_step, call_step, member_step, after_step}
 use Rattle.sp_c_grammar.proofs.CompleteOperators.{TypeComplete, step_complete, sign_complete, sizeof_complete, sizeof_type_complete, cast_complete, binary_complete, comma_complete, choice_complete, assign_complete}

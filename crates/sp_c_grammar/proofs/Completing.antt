@@ -11,12 +11,12 @@ use Rattle.sp_grammar.specs.CTable.{Context, Operand, Item, ItemAnswer, Ask, at,
 use Rattle.sp_grammar.specs.Table.{Plan, ask, Reads, read_done, read_call}
 use Rattle.sp_grammar.proofs.Readings.{join, at_tokens}
 use Rattle.sp_grammar.proofs.CEndings.{c90_checked}
-use Rattle.sp_c_grammar.specs.Sorts.{Terminal, sort_of}
-use Rattle.sp_c_grammar.specs.SyntaxTrees.{syntax_trees, c_table}
+use Rattle.sp_c_tokens.specs.Sorts.{Terminal, sort_of}
+use Rattle.sp_c_tokens.specs.SyntaxTrees.{syntax_trees, c_table}
 use Rattle.sp_c_grammar.specs.Bare.{bare}
-use Rattle.sp_c_grammar.specs.Depths.{Part}
+use Rattle.sp_c_tokens.specs.Depths.{Part}
 use Rattle.sp_c_grammar.proofs.BareAnswers.{Bare, bare_of}
-use Rattle.sp_c_grammar.proofs.Spelling.{kinds_at}
+use Rattle.sp_c_spelling.specs.Spelled.{kinds_at}
 
 -- ---- tokens cut as their kinds are
 

@@ -8,9 +8,9 @@ use Rattle.sp_tree.specs.declared.token.Punct.TheVariants as puncts
 use Rattle.sp_grammar.specs.Table.{Plan, done, take, call}
 use Rattle.sp_grammar.specs.CTable as grammar
 use Rattle.sp_grammar.specs.CTable.{Ask, Answer, at, outside, whole, c_symbols, accepts}
-use Rattle.sp_c_grammar.specs.Sorts.{Terminal, c_tokens, nowhere}
-use Rattle.sp_c_grammar.specs.SyntaxTrees.{syntax_trees, c_table}
-use Rattle.sp_c_grammar.specs.Depths.{c_depths}
+use Rattle.sp_c_tokens.specs.Sorts.{Terminal, c_tokens, nowhere}
+use Rattle.sp_c_tokens.specs.SyntaxTrees.{syntax_trees, c_table}
+use Rattle.sp_c_tokens.specs.Depths.{c_depths}
 use Rattle.sp_c_grammar.specs.Answers.{expression_ask, type_name_ask, specifiers_ask, declarator_ask}
 
 -- What comes of reading no deeper than allowed: an answer and what is left, the token at which the depth is passed and those behind it,

@@ -10,11 +10,11 @@ use Rattle.sp_grammar.specs.CTable.{Context, Operand, Specified, Item, Ask, at, 
 use Rattle.sp_grammar.specs.Table.{Plan}
 use Rattle.sp_grammar.specs.Depth.{Gives, Deepens, DeepAt, AreDepths}
 use Rattle.sp_grammar.proofs.CChecked.{if_true, if_false}
-use Rattle.sp_c_grammar.specs.Makers as make
-use Rattle.sp_c_grammar.specs.Sorts.{Terminal}
-use Rattle.sp_c_grammar.specs.SyntaxTrees.{syntax_trees, c_table}
-use Rattle.sp_c_grammar.specs.Depths.{Part, item_depth, item_low, item_least, specifiers_least, c_depths}
-use Rattle.sp_c_grammar.proofs.Settled.{settle_depth, settle_type_depth, settle_last_depth, closed_depth, member_depth, word_depth, args_snoc, specifiers_snoc, declarations_snoc, enumerators_snoc, params_snoc, inits_snoc, statements_snoc, items_both}
+use Rattle.sp_c_tokens.specs.Makers as make
+use Rattle.sp_c_tokens.specs.Sorts.{Terminal}
+use Rattle.sp_c_tokens.specs.SyntaxTrees.{syntax_trees, c_table}
+use Rattle.sp_c_tokens.specs.Depths.{Part, item_depth, item_low, item_least, specifiers_least, c_depths}
+use Rattle.sp_c_tokens.proofs.Settled.{settle_depth, settle_type_depth, settle_last_depth, closed_depth, member_depth, word_depth, args_snoc, specifiers_snoc, declarations_snoc, enumerators_snoc, params_snoc, inits_snoc, statements_snoc, items_both}
 
 -- what is checked of a production that was chosen by a token of this sort
 record IsDeepAt (g : Context) (i : Part) (s : Sort) (q : Plan (c_symbols syntax_trees) (at g i)) : Type 0 where

@@ -8,11 +8,11 @@ use Rattle.sp_syntax.specs.View as view
 use Rattle.sp_grammar.specs.CTokens.{Seen}
 use Rattle.sp_grammar.specs.CTable as grammar
 use Rattle.sp_grammar.specs.CTable.{Context, Operand, Specified, Declared, Parameters, Form, Ask, Answer, ItemAnswer, at, unit, whole}
-use Rattle.sp_c_grammar.specs.Sorts.{Terminal}
-use Rattle.sp_c_grammar.specs.SyntaxTrees.{syntax_trees}
-use Rattle.sp_c_grammar.specs.Makers as make
-use Rattle.sp_c_grammar.specs.Depths.{Part}
-use Rattle.sp_c_grammar.proofs.Spelling.{HasSome}
+use Rattle.sp_c_tokens.specs.Sorts.{Terminal}
+use Rattle.sp_c_tokens.specs.SyntaxTrees.{syntax_trees}
+use Rattle.sp_c_tokens.specs.Makers as make
+use Rattle.sp_c_tokens.specs.Depths.{Part}
+use Rattle.sp_c_spelling.proofs.Spelling.{HasSome}
 use Rattle.sp_c_grammar.proofs.SpecifierWords.{SeenWords}
 
 abbrev pub scope_of : Context → Scope

@@ -17,12 +17,12 @@ use Rattle.sp_grammar.specs.CTable as grammar
 use Rattle.sp_grammar.specs.CTable.{Context, Operand, Specified, Declared, Ask, at, unit, whole, c_symbols, plan, operator_plan, stands_behind, specifiers_plan, begins_expression}
 use Rattle.sp_grammar.specs.Table.{Plan}
 use Rattle.sp_grammar.specs.Kept.{KeepsFrom, KeptAt}
-use Rattle.sp_c_grammar.specs.Makers as make
-use Rattle.sp_c_grammar.specs.Sorts.{Terminal, nowhere}
-use Rattle.sp_c_grammar.specs.SyntaxTrees.{syntax_trees}
-use Rattle.sp_c_grammar.specs.Depths.{Part}
-use Rattle.sp_c_grammar.proofs.TokenKinds.{Of, at_sort}
-use Rattle.sp_c_grammar.proofs.Spelling.{HasSome}
+use Rattle.sp_c_tokens.specs.Makers as make
+use Rattle.sp_c_tokens.specs.Sorts.{Terminal, nowhere}
+use Rattle.sp_c_tokens.specs.SyntaxTrees.{syntax_trees}
+use Rattle.sp_c_tokens.specs.Depths.{Part}
+use Rattle.sp_c_spelling.proofs.TokenKinds.{Of, at_sort}
+use Rattle.sp_c_spelling.proofs.Spelling.{HasSome}
 use Rattle.sp_c_grammar.proofs.LevelledAnswers.{scope_of, Fits, LevelledAnswer}
 
 abbrev pub Kept : (g : Context) (i : Part) (x : Terminal) → Option (Plan (c_symbols syntax_trees) (at g i)) → Type 0

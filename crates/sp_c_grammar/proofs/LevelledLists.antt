@@ -6,8 +6,8 @@ use Rattle.sp_syntax.specs.Syntax as syntax
 use Rattle.sp_syntax.specs.Syntax.{Expression, Specifier, Specifiers, next_specifier, no_specifiers, Declarator, DeclaratorForm, declarator, Param, param, TypeName, type_name, Init, InitDeclarator, Declaration}
 use Rattle.sp_syntax.specs.Levels.{Scope, level, storages, basics, whole, wholes, is_absent, is_direct, has_params, names_type, IsLevelled, AreLevelled, IsLevelledMaybe, IsLevelledSpecifier, AreLevelledSpecifiers, DeclareMembers, DeclaresMember, NameMembers, NamesMember, AreLevelledEnumerators, IsLevelledDeclarator, IsLevelledDeclaratorForm, IsLevelledParam, AreLevelledParams, IsLevelledTypeName, IsLevelledInit, AreLevelledInits, AreLevelledItems, IsLevelledDeclaration, AreLevelledDeclarations}
 use Rattle.sp_syntax.specs.View as view
-use Rattle.sp_c_grammar.specs.Makers as make
-use Rattle.sp_c_grammar.proofs.SpellingDeclarators.{settle_name}
+use Rattle.sp_c_tokens.specs.Makers as make
+use Rattle.sp_c_spelling.proofs.SpellingDeclarators.{settle_name}
 
 -- ---- specifiers
 

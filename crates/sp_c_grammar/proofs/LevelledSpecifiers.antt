@@ -14,10 +14,10 @@ use Rattle.sp_grammar.specs.CTokens as tokens
 use Rattle.sp_grammar.specs.CTokens.{Sort, Seen, TypeWord, Length, Base, view as viewed, add, add_word, is_mark, is_typed, typed, whole_seen, nothing_seen}
 use Rattle.sp_grammar.specs.CTable as grammar
 use Rattle.sp_grammar.specs.CTable.{Context, Specified, specifiers_plan}
-use Rattle.sp_c_grammar.specs.Makers as make
-use Rattle.sp_c_grammar.specs.Sorts.{Terminal}
-use Rattle.sp_c_grammar.specs.SyntaxTrees.{syntax_trees}
-use Rattle.sp_c_grammar.proofs.TokenKinds.{at_sort}
+use Rattle.sp_c_tokens.specs.Makers as make
+use Rattle.sp_c_tokens.specs.Sorts.{Terminal}
+use Rattle.sp_c_tokens.specs.SyntaxTrees.{syntax_trees}
+use Rattle.sp_c_spelling.proofs.TokenKinds.{at_sort}
 use Rattle.sp_c_grammar.proofs.SpecifierWords.{SeenWords, by_words, by_whole, is_one, word_more, whole_more, nothing_yet}
 use Rattle.sp_c_grammar.proofs.LevelledAnswers.{scope_of, SpecifiersSoFar, LevelledSpecifiers, IsWholeType}
 use Rattle.sp_c_grammar.proofs.LevelledLists as lists

@@ -15,13 +15,13 @@ use Rattle.sp_grammar.specs.CTable.{Context, Operand, Specified, Declared, Param
 use Rattle.sp_grammar.specs.Table.{Plan, ask, Reads}
 use Rattle.sp_grammar.specs.Kept.{KeptAt, IsKept}
 use Rattle.sp_grammar.proofs.Keeping.{kept_front}
-use Rattle.sp_c_grammar.specs.Makers as make
-use Rattle.sp_c_grammar.specs.Sorts.{Terminal}
-use Rattle.sp_c_grammar.specs.SyntaxTrees.{syntax_trees, c_table}
-use Rattle.sp_c_grammar.specs.Depths.{Part}
-use Rattle.sp_c_grammar.proofs.TokenKinds.{Of, at_sort}
-use Rattle.sp_c_grammar.proofs.Spelling.{HasSome}
-use Rattle.sp_c_grammar.proofs.SpellingDeclarators.{settle_name}
+use Rattle.sp_c_tokens.specs.Makers as make
+use Rattle.sp_c_tokens.specs.Sorts.{Terminal}
+use Rattle.sp_c_tokens.specs.SyntaxTrees.{syntax_trees, c_table}
+use Rattle.sp_c_tokens.specs.Depths.{Part}
+use Rattle.sp_c_spelling.proofs.TokenKinds.{Of, at_sort}
+use Rattle.sp_c_spelling.proofs.Spelling.{HasSome}
+use Rattle.sp_c_spelling.proofs.SpellingDeclarators.{settle_name}
 use Rattle.sp_c_grammar.proofs.LevelledAnswers.{scope_of, Fits, SpecifiersSoFar, LevelledSpecifiers, NamesForm, LevelledDeclarator, LevelledParameters, AllQualify, LevelledAnswer}
 use Rattle.sp_c_grammar.proofs.LevelledLists as lists
 use Rattle.sp_c_grammar.proofs.LevelledChecked.{Kept, Item, kept_if, name_is, operator_kept, unary_kept, primary_kept, texts_kept, suffixes_kept}

@@ -1,18 +1,8 @@
 mod Rows
-pub mod FaultKinds
-pub mod Settled
 pub mod BareTrees
 pub mod Placing
 pub mod BareAnswers
 pub mod DepthsChecked
-pub mod TokenKinds
-pub mod Spelling
-pub mod SpellingLists
-pub mod SpellingParts
-pub mod SpellingDeclarators
-pub mod SpelledAnswers
-pub mod SpelledChecked
-pub mod SpelledTable
 pub mod SpecifierWords
 pub mod LevelledAnswers
 pub mod LevelledLists
@@ -29,6 +19,7 @@ pub mod CompleteLists
 pub mod CompleteMembers
 pub mod CompleteTrees
 pub mod Lifts
+pub mod Instead
 pub mod Calls
 pub mod ReadAgain
 mod ReadAgainRows

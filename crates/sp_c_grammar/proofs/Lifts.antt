@@ -15,12 +15,12 @@ use Rattle.sp_grammar.proofs.Readings.{at_tokens, fault_at_tokens}
 use Rattle.sp_grammar.proofs.Wholes as wholes
 use Rattle.sp_grammar.proofs.Nesting.{nesting}
 use Rattle.sp_grammar.proofs.CEndings.{c90_checked}
-use Rattle.sp_c_grammar.specs.Sorts.{Terminal, terminal, c_tokens, spare, nowhere}
-use Rattle.sp_c_grammar.specs.SyntaxTrees.{syntax_trees, c_table}
-use Rattle.sp_c_grammar.specs.Depths.{c_depths}
-use Rattle.sp_c_grammar.specs.Faults.{Wanted, fault_of}
+use Rattle.sp_c_tokens.specs.Sorts.{Terminal, terminal, c_tokens, spare, nowhere}
+use Rattle.sp_c_tokens.specs.SyntaxTrees.{syntax_trees, c_table}
+use Rattle.sp_c_tokens.specs.Depths.{c_depths}
+use Rattle.sp_c_tokens.specs.Faults.{Wanted, fault_of}
 use Rattle.sp_c_grammar.specs.Answers.{Language, kinds_of, BeginsTree, IsTree, IsFirstBad, IsLongest, IsFault, IsNested}
-use Rattle.sp_c_grammar.proofs.Spelling.{kinds_at}
+use Rattle.sp_c_spelling.specs.Spelled.{kinds_at}
 use Rattle.sp_c_grammar.proofs.DepthsChecked.{are_depths}
 
 -- the end of a text

@@ -10,11 +10,11 @@ use Rattle.sp_grammar.specs.CTable.{Ask}
 use Rattle.sp_grammar.proofs.Readings.{one_reading}
 use Rattle.sp_grammar.proofs.Wholes as wholes
 use Rattle.sp_grammar.proofs.CEndings.{c90_checked}
-use Rattle.sp_c_grammar.specs.Sorts.{nowhere}
-use Rattle.sp_c_grammar.specs.SyntaxTrees.{syntax_trees, c_table}
+use Rattle.sp_c_tokens.specs.Sorts.{nowhere}
+use Rattle.sp_c_tokens.specs.SyntaxTrees.{syntax_trees, c_table}
 use Rattle.sp_c_grammar.specs.Answers.{Language, kinds_of, BeginsTree, IsLongest, IsFault, IsNested}
 use Rattle.sp_c_grammar.specs.ReadAgain.{IsOneAnswer, AreReadAgain}
-use Rattle.sp_c_grammar.proofs.Spelling.{kinds_at}
+use Rattle.sp_c_spelling.specs.Spelled.{kinds_at}
 use Rattle.sp_c_grammar.proofs.Lifts.{Reader, the_end, of_kinds, kinds_of_kinds, tree_begins}
 
 -- How two fronts of one list lie, each before a kind.

@@ -14,9 +14,9 @@ use Rattle.sp_grammar.specs.CTable as grammar
 use Rattle.sp_grammar.specs.CTable.{Ask, Answer, at, outside, whole, c_symbols, accepts}
 use Rattle.sp_syntax.specs.Syntax.{Expression, expression, name, some_expression, basic, no_specifiers, next_specifier, declarator, declared, function, no_params, no_declarations}
 use Rattle.sp_syntax.specs.Syntax.{number as constant, Statement, statement, label, case_label, default_label, block, empty, of, if_else, switch_on, while_loop, do_loop, for_loop, goto_name, continue_loop, break_out, return_value, no_statement, some_statement, Statements, no_statements, next_statement, definition, semicolon}
-use Rattle.sp_c_grammar.specs.Sorts.{Terminal, c_tokens, nowhere, spare_number}
-use Rattle.sp_c_grammar.specs.SyntaxTrees.{syntax_trees, c_table}
-use Rattle.sp_c_grammar.specs.Faults.{Wanted, fault_of}
+use Rattle.sp_c_tokens.specs.Sorts.{Terminal, c_tokens, nowhere, spare_number}
+use Rattle.sp_c_tokens.specs.SyntaxTrees.{syntax_trees, c_table}
+use Rattle.sp_c_tokens.specs.Faults.{Wanted, fault_of}
 use Rattle.sp_c_grammar.specs.Answers.{expression_ask, type_name_ask, specifiers_ask, declarator_ask}
 
 -- What comes of reading: an answer and what is left, a fault, or too many steps.

@@ -7,7 +7,7 @@ use Rattle.sp_tree.specs.declared.token.Keyword.TheVariants as words
 use Rattle.sp_syntax.specs.Words.{without, are_among, whole_types, is_one_type}
 use Rattle.sp_grammar.specs.CTokens as tokens
 use Rattle.sp_grammar.specs.CTokens.{TypeWord, Length, Base, Seen, add_word, typed}
-use Rattle.sp_c_grammar.specs.Sorts.{word_sort}
+use Rattle.sp_c_tokens.specs.Sorts.{word_sort}
 
 -- what is left of a list without these words
 abbrev pub left_of : List Keyword → List Keyword → Option (List Keyword)

@@ -1,8 +1,7 @@
 -- What a parser of C90 answers, said by levelled trees alone (C90 6.3 to 6.7).
-use Rattle.std.specs.Prelude.{◌≡◌, ◌≢◌, ℕ, ◌<◌, ◌≤◌, List, [], ◌∷◌, ◌++◌, length, map, ◌⊎◌, is_some, true}
+use Rattle.std.specs.Prelude.{◌≡◌, ℕ, ◌<◌, ◌≤◌, List, [], ◌∷◌, ◌++◌, length, map, ◌⊎◌, is_some, true}
 use Rattle.sp_tree.specs.declared.fault.FaultKind.{FaultKind}
 use Rattle.sp_tree.specs.declared.token.Kind.{Kind}
-use Rattle.sp_tree.specs.declared.token.Kind.TheVariants.{End}
 use Rattle.sp_tree.specs.declared.token.Token.{Token}
 use Rattle.sp_syntax.specs.Syntax.{Expression, TypeName, Specifiers, no_specifiers, Declarator}
 use Rattle.sp_syntax.specs.Spelling.{tokens_of, type_name_tokens, specifiers_tokens, declarator_tokens}
@@ -12,18 +11,12 @@ use Rattle.sp_syntax.specs.Depth as deep
 use Rattle.sp_grammar.specs.Table.{ask, Fails}
 use Rattle.sp_grammar.specs.CTable as grammar
 use Rattle.sp_grammar.specs.CTable.{Ask, at}
-use Rattle.sp_c_grammar.specs.Sorts.{c_tokens}
-use Rattle.sp_c_grammar.specs.SyntaxTrees.{syntax_trees, c_table}
-use Rattle.sp_c_grammar.specs.Faults.{Wanted, fault_of}
+use Rattle.sp_c_tokens.specs.Sorts.{c_tokens}
+use Rattle.sp_c_tokens.specs.SyntaxTrees.{syntax_trees, c_table}
+use Rattle.sp_c_tokens.specs.Faults.{Wanted, fault_of}
 
 abbrev pub kinds_of : List Token → List Kind
 kinds_of xs = map (λ x. x.kind) xs
-
--- the tokens end with `End`, which stands nowhere else
-abbrev pub IsEnded : List Token → Type 0
-IsEnded [] = ⊥
-IsEnded (x ∷ []) = x.kind ≡ End
-IsEnded (x ∷ y ∷ ys) = (x.kind ≢ End) × IsEnded (y ∷ ys)
 
 -- A kind of trees: what they spell, which are levelled where these are the names of types, how deep they are, and how tokens
 -- begin with those of a tree, each place in it the place of its token.

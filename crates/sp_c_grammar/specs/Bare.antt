@@ -1,6 +1,6 @@
 -- Trees without their places: each place in them is no place of a text. Two trees whose bare trees are equal are the same but for
 -- their places.
-use Rattle.sp_c_grammar.specs.Sorts.{nowhere}
+use Rattle.sp_c_tokens.specs.Sorts.{nowhere}
 use Rattle.sp_syntax.specs.Syntax.{Expression, expression, ExpressionForm, name, number, character, text, paren, index, call, member, arrow, after, unary, sizeof_expr, sizeof_type, cast, binary, choice, assign, comma, Expressions, no_expressions, next_expression, MaybeExpression, no_expression, some_expression}
 use Rattle.sp_syntax.specs.Syntax.{Specifier, storage, qualifier, basic, named, struct_specifier, enum_specifier, Specifiers, no_specifiers, next_specifier, StructSpec, struct_spec, Members, no_members, some_members, EnumSpec, enum_spec, Constants, no_constants, some_constants, Enumerators, no_enumerators, next_enumerator}
 use Rattle.sp_syntax.specs.Syntax.{Declarator, declarator, DeclaratorForm, absent, declared, group, pointer, array, function, Param, param, Params, no_params, next_param, TypeName, type_name}

@@ -6,11 +6,11 @@ use Rattle.sp_grammar.specs.Table.{ask, Reads, Fails}
 use Rattle.sp_grammar.specs.Depth.{Nests}
 use Rattle.sp_grammar.specs.CTable.{Ask, Answer}
 use Rattle.sp_syntax.specs.Syntax.{Expression, TypeName, Specifiers, Declarator}
-use Rattle.sp_c_grammar.specs.Sorts.{c_tokens}
-use Rattle.sp_c_grammar.specs.Makers.{settle_type, all_specifiers}
-use Rattle.sp_c_grammar.specs.SyntaxTrees.{syntax_trees, c_table}
-use Rattle.sp_c_grammar.specs.Depths.{c_depths}
-use Rattle.sp_c_grammar.specs.Faults.{Wanted, fault_of}
+use Rattle.sp_c_tokens.specs.Sorts.{c_tokens}
+use Rattle.sp_c_tokens.specs.Makers.{settle_type, all_specifiers}
+use Rattle.sp_c_tokens.specs.SyntaxTrees.{syntax_trees, c_table}
+use Rattle.sp_c_tokens.specs.Depths.{c_depths}
+use Rattle.sp_c_tokens.specs.Faults.{Wanted, fault_of}
 use Rattle.sp_c_grammar.specs.Answers.{Language, IsLongest, IsFault, IsNested, expressions, type_names, specifier_lists, declarators, expression_ask, type_name_ask, specifiers_ask, declarator_ask}
 
 -- An ask reads the levelled trees of a language: the tree of each answer, before the token at a place, is the longest there; where the ask

@@ -1,10 +1,4 @@
-pub mod Sorts
 pub mod Bare
-pub mod Makers
-pub mod SyntaxTrees
-pub mod Depths
-pub mod Faults
-pub mod Refined
 pub mod Answers
 pub mod Laws
 pub mod ReadAgain

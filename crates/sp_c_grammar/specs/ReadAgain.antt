@@ -4,7 +4,7 @@ use Rattle.sp_tree.specs.declared.fault.FaultKind.{FaultKind}
 use Rattle.sp_tree.specs.declared.token.Kind.TheVariants.{End}
 use Rattle.sp_tree.specs.declared.token.Token.{Token}
 use Rattle.sp_grammar.specs.CTable.{Ask}
-use Rattle.sp_c_grammar.specs.SyntaxTrees.{syntax_trees}
+use Rattle.sp_c_tokens.specs.SyntaxTrees.{syntax_trees}
 use Rattle.sp_c_grammar.specs.Bare.{bare, bare_type_name, bare_specifiers, bare_declarator}
 use Rattle.sp_c_grammar.specs.Answers.{Language, BeginsTree, IsLongest, IsFault, IsNested, expressions, type_names, specifier_lists, declarators, expression_ask, type_name_ask, specifiers_ask, declarator_ask}
 

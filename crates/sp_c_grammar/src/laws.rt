@@ -1,6 +1,7 @@
-//! The laws that the parsers rest on, as contracts: what the grammar reads is the longest levelled tree, where it fails stands the failing
-//! token with its fault, and where it nests the depth is passed. And a levelled tree is the only levelled one that its tokens spell, so for
-//! them no other answer is right.
+//! The laws that the parsers rest on, as contracts: what the grammar reads is the longest levelled
+//! tree, where it fails stands the failing token with its fault, and where it nests the depth is
+//! passed. And a levelled tree is the only levelled one that its tokens spell, so for them no other
+//! answer is right.
 ghost use Rattle.sp_c_grammar.specs.Laws.{ExpressionsAreParsed, TypeNamesAreParsed, SpecifiersAreParsed, DeclaratorsAreParsed};
 ghost use Rattle.sp_c_grammar.specs.ReadAgain.{ExpressionsAreReadAgain, TypeNamesAreReadAgain, SpecifiersAreReadAgain, DeclaratorsAreReadAgain};
 
@@ -32,7 +33,8 @@ pub fn declarators_are_parsed(types: &[u32])
     let _types = types;
 }
 
-/// Levelled expressions of the same tokens are the same, and each is read again as itself, where these are the names of types.
+/// Levelled expressions of the same tokens are the same, and each is read again as itself, where
+/// these are the names of types.
 pub fn expressions_are_read_again(types: &[u32])
     ensures { ExpressionsAreReadAgain types.now }
 {
@@ -46,14 +48,16 @@ pub fn type_names_are_read_again(types: &[u32])
     let _types = types;
 }
 
-/// Levelled lists of specifiers of the same tokens are the same, and each is read again as itself, the empty list too.
+/// Levelled lists of specifiers of the same tokens are the same, and each is read again as itself,
+/// the empty list too.
 pub fn specifiers_are_read_again(types: &[u32])
     ensures { SpecifiersAreReadAgain types.now }
 {
     let _types = types;
 }
 
-/// Levelled declarators of a name and of the same tokens are the same, and each is read again as itself.
+/// Levelled declarators of a name and of the same tokens are the same, and each is read again as
+/// itself.
 pub fn declarators_are_read_again(types: &[u32])
     ensures { DeclaratorsAreReadAgain types.now }
 {

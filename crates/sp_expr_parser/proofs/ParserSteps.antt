@@ -1,17 +1,12 @@
--- What the readers answer, said by levelled trees.
+-- What the readers read, said by levelled trees.
 use Rattle.std.proofs.Common.{◌≡◌, ℕ, zero, suc, ◌+◌, ◌-◌, ◌≤◌, ◌<◌, Bool, true, false, List, [], ◌∷◌, ◌++◌, map, length, take, drop, Some, None, inl, inr, refl, sym, ap, ◌∙◌, subst, arith, length-append, length-drop}
 use Rattle.std.proofs.lemmas.List.{map-append}
 use Rattle.std.specs.Prelude.{Option, is_some, if◌then◌else◌}
-use Rattle.sp_tree.specs.declared.fault.Fault.{Fault}
-use Rattle.sp_tree.specs.declared.fault.FaultKind.{FaultKind}
-use Rattle.sp_tree.specs.declared.fault.FaultKind.TheVariants.{M2}
 use Rattle.sp_tree.specs.declared.token.Token.{Token}
-use Rattle.sp_expr_parser.specs.declared.scope.Scope.{Scope}
-use Rattle.sp_expr_parser.specs.declared.scope.Purpose.TheVariants as purposes
-use Rattle.sp_expr_parser.specs.declared.part.Stop.{Stop}
-use Rattle.sp_expr_parser.specs.declared.part.Stop.TheVariants as stops
-use Rattle.sp_expr_parser.specs.declared.parser.ParseError.{ParseError}
-use Rattle.sp_expr_parser.specs.declared.parser.ParseError.TheVariants as errors
+use Rattle.sp_c_tokens.specs.declared.scope.Scope.{Scope}
+use Rattle.sp_c_tokens.specs.declared.scope.AlsoAllowed.TheVariants as purposes
+use Rattle.sp_c_tokens.specs.declared.part.ReadError.{ReadError}
+use Rattle.sp_c_tokens.specs.declared.part.ReadError.TheVariants as stops
 use Rattle.sp_grammar.specs.CTokens as tokens
 use Rattle.sp_grammar.specs.CTokens.{Sort, Seen, view, is_mark, add, nothing_seen}
 use Rattle.sp_grammar.specs.CTable as grammar
@@ -21,27 +16,30 @@ use Rattle.sp_grammar.specs.Table.{Plan, ask, done, Reads, Fails, asked, Opens, 
 use Rattle.sp_grammar.specs.Depth.{Nests, nests, deep_here}
 use Rattle.sp_grammar.proofs.Readings.{front_of, fault_front, spelled, fault_spelled, at_tokens, fault_at_tokens}
 use Rattle.sp_grammar.proofs.Nesting.{deep_front, deep_spelled}
-use Rattle.sp_c_grammar.specs.Sorts.{Terminal, terminal, sort_of, c_tokens}
-use Rattle.sp_c_grammar.specs.SyntaxTrees.{syntax_trees, c_table}
-use Rattle.sp_c_grammar.specs.Depths.{c_depths}
-use Rattle.sp_c_grammar.specs.Depths as deep
-use Rattle.sp_c_grammar.specs.Makers.{first_place, all_specifiers}
+use Rattle.sp_c_tokens.specs.Sorts.{Terminal, terminal, sort_of, c_tokens}
+use Rattle.sp_c_tokens.specs.SyntaxTrees.{syntax_trees, c_table}
+use Rattle.sp_c_tokens.specs.Depths.{c_depths}
+use Rattle.sp_c_tokens.specs.Depths as deep
+use Rattle.sp_c_tokens.specs.Makers.{first_place, all_specifiers}
 use Rattle.sp_syntax.specs.declared.tree.Specifier.{Specifier as CodeSpecifier}
 use Rattle.sp_syntax.specs.View.{specifiers_of}
 use Rattle.sp_syntax.specs.Depth.{specifiers_depth}
 use Rattle.sp_c_grammar.proofs.Calls.{specifiers_reader}
-use Rattle.sp_c_grammar.specs.Faults.{Wanted, fault_there, sort_there, fault_of, begins_declarator}
-use Rattle.sp_c_grammar.specs.Answers.{Language, specifier_lists, specifiers_ask, IsEnded, IsLongest, IsFault, IsNested}
+use Rattle.sp_c_tokens.specs.Faults.{Wanted, fault_there, sort_there, fault_of, begins_declarator}
+use Rattle.sp_c_tokens.specs.Ended.{IsEnded}
+use Rattle.sp_c_grammar.specs.Answers.{Language, specifier_lists, specifiers_ask, IsLongest, IsFault, IsNested}
 use Rattle.sp_c_grammar.proofs.Lifts.{Reader, longest_tree, fault_tree, nested_tree}
-use Rattle.sp_expr_parser.specs.Reading.{there, kind_at, IsStop, IsStep}
-use Rattle.sp_expr_parser.specs.Expecting.{IsFaultFor}
-use Rattle.sp_expr_parser.specs.Parsing.{IsParsed, IsRefused, Refused, IsWithin, IsErrorOf, sort_of_first}
-use Rattle.sp_expr_parser.specs.Declaring.{head_name}
-use Rattle.sp_expr_parser.proofs.Steps.{begun, unread, part_fails, last, finished}
-use Rattle.sp_expr_parser.proofs.ExpressionSteps.{first_same}
-use Rattle.sp_expr_parser.proofs.Faulting.{stop_at}
-use Rattle.sp_expr_parser.proofs.DeclaratorSteps.{type_on, direct_on}
-use Rattle.sp_expr_parser.proofs.GroupSteps.{direct_begins_none}
+use Rattle.sp_c_tokens.specs.Scopes.{there}
+use Rattle.sp_c_reader.specs.Reading.{kind_at, IsStop, IsStep}
+use Rattle.sp_c_tokens.specs.Expecting.{IsFaultFor}
+use Rattle.sp_expr_parser.specs.Parsing.{IsParsed}
+use Rattle.sp_expr_parser.specs.Calling.{sort_of_first}
+use Rattle.sp_c_reader.specs.Declaring.{head_name}
+use Rattle.sp_c_reader.proofs.Steps.{begun, unread, part_fails, last, finished}
+use Rattle.sp_c_reader.proofs.ExpressionSteps.{first_same}
+use Rattle.sp_c_reader.proofs.Faulting.{stop_at}
+use Rattle.sp_c_reader.proofs.DeclaratorSteps.{type_on, direct_on}
+use Rattle.sp_c_reader.proofs.GroupSteps.{direct_begins_none}
 
 -- ---- the tokens before some others
 
@@ -91,27 +89,19 @@ pub record Front (tokens rest : List Token) : Type 0 where
   pub front : List Token
   pub whole : tokens ≡ front ++ rest
 
-read_front : (n : Ask syntax_trees) (tokens rest : List Token) (a : Answer n) → Reads c_table n (ask n) (c_tokens tokens) a (c_tokens rest) → Front tokens rest
+pub read_front : (n : Ask syntax_trees) (tokens rest : List Token) (a : Answer n) → Reads c_table n (ask n) (c_tokens tokens) a (c_tokens rest) → Front tokens rest
 read_front n tokens rest a r = record { front = whats (front_of r); whole = split (front_of r) tokens rest (spelled r) }
 
-fault_front_of : (n : Ask syntax_trees) (tokens rest : List Token) (w : Wanted) → Fails c_table n (ask n) (c_tokens tokens) w (c_tokens rest) → Front tokens rest
+pub fault_front_of : (n : Ask syntax_trees) (tokens rest : List Token) (w : Wanted) → Fails c_table n (ask n) (c_tokens tokens) w (c_tokens rest) → Front tokens rest
 fault_front_of n tokens rest w r = record { front = whats (fault_front r); whole = split (fault_front r) tokens rest (fault_spelled r) }
 
 nests_spelled : (n : Ask syntax_trees) (d : ℕ) (xs ys : List Terminal) → Nests c_table c_depths n d xs ys → (f : List Terminal) × (xs ≡ f ++ ys)
 nests_spelled n d xs ys (nests e h) = (deep_front h, deep_spelled h)
 
-nests_front : (n : Ask syntax_trees) (d : ℕ) (tokens rest : List Token) → Nests c_table c_depths n d (c_tokens tokens) (c_tokens rest) → Front tokens rest
+pub nests_front : (n : Ask syntax_trees) (d : ℕ) (tokens rest : List Token) → Nests c_table c_depths n d (c_tokens tokens) (c_tokens rest) → Front tokens rest
 nests_front n d tokens rest h =
     let w = nests_spelled n d (c_tokens tokens) (c_tokens rest) h in
     record { front = whats w.0; whole = split w.0 tokens rest w.1 }
-
--- the fault of a stop stands behind some of the tokens
-pub within : (g : Context) (i : Item syntax_trees) (d : ℕ) (text : List Token) (s : Stop) → IsStop g i d text s → IsWithin text s
-within g i d text (stops.Fault kind rest) h =
-    let f = fault_front_of (at g i) text rest.now h.0 h.1 in
-    (f.front, f.whole, h.3)
-within g i d text (stops.TooDeep rest) h = h.1
-within g i d text stops.NoMemory h = tt
 
 -- ---- trees and faults
 
@@ -134,39 +124,6 @@ module _ (L : Language) (types : List ℕ) (n : Ask syntax_trees) (r : Reader L 
         forward = omega (arith, size, left, inside, counted);
         longest = longest depth (drop from all) rest a tree (behind - from) read ended same shallow (omega (arith, size, left, inside, counted));
       }
-
-  fault_refused : (depth : ℕ) (text rest : List Token) (kind : FaultKind) (w : Wanted) (fault : Fault) → Fails c_table n (ask n) (c_tokens text) w (c_tokens rest) → kind ≡ kind_at w rest → IsEnded rest → ((front : List Token) (bad : Token) (more : List Token) → text ≡ front ++ bad ∷ more → rest ≡ bad ∷ more → (fault.place ≡ bad.place) × ((v : Wanted) → kind ≡ fault_there v (sort_there v bad) → fault.kind ≡ fault_of v front bad)) → IsRefused L n types depth text fault
-  fault_refused depth text [] kind w fault fails is ended error = absurd ended
-  fault_refused depth text (x ∷ more) kind w fault fails is ended error =
-      let f = fault_front_of n text (x ∷ more) w fails in
-      let e = error f.front x more f.whole refl in
-      let place : x.place ≡ first_place (drop (length f.front) text) = sym (ap (λ v. first_place v) (ap (λ v. drop (length f.front) v) f.whole ∙ drop_front f.front (x ∷ more))) in
-      let here = fault_tree L types n r f.front x more w (fault_at_tokens (ap c_tokens f.whole) fails) in
-      record {
-        count = length f.front;
-        place = e.0 ∙ place;
-        why = inl (subst (λ v. IsFault L n types v fault.kind (length f.front)) (sym f.whole) (subst (λ v. IsFault L n types (f.front ++ x ∷ more) v (length f.front)) (sym (e.1 w is)) here));
-      }
-
-  deep_refused : (depth : ℕ) (text rest : List Token) (fault : Fault) → Nests c_table c_depths n depth (c_tokens text) (c_tokens rest) → IsEnded rest → fault.place ≡ first_place rest → fault.kind ≡ M2 → IsRefused L n types depth text fault
-  deep_refused depth text [] fault deep ended place kind = absurd ended
-  deep_refused depth text (x ∷ more) fault deep ended place kind =
-      let f = nests_front n depth text (x ∷ more) deep in
-      let at_place : x.place ≡ first_place (drop (length f.front) text) = sym (ap (λ v. first_place v) (ap (λ v. drop (length f.front) v) f.whole ∙ drop_front f.front (x ∷ more))) in
-      let here = nested_tree L types n r depth f.front x more (subst (λ v. Nests c_table c_depths n depth (c_tokens v) (c_tokens (x ∷ more))) f.whole deep) in
-      record {
-        count = length f.front;
-        place = place ∙ at_place;
-        why = inr (kind, subst (λ v. IsNested L types depth v (length f.front)) (sym f.whole) here);
-      }
-
-pub refused : (L : Language) (types : List ℕ) (i : Item syntax_trees) (r : Reader L types (at (outside types) i)) (depth : ℕ) (text : List Token) (s : Stop) (error : ParseError) → IsStop (outside types) i depth text s → IsErrorOf text s error → Refused L (at (outside types) i) types depth text error
-refused L types i r depth text (stops.Fault kind rest) (errors.Fault fault) h e = fault_refused L types (at (outside types) i) r depth text rest.now kind h.0 fault h.1 h.2 h.3 e
-refused L types i r depth text (stops.Fault kind rest) errors.NoMemory h e = absurd e
-refused L types i r depth text (stops.TooDeep rest) (errors.Fault fault) h e = deep_refused L types (at (outside types) i) r depth text rest.now fault h.0 h.1 e.0 e.1
-refused L types i r depth text (stops.TooDeep rest) errors.NoMemory h e = absurd e
-refused L types i r depth text stops.NoMemory (errors.Fault fault) h e = absurd e
-refused L types i r depth text stops.NoMemory errors.NoMemory h e = tt
 
 -- ---- where the depth is 0
 
@@ -192,16 +149,16 @@ type_name_deep types (x ∷ xs) ended s same begins =
     let opens = begins_opens g false nothing_seen grammar.no_specifiers (terminal x) v (add false false nothing_seen v) here in
     nests refl (deep_here refl (open_call opens.1 (open_take refl)) (omega arith))
 
-pub type_name_none : (types : List ℕ) (scope : Scope) (text : List Token) → there types scope ≡ outside types → IsEnded text → (s : Sort) → ((x : Token) (xs : List Token) → text ≡ x ∷ xs → s ≡ view types (sort_of x.kind)) → grammar.begins_specifiers false false s ≡ false → (stop : Stop) → IsFaultFor types scope purposes.ForMember text stop → IsStop (outside types) grammar.type_name 0 text stop
+pub type_name_none : (types : List ℕ) (scope : Scope) (text : List Token) → there types scope ≡ outside types → IsEnded text → (s : Sort) → ((x : Token) (xs : List Token) → text ≡ x ∷ xs → s ≡ view types (sort_of x.kind)) → grammar.begins_specifiers false false s ≡ false → (stop : ReadError) → IsFaultFor types scope purposes.TypeSpecifier text stop → IsStop (outside types) grammar.type_name 0 text stop
 type_name_none types scope [] out ended s same begins stop h = absurd ended
 type_name_none types scope (x ∷ xs) out ended s same begins stop h =
     let g = there types scope in
     let v = view types (sort_of x.kind) in
     let i = grammar.specifiers false nothing_seen grammar.no_specifiers in
-    let none : is_some (add false scope.inside nothing_seen v) ≡ false = subst (λ w. is_some (add false scope.inside nothing_seen w) ≡ false) (same x xs refl) (subst (λ (c : Context). is_some (add false c.inside nothing_seen s) ≡ false) (sym out) begins) in
-    let part = unread {D = c_depths} (begun (at g i) (c_tokens (x ∷ xs))) refl (none_begins g false grammar.no_specifiers (terminal x) v (add false scope.inside nothing_seen v) none) in
+    let none : is_some (add false scope.in_function nothing_seen v) ≡ false = subst (λ w. is_some (add false scope.in_function nothing_seen w) ≡ false) (same x xs refl) (subst (λ (c : Context). is_some (add false c.inside nothing_seen s) ≡ false) (sym out) begins) in
+    let part = unread {D = c_depths} (begun (at g i) (c_tokens (x ∷ xs))) refl (none_begins g false grammar.no_specifiers (terminal x) v (add false scope.in_function nothing_seen v) none) in
     let fails = part_fails (type_on g (x ∷ xs) ended) part in
-    subst (λ c. IsStop c grammar.type_name 0 (x ∷ xs) stop) out (stop_at types scope purposes.ForMember (asked (at g i)) g grammar.type_name 0 (x ∷ xs) (x ∷ xs) fails (λ y. refl) ended stop h)
+    subst (λ c. IsStop c grammar.type_name 0 (x ∷ xs) stop) out (stop_at types scope purposes.TypeSpecifier (asked (at g i)) g grammar.type_name 0 (x ∷ xs) (x ∷ xs) fails (λ y. refl) ended stop h)
 
 -- the plan of a declarator of a name that such a token begins
 record Begun (g : Context) (x : TokenOf syntax_trees) (s : Sort) : Type 0 where
@@ -240,7 +197,7 @@ no_head : (s : Sort) → begins_declarator s ≡ false → head_name grammar.con
 no_head (tokens.name n) e = absurd cc
 no_head _ e = refl
 
-pub declarator_none : (types : List ℕ) (scope : Scope) (text : List Token) → there types scope ≡ outside types → IsEnded text → (s : Sort) → ((x : Token) (xs : List Token) → text ≡ x ∷ xs → s ≡ view types (sort_of x.kind)) → begins_declarator s ≡ false → (stop : Stop) → IsFaultFor types scope purposes.ForName text stop → IsStop (outside types) (grammar.declarator grammar.concrete) 0 text stop
+pub declarator_none : (types : List ℕ) (scope : Scope) (text : List Token) → there types scope ≡ outside types → IsEnded text → (s : Sort) → ((x : Token) (xs : List Token) → text ≡ x ∷ xs → s ≡ view types (sort_of x.kind)) → begins_declarator s ≡ false → (stop : ReadError) → IsFaultFor types scope purposes.Name text stop → IsStop (outside types) (grammar.declarator grammar.concrete) 0 text stop
 declarator_none types scope [] out ended s same begins stop h = absurd ended
 declarator_none types scope (x ∷ xs) out ended s same begins stop h =
     let g = there types scope in
@@ -249,7 +206,7 @@ declarator_none types scope (x ∷ xs) out ended s same begins stop h =
     let other = subst (λ w. begins_declarator w ≡ false) (same x xs refl) begins in
     let part = unread {D = c_depths} (begun (at g i) (c_tokens (x ∷ xs))) refl (direct_begins_none g grammar.concrete (terminal x) v refl (no_opening v other) (no_head v other)) in
     let fails = part_fails (direct_on g (x ∷ xs) xs x refl grammar.concrete (no_star v other)) part in
-    subst (λ c. IsStop c (grammar.declarator grammar.concrete) 0 (x ∷ xs) stop) out (stop_at types scope purposes.ForName (asked (at g i)) g (grammar.declarator grammar.concrete) 0 (x ∷ xs) (x ∷ xs) fails (λ y. refl) ended stop h)
+    subst (λ c. IsStop c (grammar.declarator grammar.concrete) 0 (x ∷ xs) stop) out (stop_at types scope purposes.Name (asked (at g i)) g (grammar.declarator grammar.concrete) 0 (x ∷ xs) (x ∷ xs) fails (λ y. refl) ended stop h)
 
 -- ---- lists of specifiers, the empty list too
 
@@ -266,11 +223,3 @@ no_specifiers_read g (x ∷ xs) ended s same begins = finished (first_same g gra
 
 pub sort_of_head : (types : List ℕ) (text : List Token) (s : Sort) → s ≡ sort_of_first types text → (x : Token) (xs : List Token) → text ≡ x ∷ xs → s ≡ view types (sort_of x.kind)
 sort_of_head types text s e x xs is = e ∙ ap (λ v. sort_of_first types v) is
-
-pub empty_parsed : (types : List ℕ) (depth : ℕ) (all : List Token) (from : ℕ) (text : List Token) → text ≡ drop from all → from < length all → IsEnded text → (s : Sort) → ((x : Token) (xs : List Token) → text ≡ x ∷ xs → s ≡ view types (sort_of x.kind)) → grammar.begins_specifiers true false s ≡ false → (items : List CodeSpecifier) → items ≡ [] → IsParsed specifier_lists types depth (drop from all) from (specifiers_of items) from
-empty_parsed types depth all from text is inside ended s same other items none =
-    let read = at_tokens (ap c_tokens is) (no_specifiers_read (outside types) text ended s same other) in
-    let empty : specifiers_of items ≡ all_specifiers [] = ap (λ v. specifiers_of v) none in
-    let flat : specifiers_depth (specifiers_of items) ≡ 0 = ap (λ v. specifiers_depth v) empty in
-    let size : length text ≡ length all - from = ap length is ∙ length-drop from all in
-    parsed specifier_lists types (specifiers_ask types) (specifiers_reader types) depth all from text grammar.no_specifiers (specifiers_of items) from inside read ended empty (omega (arith, flat)) (omega (arith, size, inside))

@@ -6,14 +6,6 @@ pub mod Wholes
 pub mod Keeping
 pub mod Nesting
 pub mod Totality
-pub mod ExpressionChecked
-pub mod ExpressionSteps
-pub mod ExpressionTrees
-pub mod ExpressionChains
-pub mod ExpressionReaders
-pub mod ExpressionParser
-pub mod ExpressionSettled
-pub mod ExpressionExamples
 pub mod CChecked
 pub mod CEndings
 pub mod CSettled

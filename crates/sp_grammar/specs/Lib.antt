@@ -4,10 +4,6 @@ pub mod Checked
 pub mod Kept
 pub mod Totality
 pub mod Depth
-pub mod Expression
-pub mod ExpressionTable
-pub mod ExpressionReading
-pub mod ExpressionAnswers
 pub mod Laws
 pub mod CTokens
 pub mod CTrees

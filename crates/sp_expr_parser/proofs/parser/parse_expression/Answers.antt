@@ -1,12 +1,11 @@
 use Rattle.std.proofs.Common.{◌≤◌, refl, subst, drop, arith}
 use Rattle.sp_grammar.specs.CTable as grammar
-use Rattle.sp_expr_parser.specs.Parsing.{IsErrorOf}
 use Rattle.sp_syntax.specs.View.{tree_of}
 use Rattle.sp_syntax.specs.Depth.{depth}
 use Rattle.sp_c_grammar.specs.Answers.{expressions, expression_ask}
 use Rattle.sp_c_grammar.proofs.Calls.{expression_reader}
-use Rattle.sp_expr_parser.specs.Reading.{IsRead, IsStop, operand_seen}
-use Rattle.sp_expr_parser.proofs.ParserSteps.{parsed, refused, within}
+use Rattle.sp_c_reader.specs.Reading.{IsRead, IsStop, operand_seen}
+use Rattle.sp_expr_parser.proofs.ParserSteps.{parsed}
 use Rattle.sp_expr_parser.proofs.parser.parse_expression.Goals as goal
 
 pub returns-in-Ok : goal.returns-in-Ok
@@ -19,14 +18,6 @@ returns-in-Ok c =
     let shallow : depth (tree_of part.tree.tree) ≤ c.args.depth = omega (arith, h.deep, h.shallow) in
     parsed expressions types (expression_ask types) (expression_reader types) c.args.depth c.args.tokens.now c.args.at part.rest.now (operand_seen part.tree) (tree_of part.tree.tree) c.count_before.result c.requires.within h.reads h.ended refl shallow c.count_before.ensures
 
-pub returns-in-Err : goal.returns-in-Err
-returns-in-Err c =
-    let types = c.args.types.now in
-    let g = grammar.outside types in
-    let from = c.tokens_from-from.ensures.from in
-    let stop = c.in-Err.stop in
-    let h = subst (λ v. IsStop g (grammar.level 13) c.args.depth v stop) from c.in-Err.ensures in
-    refused expressions types (grammar.level 13) (expression_reader types) c.args.depth (drop c.args.at c.args.tokens.now) stop c.error_of.result h (subst (λ v. IsErrorOf v stop c.error_of.result) from c.error_of.ensures)
-
-pub error_of-requires : goal.error_of-requires
-error_of-requires c = within (grammar.outside c.args.types.now) (grammar.level 13) c.args.depth c.tokens_from-from.result.now c.in-Err.stop c.in-Err.ensures
+pub error_of-requires-clause-stopped : goal.error_of-requires-clause-stopped
+error_of-requires-clause-stopped c =
+    subst (λ v. IsStop (grammar.outside c.args.types.now) (grammar.level 13) c.args.depth v c.in-Err.stop) c.tokens_from-from.ensures.from c.in-Err.ensures

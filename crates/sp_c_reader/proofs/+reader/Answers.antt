@@ -1,0 +1,527 @@
+-- The goals of the readers; their proofs stand in files of their own.
+mod Operators
+mod Operands
+mod Declarators
+mod Parameters
+mod Specifiers
+mod Enumerations
+use Rattle.sp_c_reader.proofs.+reader.Answers.Operators as read_operators
+use Rattle.sp_c_reader.proofs.+reader.Answers.Operands as read_operands
+use Rattle.sp_c_reader.proofs.+reader.Answers.Declarators as read_declarators
+use Rattle.sp_c_reader.proofs.+reader.Answers.Parameters as read_parameters
+use Rattle.sp_c_reader.proofs.+reader.Answers.Specifiers as read_specifiers
+use Rattle.sp_c_reader.proofs.+reader.Answers.Enumerations as read_enumerations
+use Rattle.sp_c_reader.proofs.+reader.Goals as goal
+
+pub expressions::read_cast-returns-then-depth-lt2 : goal.expressions::read_cast-returns-then-depth-lt2
+expressions::read_cast-returns-then-depth-lt2 = read_operators.expressions::read_cast-returns-then-depth-lt2
+
+pub expressions::read_cast-returns-then-is_mark : goal.expressions::read_cast-returns-then-is_mark
+expressions::read_cast-returns-then-is_mark = read_operators.expressions::read_cast-returns-then-is_mark
+
+pub expressions::read_cast-returns-in_err-part : goal.expressions::read_cast-returns-in_err-part
+expressions::read_cast-returns-in_err-part = read_operators.expressions::read_cast-returns-in_err-part
+
+pub expressions::read_cast-returns : goal.expressions::read_cast-returns
+expressions::read_cast-returns = read_operators.expressions::read_cast-returns
+
+pub expressions::read_level-returns-in_err-part : goal.expressions::read_level-returns-in_err-part
+expressions::read_level-returns-in_err-part = read_operators.expressions::read_level-returns-in_err-part
+
+pub expressions::read_level-returns-in_err-part-2 : goal.expressions::read_level-returns-in_err-part-2
+expressions::read_level-returns-in_err-part-2 = read_operators.expressions::read_level-returns-in_err-part-2
+
+pub expressions::read_level-levels-preserved : goal.expressions::read_level-levels-preserved
+expressions::read_level-levels-preserved = read_operators.expressions::read_level-levels-preserved
+
+pub expressions::read_operators-returns-then-reached-depth : goal.expressions::read_operators-returns-then-reached-depth
+expressions::read_operators-returns-then-reached-depth = read_operators.expressions::read_operators-returns-then-reached-depth
+
+pub expressions::read_operators-returns-in_err-right : goal.expressions::read_operators-returns-in_err-right
+expressions::read_operators-returns-in_err-right = read_operators.expressions::read_operators-returns-in_err-right
+
+pub expressions::read_operators-operators-preserved : goal.expressions::read_operators-operators-preserved
+expressions::read_operators-operators-preserved = read_operators.expressions::read_operators-operators-preserved
+
+pub expressions::read_operators-returns : goal.expressions::read_operators-returns
+expressions::read_operators-returns = read_operators.expressions::read_operators-returns
+
+pub expressions::read_sequence-returns-then-reached-depth : goal.expressions::read_sequence-returns-then-reached-depth
+expressions::read_sequence-returns-then-reached-depth = read_operators.expressions::read_sequence-returns-then-reached-depth
+
+pub expressions::read_sequence-returns-in_err-right : goal.expressions::read_sequence-returns-in_err-right
+expressions::read_sequence-returns-in_err-right = read_operators.expressions::read_sequence-returns-in_err-right
+
+pub expressions::read_sequence-commas-preserved : goal.expressions::read_sequence-commas-preserved
+expressions::read_sequence-commas-preserved = read_operators.expressions::read_sequence-commas-preserved
+
+pub expressions::read_sequence-returns : goal.expressions::read_sequence-returns
+expressions::read_sequence-returns = read_operators.expressions::read_sequence-returns
+
+pub expressions::read_assignment-returns-then-not-continues_level : goal.expressions::read_assignment-returns-then-not-continues_level
+expressions::read_assignment-returns-then-not-continues_level = read_operators.expressions::read_assignment-returns-then-not-continues_level
+
+pub expressions::read_assignment-returns-then-inner-depth : goal.expressions::read_assignment-returns-then-inner-depth
+expressions::read_assignment-returns-then-inner-depth = read_operators.expressions::read_assignment-returns-then-inner-depth
+
+pub expressions::read_assignment-returns-in_err-assigned : goal.expressions::read_assignment-returns-in_err-assigned
+expressions::read_assignment-returns-in_err-assigned = read_operators.expressions::read_assignment-returns-in_err-assigned
+
+pub expressions::read_assignment-returns : goal.expressions::read_assignment-returns
+expressions::read_assignment-returns = read_operators.expressions::read_assignment-returns
+
+pub expressions::read_conditional-returns-then-not-continues_level : goal.expressions::read_conditional-returns-then-not-continues_level
+expressions::read_conditional-returns-then-not-continues_level = read_operators.expressions::read_conditional-returns-then-not-continues_level
+
+pub expressions::read_conditional-returns-then-inner-depth : goal.expressions::read_conditional-returns-then-inner-depth
+expressions::read_conditional-returns-then-inner-depth = read_operators.expressions::read_conditional-returns-then-inner-depth
+
+pub expressions::read_conditional-returns-in_err-first : goal.expressions::read_conditional-returns-in_err-first
+expressions::read_conditional-returns-in_err-first = read_operators.expressions::read_conditional-returns-in_err-first
+
+pub expressions::read_conditional-returns-in_err-rest : goal.expressions::read_conditional-returns-in_err-rest
+expressions::read_conditional-returns-in_err-rest = read_operators.expressions::read_conditional-returns-in_err-rest
+
+pub expressions::read_conditional-returns-in_err-second : goal.expressions::read_conditional-returns-in_err-second
+expressions::read_conditional-returns-in_err-second = read_operators.expressions::read_conditional-returns-in_err-second
+
+pub expressions::read_conditional-returns : goal.expressions::read_conditional-returns
+expressions::read_conditional-returns = read_operators.expressions::read_conditional-returns
+
+pub expressions::read_after_paren-returns-in_err-name : goal.expressions::read_after_paren-returns-in_err-name
+expressions::read_after_paren-returns-in_err-name = read_operators.expressions::read_after_paren-returns-in_err-name
+
+pub expressions::read_after_paren-returns-in_err-rest : goal.expressions::read_after_paren-returns-in_err-rest
+expressions::read_after_paren-returns-in_err-rest = read_operators.expressions::read_after_paren-returns-in_err-rest
+
+pub expressions::read_after_paren-returns-in_err-operand : goal.expressions::read_after_paren-returns-in_err-operand
+expressions::read_after_paren-returns-in_err-operand = read_operators.expressions::read_after_paren-returns-in_err-operand
+
+pub expressions::read_after_paren-returns-then-is_specifier : goal.expressions::read_after_paren-returns-then-is_specifier
+expressions::read_after_paren-returns-then-is_specifier = read_operators.expressions::read_after_paren-returns-then-is_specifier
+
+pub expressions::read_after_paren-returns-in_err-inner : goal.expressions::read_after_paren-returns-in_err-inner
+expressions::read_after_paren-returns-in_err-inner = read_operators.expressions::read_after_paren-returns-in_err-inner
+
+pub expressions::read_after_paren-returns-in_err-rest-2 : goal.expressions::read_after_paren-returns-in_err-rest-2
+expressions::read_after_paren-returns-in_err-rest-2 = read_operators.expressions::read_after_paren-returns-in_err-rest-2
+
+pub expressions::read_after_paren-returns-in_err-part : goal.expressions::read_after_paren-returns-in_err-part
+expressions::read_after_paren-returns-in_err-part = read_operators.expressions::read_after_paren-returns-in_err-part
+
+pub expressions::read_after_paren-returns : goal.expressions::read_after_paren-returns
+expressions::read_after_paren-returns = read_operators.expressions::read_after_paren-returns
+
+pub expressions::read_unary-returns-then-is_mark : goal.expressions::read_unary-returns-then-is_mark
+expressions::read_unary-returns-then-is_mark = read_operands.expressions::read_unary-returns-then-is_mark
+
+pub expressions::read_after_sizeof-returns-then-is_mark : goal.expressions::read_after_sizeof-returns-then-is_mark
+expressions::read_after_sizeof-returns-then-is_mark = read_operands.expressions::read_after_sizeof-returns-then-is_mark
+
+pub expressions::read_after_sizeof-returns-in_err-operand : goal.expressions::read_after_sizeof-returns-in_err-operand
+expressions::read_after_sizeof-returns-in_err-operand = read_operands.expressions::read_after_sizeof-returns-in_err-operand
+
+pub expressions::read_after_sizeof-returns : goal.expressions::read_after_sizeof-returns
+expressions::read_after_sizeof-returns = read_operands.expressions::read_after_sizeof-returns
+
+pub expressions::read_sizeof_after_paren-returns-in_err-name : goal.expressions::read_sizeof_after_paren-returns-in_err-name
+expressions::read_sizeof_after_paren-returns-in_err-name = read_operands.expressions::read_sizeof_after_paren-returns-in_err-name
+
+pub expressions::read_sizeof_after_paren-returns-in_err-rest : goal.expressions::read_sizeof_after_paren-returns-in_err-rest
+expressions::read_sizeof_after_paren-returns-in_err-rest = read_operands.expressions::read_sizeof_after_paren-returns-in_err-rest
+
+pub expressions::read_sizeof_after_paren-returns-then-is_specifier : goal.expressions::read_sizeof_after_paren-returns-then-is_specifier
+expressions::read_sizeof_after_paren-returns-then-is_specifier = read_operands.expressions::read_sizeof_after_paren-returns-then-is_specifier
+
+pub expressions::read_sizeof_after_paren-returns-in_err-inner : goal.expressions::read_sizeof_after_paren-returns-in_err-inner
+expressions::read_sizeof_after_paren-returns-in_err-inner = read_operands.expressions::read_sizeof_after_paren-returns-in_err-inner
+
+pub expressions::read_sizeof_after_paren-returns-in_err-rest-2 : goal.expressions::read_sizeof_after_paren-returns-in_err-rest-2
+expressions::read_sizeof_after_paren-returns-in_err-rest-2 = read_operands.expressions::read_sizeof_after_paren-returns-in_err-rest-2
+
+pub expressions::read_sizeof_after_paren-returns-in_err-operand : goal.expressions::read_sizeof_after_paren-returns-in_err-operand
+expressions::read_sizeof_after_paren-returns-in_err-operand = read_operands.expressions::read_sizeof_after_paren-returns-in_err-operand
+
+pub expressions::read_sizeof_after_paren-returns : goal.expressions::read_sizeof_after_paren-returns
+expressions::read_sizeof_after_paren-returns = read_operands.expressions::read_sizeof_after_paren-returns
+
+pub expressions::read_suffixes-returns-then-part-depth : goal.expressions::read_suffixes-returns-then-part-depth
+expressions::read_suffixes-returns-then-part-depth = read_operands.expressions::read_suffixes-returns-then-part-depth
+
+pub expressions::read_suffixes-returns : goal.expressions::read_suffixes-returns
+expressions::read_suffixes-returns = read_operands.expressions::read_suffixes-returns
+
+pub expressions::read_primary-returns-then-depth-lt2 : goal.expressions::read_primary-returns-then-depth-lt2
+expressions::read_primary-returns-then-depth-lt2 = read_operands.expressions::read_primary-returns-then-depth-lt2
+
+pub expressions::read_primary-returns-in_err-inner : goal.expressions::read_primary-returns-in_err-inner
+expressions::read_primary-returns-in_err-inner = read_operands.expressions::read_primary-returns-in_err-inner
+
+pub expressions::read_primary-returns-in_err-rest : goal.expressions::read_primary-returns-in_err-rest
+expressions::read_primary-returns-in_err-rest = read_operands.expressions::read_primary-returns-in_err-rest
+
+pub expressions::read_primary-returns-then-is_mark : goal.expressions::read_primary-returns-then-is_mark
+expressions::read_primary-returns-then-is_mark = read_operands.expressions::read_primary-returns-then-is_mark
+
+pub expressions::read_primary-returns-then-not-is_operand : goal.expressions::read_primary-returns-then-not-is_operand
+expressions::read_primary-returns-then-not-is_operand = read_operands.expressions::read_primary-returns-then-not-is_operand
+
+pub expressions::read_primary-returns-then-depth-lt1 : goal.expressions::read_primary-returns-then-depth-lt1
+expressions::read_primary-returns-then-depth-lt1 = read_operands.expressions::read_primary-returns-then-depth-lt1
+
+pub expressions::read_primary-returns : goal.expressions::read_primary-returns
+expressions::read_primary-returns = read_operands.expressions::read_primary-returns
+
+pub expressions::read_unary-returns-then-is_prefix : goal.expressions::read_unary-returns-then-is_prefix
+expressions::read_unary-returns-then-is_prefix = read_operands.expressions::read_unary-returns-then-is_prefix
+
+pub expressions::read_unary-returns-in_err-operand : goal.expressions::read_unary-returns-in_err-operand
+expressions::read_unary-returns-in_err-operand = read_operands.expressions::read_unary-returns-in_err-operand
+
+pub expressions::read_unary-returns-then-is_mark-2 : goal.expressions::read_unary-returns-then-is_mark-2
+expressions::read_unary-returns-then-is_mark-2 = read_operands.expressions::read_unary-returns-then-is_mark-2
+
+pub expressions::read_unary-returns-in_err-operand-2 : goal.expressions::read_unary-returns-in_err-operand-2
+expressions::read_unary-returns-in_err-operand-2 = read_operands.expressions::read_unary-returns-in_err-operand-2
+
+pub expressions::read_unary-returns-then-is_prefix-2 : goal.expressions::read_unary-returns-then-is_prefix-2
+expressions::read_unary-returns-then-is_prefix-2 = read_operands.expressions::read_unary-returns-then-is_prefix-2
+
+pub expressions::read_unary-returns-in_err-part : goal.expressions::read_unary-returns-in_err-part
+expressions::read_unary-returns-in_err-part = read_operands.expressions::read_unary-returns-in_err-part
+
+pub expressions::read_unary-returns : goal.expressions::read_unary-returns
+expressions::read_unary-returns = read_operands.expressions::read_unary-returns
+
+pub expressions::read_arguments-returns-then-not-begins_expression : goal.expressions::read_arguments-returns-then-not-begins_expression
+expressions::read_arguments-returns-then-not-begins_expression = read_operands.expressions::read_arguments-returns-then-not-begins_expression
+
+pub expressions::read_arguments-returns-in_err-first : goal.expressions::read_arguments-returns-in_err-first
+expressions::read_arguments-returns-in_err-first = read_operands.expressions::read_arguments-returns-in_err-first
+
+pub expressions::read_arguments-arguments-init : goal.expressions::read_arguments-arguments-init
+expressions::read_arguments-arguments-init = read_operands.expressions::read_arguments-arguments-init
+
+pub expressions::read_arguments-returns-in_err-next : goal.expressions::read_arguments-returns-in_err-next
+expressions::read_arguments-returns-in_err-next = read_operands.expressions::read_arguments-returns-in_err-next
+
+pub expressions::read_arguments-arguments-preserved : goal.expressions::read_arguments-arguments-preserved
+expressions::read_arguments-arguments-preserved = read_operands.expressions::read_arguments-arguments-preserved
+
+pub expressions::read_arguments-returns : goal.expressions::read_arguments-returns
+expressions::read_arguments-returns = read_operands.expressions::read_arguments-returns
+
+pub expressions::read_suffix-returns-in_err-index : goal.expressions::read_suffix-returns-in_err-index
+expressions::read_suffix-returns-in_err-index = read_operands.expressions::read_suffix-returns-in_err-index
+
+pub expressions::read_suffix-returns-in_err-rest : goal.expressions::read_suffix-returns-in_err-rest
+expressions::read_suffix-returns-in_err-rest = read_operands.expressions::read_suffix-returns-in_err-rest
+
+pub expressions::read_suffix-returns-then-is_mark : goal.expressions::read_suffix-returns-then-is_mark
+expressions::read_suffix-returns-then-is_mark = read_operands.expressions::read_suffix-returns-then-is_mark
+
+pub expressions::read_suffix-returns-then-not-is_name : goal.expressions::read_suffix-returns-then-not-is_name
+expressions::read_suffix-returns-then-not-is_name = read_operands.expressions::read_suffix-returns-then-not-is_name
+
+pub expressions::read_suffix-returns-then-is_mark-3 : goal.expressions::read_suffix-returns-then-is_mark-3
+expressions::read_suffix-returns-then-is_mark-3 = read_operands.expressions::read_suffix-returns-then-is_mark-3
+
+pub expressions::read_suffix-returns : goal.expressions::read_suffix-returns
+expressions::read_suffix-returns = read_operands.expressions::read_suffix-returns
+
+pub expressions::read_call-returns-in_err-arguments : goal.expressions::read_call-returns-in_err-arguments
+expressions::read_call-returns-in_err-arguments = read_operands.expressions::read_call-returns-in_err-arguments
+
+pub expressions::read_call-returns-in_err-rest : goal.expressions::read_call-returns-in_err-rest
+expressions::read_call-returns-in_err-rest = read_operands.expressions::read_call-returns-in_err-rest
+
+pub expressions::read_call-returns : goal.expressions::read_call-returns
+expressions::read_call-returns = read_operands.expressions::read_call-returns
+
+pub declarators::read_type_name-returns-in_err-specifiers : goal.declarators::read_type_name-returns-in_err-specifiers
+declarators::read_type_name-returns-in_err-specifiers = read_declarators.declarators::read_type_name-returns-in_err-specifiers
+
+pub declarators::read_type_name-returns-in_err-part : goal.declarators::read_type_name-returns-in_err-part
+declarators::read_type_name-returns-in_err-part = read_declarators.declarators::read_type_name-returns-in_err-part
+
+pub declarators::read_type_name-returns : goal.declarators::read_type_name-returns
+declarators::read_type_name-returns = read_declarators.declarators::read_type_name-returns
+
+pub declarators::read_declarator-returns-then-depth-lt2 : goal.declarators::read_declarator-returns-then-depth-lt2
+declarators::read_declarator-returns-then-depth-lt2 = read_declarators.declarators::read_declarator-returns-then-depth-lt2
+
+pub declarators::read_declarator-returns-then-is_mark : goal.declarators::read_declarator-returns-then-is_mark
+declarators::read_declarator-returns-then-is_mark = read_declarators.declarators::read_declarator-returns-then-is_mark
+
+pub declarators::read_declarator-returns-in_err-head : goal.declarators::read_declarator-returns-in_err-head
+declarators::read_declarator-returns-in_err-head = read_declarators.declarators::read_declarator-returns-in_err-head
+
+pub declarators::read_declarator-returns : goal.declarators::read_declarator-returns
+declarators::read_declarator-returns = read_declarators.declarators::read_declarator-returns
+
+pub declarators::read_pointer-returns-in_err-inner : goal.declarators::read_pointer-returns-in_err-inner
+declarators::read_pointer-returns-in_err-inner = read_declarators.declarators::read_pointer-returns-in_err-inner
+
+pub declarators::read_pointer-returns : goal.declarators::read_pointer-returns
+declarators::read_pointer-returns = read_declarators.declarators::read_pointer-returns
+
+pub declarators::read_direct-returns-then-depth-lt2 : goal.declarators::read_direct-returns-then-depth-lt2
+declarators::read_direct-returns-then-depth-lt2 = read_declarators.declarators::read_direct-returns-then-depth-lt2
+
+pub declarators::read_direct-returns-then-is_mark : goal.declarators::read_direct-returns-then-is_mark
+declarators::read_direct-returns-then-is_mark = read_declarators.declarators::read_direct-returns-then-is_mark
+
+pub declarators::read_direct-returns-in-Some : goal.declarators::read_direct-returns-in-Some
+declarators::read_direct-returns-in-Some = read_declarators.declarators::read_direct-returns-in-Some
+
+pub declarators::read_direct-returns-then-is_concrete : goal.declarators::read_direct-returns-then-is_concrete
+declarators::read_direct-returns-then-is_concrete = read_declarators.declarators::read_direct-returns-then-is_concrete
+
+pub declarators::read_direct-returns : goal.declarators::read_direct-returns
+declarators::read_direct-returns = read_declarators.declarators::read_direct-returns
+
+pub declarators::read_declarator_after_paren-returns-in_err-parameters : goal.declarators::read_declarator_after_paren-returns-in_err-parameters
+declarators::read_declarator_after_paren-returns-in_err-parameters = read_declarators.declarators::read_declarator_after_paren-returns-in_err-parameters
+
+pub declarators::read_declarator_after_paren-returns-in_err-rest : goal.declarators::read_declarator_after_paren-returns-in_err-rest
+declarators::read_declarator_after_paren-returns-in_err-rest = read_declarators.declarators::read_declarator_after_paren-returns-in_err-rest
+
+pub declarators::read_declarator_after_paren-returns-then-begins_parameters : goal.declarators::read_declarator_after_paren-returns-then-begins_parameters
+declarators::read_declarator_after_paren-returns-then-begins_parameters = read_declarators.declarators::read_declarator_after_paren-returns-then-begins_parameters
+
+pub declarators::read_declarator_after_paren-returns-in_err-inner : goal.declarators::read_declarator_after_paren-returns-in_err-inner
+declarators::read_declarator_after_paren-returns-in_err-inner = read_declarators.declarators::read_declarator_after_paren-returns-in_err-inner
+
+pub declarators::read_declarator_after_paren-returns-in_err-rest-2 : goal.declarators::read_declarator_after_paren-returns-in_err-rest-2
+declarators::read_declarator_after_paren-returns-in_err-rest-2 = read_declarators.declarators::read_declarator_after_paren-returns-in_err-rest-2
+
+pub declarators::read_declarator_after_paren-returns : goal.declarators::read_declarator_after_paren-returns
+declarators::read_declarator_after_paren-returns = read_declarators.declarators::read_declarator_after_paren-returns
+
+pub declarators::read_group-returns-then-begins_deeper : goal.declarators::read_group-returns-then-begins_deeper
+declarators::read_group-returns-then-begins_deeper = read_declarators.declarators::read_group-returns-then-begins_deeper
+
+pub declarators::read_group-returns-then-is_mark : goal.declarators::read_group-returns-then-is_mark
+declarators::read_group-returns-then-is_mark = read_declarators.declarators::read_group-returns-then-is_mark
+
+pub declarators::read_group-returns-in_err-head : goal.declarators::read_group-returns-in_err-head
+declarators::read_group-returns-in_err-head = read_declarators.declarators::read_group-returns-in_err-head
+
+pub declarators::read_group-returns-then-is_mark-2 : goal.declarators::read_group-returns-then-is_mark-2
+declarators::read_group-returns-then-is_mark-2 = read_declarators.declarators::read_group-returns-then-is_mark-2
+
+pub declarators::read_group-returns-in-Some : goal.declarators::read_group-returns-in-Some
+declarators::read_group-returns-in-Some = read_declarators.declarators::read_group-returns-in-Some
+
+pub declarators::read_group-returns-in_err-part : goal.declarators::read_group-returns-in_err-part
+declarators::read_group-returns-in_err-part = read_declarators.declarators::read_group-returns-in_err-part
+
+pub declarators::read_group-returns-then-begins_array : goal.declarators::read_group-returns-then-begins_array
+declarators::read_group-returns-then-begins_array = read_declarators.declarators::read_group-returns-then-begins_array
+
+pub declarators::read_group-returns : goal.declarators::read_group-returns
+declarators::read_group-returns = read_declarators.declarators::read_group-returns
+
+pub declarators::read_declarator_suffixes-returns-then-part-depth : goal.declarators::read_declarator_suffixes-returns-then-part-depth
+declarators::read_declarator_suffixes-returns-then-part-depth = read_declarators.declarators::read_declarator_suffixes-returns-then-part-depth
+
+pub declarators::read_declarator_suffixes-returns-in_err-part : goal.declarators::read_declarator_suffixes-returns-in_err-part
+declarators::read_declarator_suffixes-returns-in_err-part = read_declarators.declarators::read_declarator_suffixes-returns-in_err-part
+
+pub declarators::read_declarator_suffixes-suffixes-smaller : goal.declarators::read_declarator_suffixes-suffixes-smaller
+declarators::read_declarator_suffixes-suffixes-smaller = read_declarators.declarators::read_declarator_suffixes-suffixes-smaller
+
+pub declarators::read_declarator_suffixes-suffixes-preserved : goal.declarators::read_declarator_suffixes-suffixes-preserved
+declarators::read_declarator_suffixes-suffixes-preserved = read_declarators.declarators::read_declarator_suffixes-suffixes-preserved
+
+pub declarators::read_declarator_suffixes-returns : goal.declarators::read_declarator_suffixes-returns
+declarators::read_declarator_suffixes-returns = read_declarators.declarators::read_declarator_suffixes-returns
+
+pub declarators::read_declarator-read_declarator_suffixes-requires : goal.declarators::read_declarator-read_declarator_suffixes-requires
+declarators::read_declarator-read_declarator_suffixes-requires = read_declarators.declarators::read_declarator-read_declarator_suffixes-requires
+
+pub declarators::read_group-read_declarator_suffixes-requires : goal.declarators::read_group-read_declarator_suffixes-requires
+declarators::read_group-read_declarator_suffixes-requires = read_declarators.declarators::read_group-read_declarator_suffixes-requires
+
+pub declarators::read_group-read_declarator_suffixes-requires-in-Some : goal.declarators::read_group-read_declarator_suffixes-requires-in-Some
+declarators::read_group-read_declarator_suffixes-requires-in-Some = read_declarators.declarators::read_group-read_declarator_suffixes-requires-in-Some
+
+pub declarators::read_group-read_declarator_suffixes-requires-then-begins_array : goal.declarators::read_group-read_declarator_suffixes-requires-then-begins_array
+declarators::read_group-read_declarator_suffixes-requires-then-begins_array = read_declarators.declarators::read_group-read_declarator_suffixes-requires-then-begins_array
+
+pub declarators::read_parameter-returns-in_err-specifiers : goal.declarators::read_parameter-returns-in_err-specifiers
+declarators::read_parameter-returns-in_err-specifiers = read_parameters.declarators::read_parameter-returns-in_err-specifiers
+
+pub declarators::read_parameter-returns-in_err-part : goal.declarators::read_parameter-returns-in_err-part
+declarators::read_parameter-returns-in_err-part = read_parameters.declarators::read_parameter-returns-in_err-part
+
+pub declarators::read_parameter-returns : goal.declarators::read_parameter-returns
+declarators::read_parameter-returns = read_parameters.declarators::read_parameter-returns
+
+pub declarators::read_length-returns-then-not-begins_expression : goal.declarators::read_length-returns-then-not-begins_expression
+declarators::read_length-returns-then-not-begins_expression = read_parameters.declarators::read_length-returns-then-not-begins_expression
+
+pub declarators::read_length-returns-in_err-length : goal.declarators::read_length-returns-in_err-length
+declarators::read_length-returns-in_err-length = read_parameters.declarators::read_length-returns-in_err-length
+
+pub declarators::read_length-returns : goal.declarators::read_length-returns
+declarators::read_length-returns = read_parameters.declarators::read_length-returns
+
+pub declarators::read_part-returns-then-is_mark : goal.declarators::read_part-returns-then-is_mark
+declarators::read_part-returns-then-is_mark = read_parameters.declarators::read_part-returns-then-is_mark
+
+pub declarators::read_array-returns-in_err-rest : goal.declarators::read_array-returns-in_err-rest
+declarators::read_array-returns-in_err-rest = read_parameters.declarators::read_array-returns-in_err-rest
+
+pub declarators::read_function-returns-in_err-parameters : goal.declarators::read_function-returns-in_err-parameters
+declarators::read_function-returns-in_err-parameters = read_parameters.declarators::read_function-returns-in_err-parameters
+
+pub declarators::read_function-returns-in_err-rest : goal.declarators::read_function-returns-in_err-rest
+declarators::read_function-returns-in_err-rest = read_parameters.declarators::read_function-returns-in_err-rest
+
+pub declarators::read_function-returns : goal.declarators::read_function-returns
+declarators::read_function-returns = read_parameters.declarators::read_function-returns
+
+pub declarators::read_parameters-returns-then-not-begins_specifiers : goal.declarators::read_parameters-returns-then-not-begins_specifiers
+declarators::read_parameters-returns-then-not-begins_specifiers = read_parameters.declarators::read_parameters-returns-then-not-begins_specifiers
+
+pub declarators::read_parameters-returns-in_err-first : goal.declarators::read_parameters-returns-in_err-first
+declarators::read_parameters-returns-in_err-first = read_parameters.declarators::read_parameters-returns-in_err-first
+
+pub declarators::read_parameters-parameters-init : goal.declarators::read_parameters-parameters-init
+declarators::read_parameters-parameters-init = read_parameters.declarators::read_parameters-parameters-init
+
+pub declarators::read_parameters-returns-then-is_mark : goal.declarators::read_parameters-returns-then-is_mark
+declarators::read_parameters-returns-then-is_mark = read_parameters.declarators::read_parameters-returns-then-is_mark
+
+pub declarators::read_parameters-returns-in_err-next : goal.declarators::read_parameters-returns-in_err-next
+declarators::read_parameters-returns-in_err-next = read_parameters.declarators::read_parameters-returns-in_err-next
+
+pub declarators::read_parameters-parameters-preserved : goal.declarators::read_parameters-parameters-preserved
+declarators::read_parameters-parameters-preserved = read_parameters.declarators::read_parameters-parameters-preserved
+
+pub declarators::read_parameters-returns : goal.declarators::read_parameters-returns
+declarators::read_parameters-returns = read_parameters.declarators::read_parameters-returns
+
+pub specifiers::read_members-members-init : goal.specifiers::read_members-members-init
+specifiers::read_members-members-init = read_specifiers.specifiers::read_members-members-init
+
+pub specifiers::read_members-returns-in_err-next : goal.specifiers::read_members-returns-in_err-next
+specifiers::read_members-returns-in_err-next = read_specifiers.specifiers::read_members-returns-in_err-next
+
+pub specifiers::read_members-members-preserved : goal.specifiers::read_members-members-preserved
+specifiers::read_members-members-preserved = read_specifiers.specifiers::read_members-members-preserved
+
+pub specifiers::read_members-returns : goal.specifiers::read_members-returns
+specifiers::read_members-returns = read_specifiers.specifiers::read_members-returns
+
+pub specifiers::read_specifiers-returns-then-is_too_deep : goal.specifiers::read_specifiers-returns-then-is_too_deep
+specifiers::read_specifiers-returns-then-is_too_deep = read_specifiers.specifiers::read_specifiers-returns-then-is_too_deep
+
+pub specifiers::read_specifiers-returns-in_err-next : goal.specifiers::read_specifiers-returns-in_err-next
+specifiers::read_specifiers-returns-in_err-next = read_specifiers.specifiers::read_specifiers-returns-in_err-next
+
+pub specifiers::read_specifiers-specifiers-preserved : goal.specifiers::read_specifiers-specifiers-preserved
+specifiers::read_specifiers-specifiers-preserved = read_specifiers.specifiers::read_specifiers-specifiers-preserved
+
+pub specifiers::read_specifiers-returns-then-not-is_typed : goal.specifiers::read_specifiers-returns-then-not-is_typed
+specifiers::read_specifiers-returns-then-not-is_typed = read_specifiers.specifiers::read_specifiers-returns-then-not-is_typed
+
+pub specifiers::read_specifiers-returns : goal.specifiers::read_specifiers-returns
+specifiers::read_specifiers-returns = read_specifiers.specifiers::read_specifiers-returns
+
+pub specifiers::read_structure-returns-then-depth-lt2 : goal.specifiers::read_structure-returns-then-depth-lt2
+specifiers::read_structure-returns-then-depth-lt2 = read_specifiers.specifiers::read_structure-returns-then-depth-lt2
+
+pub specifiers::read_structure-returns-then-is_mark : goal.specifiers::read_structure-returns-then-is_mark
+specifiers::read_structure-returns-then-is_mark = read_specifiers.specifiers::read_structure-returns-then-is_mark
+
+pub specifiers::read_structure-returns-in_default : goal.specifiers::read_structure-returns-in_default
+specifiers::read_structure-returns-in_default = read_specifiers.specifiers::read_structure-returns-in_default
+
+pub specifiers::read_structure-returns : goal.specifiers::read_structure-returns
+specifiers::read_structure-returns = read_specifiers.specifiers::read_structure-returns
+
+pub specifiers::read_tagged-returns-then-depth-lt2 : goal.specifiers::read_tagged-returns-then-depth-lt2
+specifiers::read_tagged-returns-then-depth-lt2 = read_specifiers.specifiers::read_tagged-returns-then-depth-lt2
+
+pub specifiers::read_tagged-returns-then-is_mark : goal.specifiers::read_tagged-returns-then-is_mark
+specifiers::read_tagged-returns-then-is_mark = read_specifiers.specifiers::read_tagged-returns-then-is_mark
+
+pub specifiers::read_tagged-returns : goal.specifiers::read_tagged-returns
+specifiers::read_tagged-returns = read_specifiers.specifiers::read_tagged-returns
+
+pub specifiers::read_member-returns-in_err-specifiers : goal.specifiers::read_member-returns-in_err-specifiers
+specifiers::read_member-returns-in_err-specifiers = read_specifiers.specifiers::read_member-returns-in_err-specifiers
+
+pub specifiers::read_member-returns-in_err-first : goal.specifiers::read_member-returns-in_err-first
+specifiers::read_member-returns-in_err-first = read_specifiers.specifiers::read_member-returns-in_err-first
+
+pub specifiers::read_member-returns-in_err-items : goal.specifiers::read_member-returns-in_err-items
+specifiers::read_member-returns-in_err-items = read_specifiers.specifiers::read_member-returns-in_err-items
+
+pub specifiers::read_member-returns-in_err-rest : goal.specifiers::read_member-returns-in_err-rest
+specifiers::read_member-returns-in_err-rest = read_specifiers.specifiers::read_member-returns-in_err-rest
+
+pub specifiers::read_member-returns : goal.specifiers::read_member-returns
+specifiers::read_member-returns = read_specifiers.specifiers::read_member-returns
+
+pub specifiers::read_items-items-init : goal.specifiers::read_items-items-init
+specifiers::read_items-items-init = read_specifiers.specifiers::read_items-items-init
+
+pub specifiers::read_items-returns-in_err-next : goal.specifiers::read_items-returns-in_err-next
+specifiers::read_items-returns-in_err-next = read_specifiers.specifiers::read_items-returns-in_err-next
+
+pub specifiers::read_items-items-preserved : goal.specifiers::read_items-items-preserved
+specifiers::read_items-items-preserved = read_specifiers.specifiers::read_items-items-preserved
+
+pub specifiers::read_items-returns : goal.specifiers::read_items-returns
+specifiers::read_items-returns = read_specifiers.specifiers::read_items-returns
+
+pub specifiers::read_member-read_items-requires : goal.specifiers::read_member-read_items-requires
+specifiers::read_member-read_items-requires = read_specifiers.specifiers::read_member-read_items-requires
+
+pub specifiers::read_enumerators-enumerators-init : goal.specifiers::read_enumerators-enumerators-init
+specifiers::read_enumerators-enumerators-init = read_enumerations.specifiers::read_enumerators-enumerators-init
+
+pub specifiers::read_enumerators-returns-in_err-next : goal.specifiers::read_enumerators-returns-in_err-next
+specifiers::read_enumerators-returns-in_err-next = read_enumerations.specifiers::read_enumerators-returns-in_err-next
+
+pub specifiers::read_enumerators-enumerators-preserved : goal.specifiers::read_enumerators-enumerators-preserved
+specifiers::read_enumerators-enumerators-preserved = read_enumerations.specifiers::read_enumerators-enumerators-preserved
+
+pub specifiers::read_enumerators-returns : goal.specifiers::read_enumerators-returns
+specifiers::read_enumerators-returns = read_enumerations.specifiers::read_enumerators-returns
+
+pub specifiers::read_enumerator-returns-in_default : goal.specifiers::read_enumerator-returns-in_default
+specifiers::read_enumerator-returns-in_default = read_enumerations.specifiers::read_enumerator-returns-in_default
+
+pub specifiers::read_enumerator-returns-then-not-is_mark : goal.specifiers::read_enumerator-returns-then-not-is_mark
+specifiers::read_enumerator-returns-then-not-is_mark = read_enumerations.specifiers::read_enumerator-returns-then-not-is_mark
+
+pub specifiers::read_enumeration-returns-then-is_mark : goal.specifiers::read_enumeration-returns-then-is_mark
+specifiers::read_enumeration-returns-then-is_mark = read_enumerations.specifiers::read_enumeration-returns-then-is_mark
+
+pub specifiers::read_enumeration-returns-in_default : goal.specifiers::read_enumeration-returns-in_default
+specifiers::read_enumeration-returns-in_default = read_enumerations.specifiers::read_enumeration-returns-in_default
+
+pub specifiers::read_enumeration-returns : goal.specifiers::read_enumeration-returns
+specifiers::read_enumeration-returns = read_enumerations.specifiers::read_enumeration-returns
+
+pub specifiers::read_named-returns-then-is_mark : goal.specifiers::read_named-returns-then-is_mark
+specifiers::read_named-returns-then-is_mark = read_enumerations.specifiers::read_named-returns-then-is_mark
+
+pub specifiers::read_named-returns : goal.specifiers::read_named-returns
+specifiers::read_named-returns = read_enumerations.specifiers::read_named-returns
+
+pub specifiers::read_constants-returns : goal.specifiers::read_constants-returns
+specifiers::read_constants-returns = read_enumerations.specifiers::read_constants-returns
+
+pub specifiers::read_enumerator-returns-then-depth-lt1 : goal.specifiers::read_enumerator-returns-then-depth-lt1
+specifiers::read_enumerator-returns-then-depth-lt1 = read_enumerations.specifiers::read_enumerator-returns-then-depth-lt1
+
+pub specifiers::read_enumerator-returns-in_err-value : goal.specifiers::read_enumerator-returns-in_err-value
+specifiers::read_enumerator-returns-in_err-value = read_enumerations.specifiers::read_enumerator-returns-in_err-value
+
+pub specifiers::read_enumerator-returns : goal.specifiers::read_enumerator-returns
+specifiers::read_enumerator-returns = read_enumerations.specifiers::read_enumerator-returns

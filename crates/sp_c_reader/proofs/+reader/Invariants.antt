@@ -1,0 +1,318 @@
+-- The readers end since each takes a token before it comes back to a looser part. In a loop the part that was read so far stands
+-- for all that was read.
+use Rattle.std.proofs.Common.{◌≡◌, ◌+◌, ◌-◌, ◌*◌, ◌≤◌, [], ◌∷◌, true, length, map}
+use Rattle.std.specs.Prelude.{is_some}
+use Rattle.sp_syntax.specs.Syntax.{Declarator}
+use Rattle.sp_syntax.specs.View.{tree_of, expressions, specifiers_of, declaration_of, declarations, param_of, params, declarator_of}
+use Rattle.sp_syntax.specs.Depth.{depth as depth_of, expressions_depth, specifiers_depth, declarations_depth, items_depth, enumerators_depth, params_depth, declarator_depth}
+use Rattle.sp_grammar.specs.CTable as grammar
+use Rattle.sp_c_tokens.specs.Makers.{settle, first_place, all_items, all_enumerators}
+use Rattle.sp_c_tokens.specs.Ended.{IsEnded}
+use Rattle.sp_c_tokens.specs.Scopes.{there}
+use Rattle.sp_c_reader.specs.Reading.{IsRead, IsStep, operand_seen}
+use Rattle.sp_c_reader.specs.Declaring.{declared_seen, item_seen, constant_seen}
+use Rattle.sp_c_reader.proofs.Lists.{SpecifiersSoFar, ItemsSoFar, ParametersSoFar, SuffixedSoFar}
+use Rattle.sp_c_reader.proofs.+reader.Given as goal
+
+abbrev pub decreases-expressions::read_primary : goal.decreases-expressions::read_primary
+decreases-expressions::read_primary l = 8 * length l.tokens.now
+
+abbrev pub decreases-expressions::read_unary : goal.decreases-expressions::read_unary
+decreases-expressions::read_unary l = 8 * length l.tokens.now + 1
+
+abbrev pub decreases-expressions::read_cast : goal.decreases-expressions::read_cast
+decreases-expressions::read_cast l = 8 * length l.tokens.now + 2
+
+abbrev pub decreases-expressions::read_level : goal.decreases-expressions::read_level
+decreases-expressions::read_level l = 8 * length l.tokens.now + 3
+
+abbrev pub decreases-expressions::read_operators : goal.decreases-expressions::read_operators
+decreases-expressions::read_operators l = 8 * length l.tokens.now
+
+abbrev pub decreases-expressions::read_sequence : goal.decreases-expressions::read_sequence
+decreases-expressions::read_sequence l = 8 * length l.tokens.now
+
+abbrev pub decreases-expressions::read_assignment : goal.decreases-expressions::read_assignment
+decreases-expressions::read_assignment l = 8 * length l.tokens.now
+
+abbrev pub decreases-expressions::read_conditional : goal.decreases-expressions::read_conditional
+decreases-expressions::read_conditional l = 8 * length l.tokens.now
+
+abbrev pub decreases-expressions::read_level_tail : goal.decreases-expressions::read_level_tail
+decreases-expressions::read_level_tail l = 8 * length l.tokens.now + 1
+
+abbrev pub decreases-expressions::read_arguments : goal.decreases-expressions::read_arguments
+decreases-expressions::read_arguments l = 8 * length l.tokens.now + 4
+
+abbrev pub decreases-expressions::read_call : goal.decreases-expressions::read_call
+decreases-expressions::read_call l = 8 * length l.tokens.now + 5
+
+abbrev pub decreases-expressions::read_suffix : goal.decreases-expressions::read_suffix
+decreases-expressions::read_suffix l = 8 * length l.tokens.now + 6
+
+abbrev pub decreases-expressions::read_suffixes : goal.decreases-expressions::read_suffixes
+decreases-expressions::read_suffixes l = 8 * length l.tokens.now
+
+abbrev pub decreases-expressions::read_after_sizeof : goal.decreases-expressions::read_after_sizeof
+decreases-expressions::read_after_sizeof l = 8 * length l.tokens.now + 2
+
+abbrev pub decreases-expressions::read_sizeof_after_paren : goal.decreases-expressions::read_sizeof_after_paren
+decreases-expressions::read_sizeof_after_paren l = 8 * length l.tokens.now + 5
+
+abbrev pub decreases-expressions::read_after_paren : goal.decreases-expressions::read_after_paren
+decreases-expressions::read_after_paren l = 8 * length l.tokens.now + 5
+
+abbrev pub decreases-declarators::read_type_name : goal.decreases-declarators::read_type_name
+decreases-declarators::read_type_name l = 8 * length l.tokens.now + 2
+
+abbrev pub decreases-declarators::read_declarator : goal.decreases-declarators::read_declarator
+decreases-declarators::read_declarator l = 8 * length l.tokens.now + 1
+
+abbrev pub decreases-declarators::read_pointer : goal.decreases-declarators::read_pointer
+decreases-declarators::read_pointer l = 8 * length l.tokens.now + 2
+
+abbrev pub decreases-declarators::read_direct : goal.decreases-declarators::read_direct
+decreases-declarators::read_direct l = 8 * length l.tokens.now
+
+abbrev pub decreases-declarators::read_declarator_after_paren : goal.decreases-declarators::read_declarator_after_paren
+decreases-declarators::read_declarator_after_paren l = 8 * length l.tokens.now + 4
+
+abbrev pub decreases-declarators::read_group : goal.decreases-declarators::read_group
+decreases-declarators::read_group l = 8 * length l.tokens.now
+
+abbrev pub decreases-declarators::read_declarator_suffixes : goal.decreases-declarators::read_declarator_suffixes
+decreases-declarators::read_declarator_suffixes l = 8 * length l.tokens.now
+
+abbrev pub decreases-declarators::read_part : goal.decreases-declarators::read_part
+decreases-declarators::read_part l = 8 * length l.tokens.now + 6
+
+abbrev pub decreases-declarators::read_array : goal.decreases-declarators::read_array
+decreases-declarators::read_array l = 8 * length l.tokens.now + 5
+
+abbrev pub decreases-declarators::read_length : goal.decreases-declarators::read_length
+decreases-declarators::read_length l = 8 * length l.tokens.now + 4
+
+abbrev pub decreases-declarators::read_function : goal.decreases-declarators::read_function
+decreases-declarators::read_function l = 8 * length l.tokens.now + 4
+
+abbrev pub decreases-declarators::read_parameters : goal.decreases-declarators::read_parameters
+decreases-declarators::read_parameters l = 8 * length l.tokens.now + 3
+
+abbrev pub decreases-declarators::read_parameter : goal.decreases-declarators::read_parameter
+decreases-declarators::read_parameter l = 8 * length l.tokens.now + 2
+
+abbrev pub decreases-specifiers::read_specifiers : goal.decreases-specifiers::read_specifiers
+decreases-specifiers::read_specifiers l = 8 * length l.tokens.now
+
+abbrev pub decreases-specifiers::read_specifier : goal.decreases-specifiers::read_specifier
+decreases-specifiers::read_specifier l = 8 * length l.tokens.now + 1
+
+abbrev pub decreases-specifiers::read_structure : goal.decreases-specifiers::read_structure
+decreases-specifiers::read_structure l = 8 * length l.tokens.now
+
+abbrev pub decreases-specifiers::read_tagged : goal.decreases-specifiers::read_tagged
+decreases-specifiers::read_tagged l = 8 * length l.tokens.now
+
+abbrev pub decreases-specifiers::read_body : goal.decreases-specifiers::read_body
+decreases-specifiers::read_body l = 8 * length l.tokens.now + 2
+
+abbrev pub decreases-specifiers::read_members : goal.decreases-specifiers::read_members
+decreases-specifiers::read_members l = 8 * length l.tokens.now + 2
+
+abbrev pub decreases-specifiers::read_member : goal.decreases-specifiers::read_member
+decreases-specifiers::read_member l = 8 * length l.tokens.now + 1
+
+abbrev pub decreases-specifiers::read_items : goal.decreases-specifiers::read_items
+decreases-specifiers::read_items l = 8 * length l.tokens.now
+
+abbrev pub decreases-specifiers::read_enumeration : goal.decreases-specifiers::read_enumeration
+decreases-specifiers::read_enumeration l = 8 * length l.tokens.now
+
+abbrev pub decreases-specifiers::read_named : goal.decreases-specifiers::read_named
+decreases-specifiers::read_named l = 8 * length l.tokens.now
+
+abbrev pub decreases-specifiers::read_constants : goal.decreases-specifiers::read_constants
+decreases-specifiers::read_constants l = 8 * length l.tokens.now + 1
+
+abbrev pub decreases-specifiers::read_enumerators : goal.decreases-specifiers::read_enumerators
+decreases-specifiers::read_enumerators l = 8 * length l.tokens.now
+
+abbrev pub decreases-specifiers::read_enumerator : goal.decreases-specifiers::read_enumerator
+decreases-specifiers::read_enumerator l = 8 * length l.tokens.now
+
+-- ---- loops
+
+abbrev pub invariant-expressions::read_level-levels : goal.invariant-expressions::read_level-levels
+invariant-expressions::read_level-levels l = record {
+  part : IsRead (there l.context.types.now l.context.scope) (grammar.level l.reached) l.depth l.fn.tokens (operand_seen l.part.tree) l.part.depth l.part.rest.now;
+  below : l.reached ≤ l.level;
+  same_level : l.level ≡ l.fn.level;
+  same_depth : l.depth ≡ l.fn.depth;
+  same_types : l.context.types.now ≡ l.fn.context.types.now;
+  same_scope : l.context.scope ≡ l.fn.context.scope;
+}
+
+abbrev pub decreases-expressions::read_level-levels : goal.decreases-expressions::read_level-levels
+decreases-expressions::read_level-levels l = l.level - l.reached
+
+abbrev pub invariant-expressions::read_operators-operators : goal.invariant-expressions::read_operators-operators
+invariant-expressions::read_operators-operators l = record {
+  step : IsStep (there l.context.types.now l.context.scope) (grammar.after l.level (operand_seen l.fn.left)) (grammar.after l.level (record { tree = tree_of l.tree; unary = l.unary })) (λ a. a) l.fn.tokens l.rest;
+  deep : l.reached ≡ depth_of (tree_of l.tree);
+  shallow : l.reached ≤ l.depth;
+  ended : IsEnded l.rest;
+  fewer : length l.rest ≤ length l.fn.tokens;
+  same_level : l.level ≡ l.fn.level;
+  same_depth : l.depth ≡ l.fn.depth;
+  same_types : l.context.types.now ≡ l.fn.context.types.now;
+  same_scope : l.context.scope ≡ l.fn.context.scope;
+}
+
+abbrev pub decreases-expressions::read_operators-operators : goal.decreases-expressions::read_operators-operators
+decreases-expressions::read_operators-operators l = length l.rest
+
+abbrev pub invariant-expressions::read_sequence-commas : goal.invariant-expressions::read_sequence-commas
+invariant-expressions::read_sequence-commas l = record {
+  step : IsStep (there l.context.types.now l.context.scope) (grammar.after 13 (operand_seen l.fn.left)) (grammar.after 13 (record { tree = tree_of l.tree; unary = l.unary })) (λ a. a) l.fn.tokens l.rest;
+  deep : l.reached ≡ depth_of (tree_of l.tree);
+  shallow : l.reached ≤ l.depth;
+  ended : IsEnded l.rest;
+  fewer : length l.rest ≤ length l.fn.tokens;
+  same_depth : l.depth ≡ l.fn.depth;
+  same_types : l.context.types.now ≡ l.fn.context.types.now;
+  same_scope : l.context.scope ≡ l.fn.context.scope;
+}
+
+abbrev pub decreases-expressions::read_sequence-commas : goal.decreases-expressions::read_sequence-commas
+decreases-expressions::read_sequence-commas l = length l.rest
+
+abbrev pub invariant-expressions::read_suffixes-suffixes : goal.invariant-expressions::read_suffixes-suffixes
+invariant-expressions::read_suffixes-suffixes l = record {
+  step : IsStep (there l.context.types.now l.context.scope) (grammar.suffixes (tree_of l.fn.inner)) (grammar.suffixes (tree_of l.part.tree)) (λ a. a) l.fn.tokens l.part.rest.now;
+  deep : l.part.depth ≡ depth_of (tree_of l.part.tree);
+  shallow : l.part.depth ≤ l.depth;
+  ended : IsEnded l.part.rest.now;
+  fewer : length l.part.rest.now ≤ length l.fn.tokens;
+  same_depth : l.depth ≡ l.fn.depth;
+  same_types : l.context.types.now ≡ l.fn.context.types.now;
+  same_scope : l.context.scope ≡ l.fn.context.scope;
+}
+
+abbrev pub decreases-expressions::read_suffixes-suffixes : goal.decreases-expressions::read_suffixes-suffixes
+decreases-expressions::read_suffixes-suffixes l = length l.part.rest.now
+
+abbrev pub invariant-expressions::read_arguments-arguments : goal.invariant-expressions::read_arguments-arguments
+invariant-expressions::read_arguments-arguments l = record {
+  step : IsStep (there l.context.types.now l.context.scope) grammar.arguments (grammar.more_arguments (map tree_of l.all.items)) (λ a. a) l.fn.tokens l.rest;
+  deep : l.reached ≡ expressions_depth (expressions (map tree_of l.all.items));
+  shallow : l.reached ≤ l.depth;
+  ended : IsEnded l.rest;
+  fewer : length l.rest ≤ length l.fn.tokens;
+  same_depth : l.depth ≡ l.fn.depth;
+  same_types : l.context.types.now ≡ l.fn.context.types.now;
+  same_scope : l.context.scope ≡ l.fn.context.scope;
+}
+
+abbrev pub decreases-expressions::read_arguments-arguments : goal.decreases-expressions::read_arguments-arguments
+decreases-expressions::read_arguments-arguments l = length l.rest
+
+-- ---- loops of specifiers and declarators
+
+abbrev pub invariant-specifiers::read_specifiers-specifiers :
+    goal.invariant-specifiers::read_specifiers-specifiers
+invariant-specifiers::read_specifiers-specifiers l = record {
+  so_far : SpecifiersSoFar (there l.context.types.now l.context.scope) l.fn.stores l.fn.tokens l.all.items l.typedefs l.seen.0 l.rest;
+  deep : l.reached ≡ specifiers_depth (specifiers_of l.all.items);
+  shallow : l.reached ≤ l.depth;
+  ended : IsEnded l.rest;
+  fewer : length l.rest ≤ length l.fn.tokens;
+  same_stores : l.stores ≡ l.fn.stores;
+  same_depth : l.depth ≡ l.fn.depth;
+  same_types : l.context.types.now ≡ l.fn.context.types.now;
+  same_scope : l.context.scope ≡ l.fn.context.scope;
+}
+
+abbrev pub decreases-specifiers::read_specifiers-specifiers :
+    goal.decreases-specifiers::read_specifiers-specifiers
+decreases-specifiers::read_specifiers-specifiers l = length l.rest
+
+abbrev pub invariant-specifiers::read_members-members : goal.invariant-specifiers::read_members-members
+invariant-specifiers::read_members-members l = record {
+  step : IsStep (there l.context.types.now l.context.scope) (grammar.members (declaration_of l.fn.first ∷ [])) (grammar.members (map declaration_of l.all.items)) (λ a. a) l.fn.tokens l.rest;
+  deep : l.reached ≡ declarations_depth (declarations (map declaration_of l.all.items));
+  shallow : l.reached ≤ l.depth;
+  ended : IsEnded l.rest;
+  fewer : length l.rest ≤ length l.fn.tokens;
+  same_depth : l.depth ≡ l.fn.depth;
+  same_types : l.context.types.now ≡ l.fn.context.types.now;
+  same_scope : l.context.scope ≡ l.fn.context.scope;
+}
+
+abbrev pub decreases-specifiers::read_members-members : goal.decreases-specifiers::read_members-members
+decreases-specifiers::read_members-members l = length l.rest
+
+abbrev pub invariant-specifiers::read_items-items : goal.invariant-specifiers::read_items-items
+invariant-specifiers::read_items-items l = record {
+  so_far : ItemsSoFar (there l.context.types.now l.context.scope) l.fn.first l.fn.tokens l.all.items l.purpose l.rest;
+  deep : l.reached ≡ items_depth (all_items (map item_seen l.all.items));
+  shallow : l.reached ≤ l.depth;
+  ended : IsEnded l.rest;
+  fewer : length l.rest ≤ length l.fn.tokens;
+  same_depth : l.depth ≡ l.fn.depth;
+  same_types : l.context.types.now ≡ l.fn.context.types.now;
+  same_scope : l.context.scope ≡ l.fn.context.scope;
+}
+
+abbrev pub decreases-specifiers::read_items-items : goal.decreases-specifiers::read_items-items
+decreases-specifiers::read_items-items l = length l.rest
+
+abbrev pub invariant-specifiers::read_enumerators-enumerators :
+    goal.invariant-specifiers::read_enumerators-enumerators
+invariant-specifiers::read_enumerators-enumerators l = record {
+  step : IsStep (there l.context.types.now l.context.scope) (grammar.enumerators (constant_seen l.fn.first ∷ [])) (grammar.enumerators (map constant_seen l.all.items)) (λ a. a) l.fn.tokens l.rest;
+  deep : l.reached ≡ enumerators_depth (all_enumerators (map constant_seen l.all.items));
+  shallow : l.reached ≤ l.depth;
+  ended : IsEnded l.rest;
+  fewer : length l.rest ≤ length l.fn.tokens;
+  same_depth : l.depth ≡ l.fn.depth;
+  same_types : l.context.types.now ≡ l.fn.context.types.now;
+  same_scope : l.context.scope ≡ l.fn.context.scope;
+}
+
+abbrev pub decreases-specifiers::read_enumerators-enumerators :
+    goal.decreases-specifiers::read_enumerators-enumerators
+decreases-specifiers::read_enumerators-enumerators l = length l.rest
+
+abbrev pub invariant-declarators::read_parameters-parameters :
+    goal.invariant-declarators::read_parameters-parameters
+invariant-declarators::read_parameters-parameters l = record {
+  so_far : ParametersSoFar (there l.context.types.now l.context.scope) l.fn.tokens l.all.items l.behind l.rest;
+  deep : l.reached ≡ params_depth (params (map param_of l.all.items));
+  shallow : l.reached ≤ l.depth;
+  ended : IsEnded l.rest;
+  fewer : length l.rest ≤ length l.fn.tokens;
+  same_depth : l.depth ≡ l.fn.depth;
+  same_types : l.context.types.now ≡ l.fn.context.types.now;
+  same_scope : l.context.scope ≡ l.fn.context.scope;
+}
+
+abbrev pub decreases-declarators::read_parameters-parameters :
+    goal.decreases-declarators::read_parameters-parameters
+decreases-declarators::read_parameters-parameters l = length l.rest
+
+abbrev pub invariant-declarators::read_declarator_suffixes-suffixes :
+    goal.invariant-declarators::read_declarator_suffixes-suffixes
+invariant-declarators::read_declarator_suffixes-suffixes l = record {
+  so_far : (pending : Declarator) → declarator_of l.fn.head.tree ≡ settle (first_place l.fn.tokens) pending → (is_some l.fn.head.declares ≡ true → pending ≡ declarator_of l.fn.head.tree) → SuffixedSoFar (there l.context.types.now l.context.scope) (declared_seen l.fn.head pending) l.fn.tokens l.part.tree l.part.rest.now;
+  deep : l.part.depth ≡ declarator_depth (declarator_of l.part.tree.tree);
+  shallow : l.part.depth ≤ l.depth;
+  ended : IsEnded l.part.rest.now;
+  fewer : length l.part.rest.now ≤ length l.fn.tokens;
+  same_depth : l.depth ≡ l.fn.depth;
+  same_types : l.context.types.now ≡ l.fn.context.types.now;
+  same_scope : l.context.scope ≡ l.fn.context.scope;
+}
+
+abbrev pub decreases-declarators::read_declarator_suffixes-suffixes :
+    goal.decreases-declarators::read_declarator_suffixes-suffixes
+decreases-declarators::read_declarator_suffixes-suffixes l = length l.part.rest.now

@@ -1,0 +1,46 @@
+use Rattle.std.proofs.Common.{◌≡◌, ◌+◌, ◌-◌, subst, arith}
+use Rattle.std.proofs.lemmas.Result.{err_from_is_err_and}
+use Rattle.sp_grammar.specs.CTable.{tail}
+use Rattle.sp_c_tokens.specs.Scopes.{there}
+use Rattle.sp_c_reader.specs.Reading.{IsStep, operand_seen}
+use Rattle.sp_c_reader.proofs.Tails.{tail_next, tail_stop, tail_done}
+use Rattle.sp_c_reader.proofs.expressions.read_tail.Goals as goal
+
+pub returns-in_err-part : goal.returns-in_err-part
+returns-in_err-part c =
+    let p = err_from_is_err_and c.from_residual.result c.from_residual.ensures.1 in
+    let g = there c.args.context.types.now c.args.context.scope in
+    let i = c.levels.invariant in
+    let r = c.levels.reached in
+    rw (p.1, p.2) (tail_stop g (operand_seen c.args.left) (operand_seen c.levels.part.tree) c.args.tokens.now c.levels.part.rest.now (13 - r) (12 - r) (r + 1) (omega (arith, c.levels-test.true)) (omega (arith, c.levels-test.true)) i.step i.ended c.args.depth c.in_err-part.field-0.0 c.in_err-part.ensures)
+
+pub levels-preserved : goal.levels-preserved
+levels-preserved c =
+    let g = there c.args.context.types.now c.args.context.scope in
+    let i = c.levels.invariant in
+    let r = c.levels.reached in
+    let h = c.in_ok-part.ensures in
+    let now = c.in_ok-part.part in
+    let left : 12 - r ≡ 13 - (r + 1) = omega (arith, c.levels-test.true) in
+    let next = tail_next g (operand_seen c.args.left) (operand_seen c.levels.part.tree) c.args.tokens.now c.levels.part.rest.now (13 - r) (12 - r) (r + 1) (omega (arith, c.levels-test.true)) (omega (arith, c.levels-test.true)) i.step i.ended (operand_seen now.tree) now.rest.now h.reads in
+    record {
+      step = subst (λ v. IsStep g (tail 13 (operand_seen c.args.left)) (tail v (operand_seen now.tree)) (λ a. a) c.args.tokens.now now.rest.now) left next;
+      below = omega (arith, c.levels-test.true);
+      deep = h.deep;
+      shallow = h.shallow;
+      ended = h.ended;
+      fewer = omega (arith, i.fewer, h.fewer);
+    }
+
+pub returns : goal.returns
+returns c =
+    let g = there c.args.context.types.now c.args.context.scope in
+    let i = c.levels.invariant in
+    let r = c.levels.reached in
+    record {
+      reads = tail_done g (operand_seen c.args.left) (operand_seen c.levels.part.tree) c.args.tokens.now c.levels.part.rest.now (13 - r) (omega (arith, c.levels-test.false)) i.step i.ended;
+      deep = i.deep;
+      shallow = i.shallow;
+      ended = i.ended;
+      fewer = omega (arith, i.fewer);
+    }

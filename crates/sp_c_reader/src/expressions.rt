@@ -1,0 +1,806 @@
+//! The readers of expressions (C90 6.3), one for each ask of the grammar's table.
+ghost use Rattle.std.specs.Prelude.{◌≡◌, ◌≤◌, ◌<◌, ◌∷◌, MatchResult, IfOk, map, true};
+ghost use Rattle.sp_grammar.specs.CTokens.{is_mark, view};
+ghost use Rattle.sp_grammar.specs.CTokens as sorts_there;
+ghost use Rattle.sp_grammar.specs.CTable as grammar;
+ghost use Rattle.sp_tree.specs.declared.token.Token.{Token};
+ghost use Rattle.sp_syntax.specs.View.{tree_of};
+ghost use Rattle.sp_syntax.specs.Depth.{depth as depth_of};
+ghost use Rattle.sp_c_tokens.specs.Makers.{punct_of, make_member, number_of};
+ghost use Rattle.sp_c_tokens.specs.Sorts.{terminal, sort_of};
+ghost use Rattle.sp_c_tokens.specs.SyntaxTrees.{syntax_trees};
+ghost use Rattle.sp_c_tokens.specs.Ended.{IsEnded};
+ghost use Rattle.sp_c_tokens.specs.Scopes.{context_of};
+ghost use Rattle.sp_c_reader.specs.Reading.{Answers, IsRead, IsStop, IsTypeName, IsSuffixed, AreTexts, operand_seen, is_suffix, is_prefix, is_operand};
+ghost use Rattle.sp_c_tokens.specs.Codes.{sort_seen};
+ghost use Rattle.sp_c_tokens.specs.declared.part.ReadError.TheVariants.{NoMemory};
+
+use crate::declarators::read_type_name;
+use sp_c_tokens::{
+    AlsoAllowed, Context, Mark, Operand, Part, ReadError, Sort, begins_expression, continues_level,
+    expect, fault, is_mark, is_specifier, next_token, sort_at,
+};
+use sp_syntax::Expr;
+use sp_tree::{Kind, Punct, Token};
+use std::alloc::{AllocError, Global};
+
+/// The loosest level: the comma.
+pub const COMMA: u32 = 13;
+/// The level of assignments.
+pub const ASSIGNMENT: u32 = 12;
+/// The level of conditional expressions.
+pub const CONDITIONAL: u32 = 11;
+
+/// The punctuator that the token is.
+fn punct_of(kind: Kind) -> Punct
+    ensures { result ≡ punct_of kind }
+{
+    match kind {
+        Kind::Mark(punct) => punct,
+        _ => Punct::Comma,
+    }
+}
+
+/// An expression of the level: 0 casts, 1 to 10 binary operators, 11 conditional, 12 assignment, 13
+/// comma.
+#[cycle(reader)]
+pub fn read_level<'a>(
+    context: Context<'_>,
+    tokens: &'a [Token],
+    level: u32,
+    depth: u32,
+) -> Result<Part<'a, Operand>, ReadError<'a>>
+    requires ended { IsEnded tokens.now }
+    requires loosest { level ≤ 13 }
+    ensures { Answers (context_of context.entry) (grammar.level level) depth tokens.now operand_seen
+        result }
+{
+    let mut part = read_cast(context, tokens, depth)?;
+    let mut reached = 0;
+    'levels: while reached < level {
+        reached += 1;
+        let Part {
+            tree,
+            depth: inner,
+            rest,
+        } = part;
+        part = read_level_tail(context, rest, reached, tree, inner, depth)?;
+    }
+    Ok(part)
+}
+
+/// What is after a left part of an expression, whose depth is given: operators of all levels with
+/// their operands. So a name that was taken to see what follows it goes on as an expression, once
+/// its suffixes are read ([`read_suffixes`]).
+pub fn read_tail<'a>(
+    context: Context<'_>,
+    tokens: &'a [Token],
+    left: Operand,
+    inner: u32,
+    depth: u32,
+) -> Result<Part<'a, Operand>, ReadError<'a>>
+    requires ended { IsEnded tokens.now }
+    requires deep { inner ≡ depth_of (tree_of left.tree) }
+    requires shallow { inner ≤ depth }
+    ensures { Answers (context_of context.entry) (grammar.tail 13 (operand_seen left)) depth tokens.now
+        operand_seen result }
+{
+    let mut part = Part {
+        tree: left,
+        depth: inner,
+        rest: tokens,
+    };
+    let mut reached = 0;
+    'levels: while reached < COMMA {
+        reached += 1;
+        let Part {
+            tree,
+            depth: inner,
+            rest,
+        } = part;
+        part = read_level_tail(context, rest, reached, tree, inner, depth)?;
+    }
+    Ok(part)
+}
+
+/// What stands behind a left part of the level, whose depth is given.
+#[cycle(reader)]
+fn read_level_tail<'a>(
+    context: Context<'_>,
+    tokens: &'a [Token],
+    level: u32,
+    left: Operand,
+    inner: u32,
+    depth: u32,
+) -> Result<Part<'a, Operand>, ReadError<'a>>
+    requires ended { IsEnded tokens.now }
+    requires tightest { 1 ≤ level }
+    requires loosest { level ≤ 13 }
+    requires deep { inner ≡ depth_of (tree_of left.tree) }
+    requires shallow { inner ≤ depth }
+    ensures { Answers (context_of context.entry) (grammar.after level (operand_seen left)) depth
+        tokens.now operand_seen result }
+{
+    match level {
+        COMMA => read_sequence(context, tokens, left, inner, depth),
+        ASSIGNMENT => read_assignment(context, tokens, left, inner, depth),
+        CONDITIONAL => read_conditional(context, tokens, left, inner, depth),
+        _ => read_operators(context, tokens, level, left, inner, depth),
+    }
+}
+
+/// Behind a left part: binary operators of the level with their right operands.
+#[cycle(reader)]
+fn read_operators<'a>(
+    context: Context<'_>,
+    tokens: &'a [Token],
+    level: u32,
+    left: Operand,
+    inner: u32,
+    depth: u32,
+) -> Result<Part<'a, Operand>, ReadError<'a>>
+    requires ended { IsEnded tokens.now }
+    requires tightest { 1 ≤ level }
+    requires binary { level ≤ 10 }
+    requires deep { inner ≡ depth_of (tree_of left.tree) }
+    requires shallow { inner ≤ depth }
+    ensures { Answers (context_of context.entry) (grammar.after level (operand_seen left)) depth
+        tokens.now operand_seen result }
+{
+    let Operand {
+        mut tree,
+        mut unary,
+    } = left;
+    let mut reached = inner;
+    let mut rest = tokens;
+    'operators: loop {
+        let (token, behind) = next_token(rest);
+        if !continues_level(level, unary, sort_at(context.types, token.kind)) {
+            break;
+        }
+        if reached >= depth {
+            return Err(ReadError::TooDeep(rest));
+        }
+        let right = read_level(context, behind, level - 1, depth - 1)?;
+        let punct = punct_of(token.kind);
+        tree = Expr::binary(context.alloc, tree, token.place, punct, right.tree.tree)?;
+        unary = false;
+        reached = 1 + reached.max(right.depth);
+        rest = right.rest;
+    }
+    Ok(Part {
+        tree: Operand { tree, unary },
+        depth: reached,
+        rest,
+    })
+}
+
+/// Behind a left part: commas with their right operands.
+#[cycle(reader)]
+fn read_sequence<'a>(
+    context: Context<'_>,
+    tokens: &'a [Token],
+    left: Operand,
+    inner: u32,
+    depth: u32,
+) -> Result<Part<'a, Operand>, ReadError<'a>>
+    requires ended { IsEnded tokens.now }
+    requires deep { inner ≡ depth_of (tree_of left.tree) }
+    requires shallow { inner ≤ depth }
+    ensures { Answers (context_of context.entry) (grammar.after 13 (operand_seen left)) depth tokens.now
+        operand_seen result }
+{
+    let Operand {
+        mut tree,
+        mut unary,
+    } = left;
+    let mut reached = inner;
+    let mut rest = tokens;
+    'commas: loop {
+        let (token, behind) = next_token(rest);
+        if !continues_level(COMMA, unary, sort_at(context.types, token.kind)) {
+            break;
+        }
+        if reached >= depth {
+            return Err(ReadError::TooDeep(rest));
+        }
+        let right = read_level(context, behind, ASSIGNMENT, depth - 1)?;
+        tree = Expr::comma(context.alloc, tree, token.place, right.tree.tree)?;
+        unary = false;
+        reached = 1 + reached.max(right.depth);
+        rest = right.rest;
+    }
+    Ok(Part {
+        tree: Operand { tree, unary },
+        depth: reached,
+        rest,
+    })
+}
+
+/// Behind a left part: an assignment, where the left part is a unary expression.
+#[cycle(reader)]
+fn read_assignment<'a>(
+    context: Context<'_>,
+    tokens: &'a [Token],
+    left: Operand,
+    inner: u32,
+    depth: u32,
+) -> Result<Part<'a, Operand>, ReadError<'a>>
+    requires ended { IsEnded tokens.now }
+    requires deep { inner ≡ depth_of (tree_of left.tree) }
+    requires shallow { inner ≤ depth }
+    ensures { Answers (context_of context.entry) (grammar.after 12 (operand_seen left)) depth tokens.now
+        operand_seen result }
+{
+    let (token, behind) = next_token(tokens);
+    if !continues_level(ASSIGNMENT, left.unary, sort_at(context.types, token.kind)) {
+        return Ok(Part {
+            tree: left,
+            depth: inner,
+            rest: tokens,
+        });
+    }
+    if inner >= depth {
+        return Err(ReadError::TooDeep(tokens));
+    }
+    let assigned = read_level(context, behind, ASSIGNMENT, depth - 1)?;
+    let punct = punct_of(token.kind);
+    let tree = Expr::assign(
+        context.alloc,
+        left.tree,
+        token.place,
+        punct,
+        assigned.tree.tree,
+    )?;
+    Ok(Part {
+        tree: Operand { tree, unary: false },
+        depth: 1 + inner.max(assigned.depth),
+        rest: assigned.rest,
+    })
+}
+
+/// Behind a left part: the `?` of a conditional expression.
+#[cycle(reader)]
+fn read_conditional<'a>(
+    context: Context<'_>,
+    tokens: &'a [Token],
+    left: Operand,
+    inner: u32,
+    depth: u32,
+) -> Result<Part<'a, Operand>, ReadError<'a>>
+    requires ended { IsEnded tokens.now }
+    requires deep { inner ≡ depth_of (tree_of left.tree) }
+    requires shallow { inner ≤ depth }
+    ensures { Answers (context_of context.entry) (grammar.after 11 (operand_seen left)) depth tokens.now
+        operand_seen result }
+{
+    let (token, behind) = next_token(tokens);
+    if !continues_level(CONDITIONAL, left.unary, sort_at(context.types, token.kind)) {
+        return Ok(Part {
+            tree: left,
+            depth: inner,
+            rest: tokens,
+        });
+    }
+    if inner >= depth {
+        return Err(ReadError::TooDeep(tokens));
+    }
+    let first = read_level(context, behind, COMMA, depth - 1)?;
+    let rest = expect(context, AlsoAllowed::Nothing, Mark::Colon, first.rest)?;
+    let second = read_level(context, rest, CONDITIONAL, depth - 1)?;
+    let place = token.place;
+    let (condition, when_true, when_false) = (left.tree, first.tree.tree, second.tree.tree);
+    let tree = Expr::choice(context.alloc, condition, place, when_true, when_false)?;
+    Ok(Part {
+        tree: Operand { tree, unary: false },
+        depth: 1 + inner.max(first.depth.max(second.depth)),
+        rest: second.rest,
+    })
+}
+
+/// A cast, or a unary expression.
+#[cycle(reader)]
+pub fn read_cast<'a>(
+    context: Context<'_>,
+    tokens: &'a [Token],
+    depth: u32,
+) -> Result<Part<'a, Operand>, ReadError<'a>>
+    requires { IsEnded tokens.now }
+    ensures { Answers (context_of context.entry) (grammar.level 0) depth tokens.now operand_seen result }
+{
+    let (token, rest) = next_token(tokens);
+    if is_mark(Mark::OpenParen, sort_at(context.types, token.kind)) {
+        if depth < 2 {
+            return Err(ReadError::TooDeep(tokens));
+        }
+        return read_after_paren(context, rest, token, depth);
+    }
+    let part = read_unary(context, tokens, depth)?;
+    Ok(Part {
+        tree: Operand {
+            tree: part.tree,
+            unary: true,
+        },
+        depth: part.depth,
+        rest: part.rest,
+    })
+}
+
+/// Behind a `(`: a type name, `)` and an operand, or an expression, `)` and suffixes.
+#[cycle(reader)]
+fn read_after_paren<'a>(
+    context: Context<'_>,
+    tokens: &'a [Token],
+    opening: Token,
+    depth: u32,
+) -> Result<Part<'a, Operand>, ReadError<'a>>
+    requires ended { IsEnded tokens.now }
+    requires room { 2 ≤ depth }
+    ensures { Answers (context_of context.entry) (grammar.behind_open (terminal opening)) depth tokens.now
+        operand_seen result }
+{
+    let (token, _) = next_token(tokens);
+    if is_specifier(sort_at(context.types, token.kind)) {
+        let name = read_type_name(context, tokens, depth - 1)?;
+        let rest = expect(context, name.tree.behind, Mark::CloseParen, name.rest)?;
+        let operand = read_cast(context, rest, depth - 1)?;
+        let tree = Expr::cast(
+            context.alloc,
+            opening.place,
+            name.tree.tree,
+            operand.tree.tree,
+        )?;
+        return Ok(Part {
+            tree: Operand { tree, unary: false },
+            depth: 1 + name.depth.max(operand.depth),
+            rest: operand.rest,
+        });
+    }
+    let inner = read_level(context, tokens, COMMA, depth - 1)?;
+    let rest = expect(context, AlsoAllowed::Nothing, Mark::CloseParen, inner.rest)?;
+    let group = Expr::paren(context.alloc, opening.place, inner.tree.tree)?;
+    let part = read_suffixes(context, rest, group, 1 + inner.depth, depth)?;
+    Ok(Part {
+        tree: Operand {
+            tree: part.tree,
+            unary: true,
+        },
+        depth: part.depth,
+        rest: part.rest,
+    })
+}
+
+/// A unary expression.
+#[cycle(reader)]
+fn read_unary<'a>(
+    context: Context<'_>,
+    tokens: &'a [Token],
+    depth: u32,
+) -> Result<Part<'a, Expr>, ReadError<'a>>
+    requires { IsEnded tokens.now }
+    ensures { Answers (context_of context.entry) grammar.unary depth tokens.now tree_of result }
+{
+    let (token, rest) = next_token(tokens);
+    let sort = sort_at(context.types, token.kind);
+    if depth < 2 && is_prefix(sort) {
+        return Err(ReadError::TooDeep(tokens));
+    }
+    if is_mark(Mark::Sizeof, sort) {
+        return read_after_sizeof(context, rest, token, depth);
+    }
+    if is_mark(Mark::Step, sort) {
+        let operand = read_unary(context, rest, depth - 1)?;
+        let punct = punct_of(token.kind);
+        let tree = Expr::unary(context.alloc, token.place, punct, operand.tree)?;
+        return Ok(Part {
+            tree,
+            depth: 1 + operand.depth,
+            rest: operand.rest,
+        });
+    }
+    if is_prefix(sort) {
+        let operand = read_cast(context, rest, depth - 1)?;
+        let punct = punct_of(token.kind);
+        let tree = Expr::unary(context.alloc, token.place, punct, operand.tree.tree)?;
+        return Ok(Part {
+            tree,
+            depth: 1 + operand.depth,
+            rest: operand.rest,
+        });
+    }
+    let part = read_primary(context, tokens, depth)?;
+    read_suffixes(context, part.rest, part.tree, part.depth, depth)
+}
+
+/// Whether the token is an operator before its operand, `sizeof` among them.
+fn is_prefix(sort: Sort) -> bool
+    ensures { result ≡ is_prefix (sort_seen sort) }
+{
+    matches!(
+        sort,
+        Sort::Mark(
+            Mark::Step | Mark::Star | Mark::Ampersand | Mark::Additive | Mark::Tilde | Mark::Sizeof
+        )
+    )
+}
+
+/// Behind `sizeof`: a type name in parentheses, or a unary expression.
+#[cycle(reader)]
+fn read_after_sizeof<'a>(
+    context: Context<'_>,
+    tokens: &'a [Token],
+    word: Token,
+    depth: u32,
+) -> Result<Part<'a, Expr>, ReadError<'a>>
+    requires ended { IsEnded tokens.now }
+    requires room { 2 ≤ depth }
+    ensures { Answers (context_of context.entry) (grammar.behind_sizeof (terminal word)) depth tokens.now
+        tree_of result }
+{
+    let (token, rest) = next_token(tokens);
+    if is_mark(Mark::OpenParen, sort_at(context.types, token.kind)) {
+        return read_sizeof_after_paren(context, rest, word, token, depth);
+    }
+    let operand = read_unary(context, tokens, depth - 1)?;
+    let tree = Expr::sizeof_expr(context.alloc, word.place, operand.tree)?;
+    Ok(Part {
+        tree,
+        depth: 1 + operand.depth,
+        rest: operand.rest,
+    })
+}
+
+/// Behind `sizeof (`: a type name and `)`, or an expression, `)` and suffixes.
+#[cycle(reader)]
+fn read_sizeof_after_paren<'a>(
+    context: Context<'_>,
+    tokens: &'a [Token],
+    word: Token,
+    opening: Token,
+    depth: u32,
+) -> Result<Part<'a, Expr>, ReadError<'a>>
+    requires ended { IsEnded tokens.now }
+    requires room { 2 ≤ depth }
+    ensures { Answers (context_of context.entry)
+        (grammar.inside_sizeof (terminal word) (terminal opening)) depth tokens.now tree_of
+        result }
+{
+    let (token, _) = next_token(tokens);
+    if is_specifier(sort_at(context.types, token.kind)) {
+        let name = read_type_name(context, tokens, depth - 1)?;
+        let rest = expect(context, name.tree.behind, Mark::CloseParen, name.rest)?;
+        let tree = Expr::sizeof_type(context.alloc, word.place, name.tree.tree)?;
+        return Ok(Part {
+            tree,
+            depth: 1 + name.depth,
+            rest,
+        });
+    }
+    let inner = read_level(context, tokens, COMMA, depth - 2)?;
+    let rest = expect(context, AlsoAllowed::Nothing, Mark::CloseParen, inner.rest)?;
+    let group = Expr::paren(context.alloc, opening.place, inner.tree.tree)?;
+    let operand = read_suffixes(context, rest, group, 1 + inner.depth, depth - 1)?;
+    let tree = Expr::sizeof_expr(context.alloc, word.place, operand.tree)?;
+    Ok(Part {
+        tree,
+        depth: 1 + operand.depth,
+        rest: operand.rest,
+    })
+}
+
+/// A name, a constant, strings, or an expression in parentheses.
+#[cycle(reader)]
+fn read_primary<'a>(
+    context: Context<'_>,
+    tokens: &'a [Token],
+    depth: u32,
+) -> Result<Part<'a, Expr>, ReadError<'a>>
+    requires { IsEnded tokens.now }
+    ensures { Answers (context_of context.entry) grammar.primary depth tokens.now tree_of result }
+{
+    let (token, rest) = next_token(tokens);
+    let sort = sort_at(context.types, token.kind);
+    if is_mark(Mark::OpenParen, sort) {
+        if depth < 2 {
+            return Err(ReadError::TooDeep(tokens));
+        }
+        let inner = read_level(context, rest, COMMA, depth - 1)?;
+        let rest = expect(context, AlsoAllowed::Nothing, Mark::CloseParen, inner.rest)?;
+        let tree = Expr::paren(context.alloc, token.place, inner.tree.tree)?;
+        return Ok(Part {
+            tree,
+            depth: 1 + inner.depth,
+            rest,
+        });
+    }
+    if !is_operand(sort) {
+        return Err(fault(context, AlsoAllowed::Name, tokens));
+    }
+    if depth < 1 {
+        return Err(ReadError::TooDeep(tokens));
+    }
+    read_leaf(context, rest, token)
+}
+
+/// Whether the token is a name, a constant or a string.
+fn is_operand(sort: Sort) -> bool
+    ensures { result ≡ is_operand (sort_seen sort) }
+{
+    matches!(sort, Sort::Name(_) | Sort::Constant | Sort::Text)
+}
+
+/// A name, a constant or strings, of which the first token is read.
+fn read_leaf<'a>(
+    context: Context<'_>,
+    tokens: &'a [Token],
+    token: Token,
+) -> Result<Part<'a, Expr>, ReadError<'a>>
+    requires ended { IsEnded tokens.now }
+    requires operand { is_operand (view context.types.now (sort_of token.kind)) ≡ true }
+    ensures { MatchResult result
+        (λ part. IsRead (context_of context.entry) grammar.primary 1 (token ∷ tokens.now)
+        (tree_of part.tree) part.depth part.rest.now)
+        (λ stop. stop ≡ NoMemory) }
+{
+    match token.kind {
+        Kind::Text(_) => {
+            let (tree, rest) = read_texts(context, tokens, token)?;
+            Ok(Part {
+                tree,
+                depth: 1,
+                rest,
+            })
+        }
+        Kind::Number(number) => Ok(Part {
+            tree: Expr::number(number, token.place),
+            depth: 1,
+            rest: tokens,
+        }),
+        Kind::Char(value) => Ok(Part {
+            tree: Expr::character(value, token.place),
+            depth: 1,
+            rest: tokens,
+        }),
+        _ => Ok(Part {
+            tree: Expr::name(number_of(token.kind), token.place),
+            depth: 1,
+            rest: tokens,
+        }),
+    }
+}
+
+/// The number of a name or a text.
+fn number_of(kind: Kind) -> u32
+    ensures { result ≡ number_of kind }
+{
+    match kind {
+        Kind::Name(number) | Kind::Text(number) => number,
+        _ => 0,
+    }
+}
+
+/// Adjacent strings, of which the first is read, and the tokens behind them.
+fn read_texts<'a>(
+    context: Context<'_>,
+    tokens: &'a [Token],
+    first: Token,
+) -> Result<(Expr, &'a [Token]), ReadError<'a>>
+    requires { IsEnded tokens.now }
+    ensures { MatchResult result
+        (λ read. AreTexts (context_of context.entry) first tokens.now (tree_of read.0)
+        read.1.now)
+        (λ stop. stop ≡ NoMemory) }
+{
+    let mut texts = Vec::new(context.alloc);
+    texts.push(number_of(first.kind))?;
+    let mut rest = tokens;
+    'texts: loop {
+        let (token, behind) = next_token(rest);
+        match sort_at(context.types, token.kind) {
+            Sort::Text => {
+                texts.push(number_of(token.kind))?;
+                rest = behind;
+            }
+            _ => break,
+        }
+    }
+    Ok((Expr::text(texts, first.place), rest))
+}
+
+/// What stands behind a postfix expression, whose depth is given.
+#[cycle(reader)]
+pub fn read_suffixes<'a>(
+    context: Context<'_>,
+    tokens: &'a [Token],
+    inner: Expr,
+    reached: u32,
+    depth: u32,
+) -> Result<Part<'a, Expr>, ReadError<'a>>
+    requires ended { IsEnded tokens.now }
+    requires deep { reached ≡ depth_of (tree_of inner) }
+    requires shallow { reached ≤ depth }
+    ensures { Answers (context_of context.entry) (grammar.suffixes (tree_of inner)) depth tokens.now
+        tree_of result }
+{
+    let mut part = Part {
+        tree: inner,
+        depth: reached,
+        rest: tokens,
+    };
+    'suffixes: loop {
+        let (token, behind) = next_token(part.rest);
+        if !is_suffix(sort_at(context.types, token.kind)) {
+            break;
+        }
+        if part.depth >= depth {
+            return Err(ReadError::TooDeep(part.rest));
+        }
+        part = read_suffix(context, behind, token, part.tree, part.depth, depth)?;
+    }
+    Ok(part)
+}
+
+/// Whether the token goes on with a postfix expression.
+fn is_suffix(sort: Sort) -> bool
+    ensures { result ≡ is_suffix (sort_seen sort) }
+{
+    matches!(
+        sort,
+        Sort::Mark(Mark::OpenBracket | Mark::OpenParen | Mark::Member | Mark::Step)
+    )
+}
+
+/// One suffix, of which the first token is read: an index, arguments, a member, or a step.
+#[cycle(reader)]
+fn read_suffix<'a>(
+    context: Context<'_>,
+    tokens: &'a [Token],
+    token: Token,
+    inner: Expr,
+    reached: u32,
+    depth: u32,
+) -> Result<Part<'a, Expr>, ReadError<'a>>
+    requires ended { IsEnded tokens.now }
+    requires suffix { is_suffix (view context.types.now (sort_of token.kind)) ≡ true }
+    requires deep { reached ≡ depth_of (tree_of inner) }
+    requires shallow { reached < depth }
+    ensures { MatchResult result
+        (λ part. IsSuffixed (context_of context.entry) (tree_of inner) depth
+        (token ∷ tokens.now) (tree_of part.tree) part.depth part.rest.now)
+        (IsStop (context_of context.entry) (grammar.suffixes (tree_of inner)) depth
+        (token ∷ tokens.now)) }
+{
+    let sort = sort_at(context.types, token.kind);
+    if is_mark(Mark::OpenBracket, sort) {
+        let index = read_level(context, tokens, COMMA, depth - 1)?;
+        let rest = expect(
+            context,
+            AlsoAllowed::Nothing,
+            Mark::CloseBracket,
+            index.rest,
+        )?;
+        let tree = Expr::index(context.alloc, inner, token.place, index.tree.tree)?;
+        return Ok(Part {
+            tree,
+            depth: 1 + reached.max(index.depth),
+            rest,
+        });
+    }
+    if is_mark(Mark::OpenParen, sort) {
+        return read_call(context, tokens, token, inner, reached, depth);
+    }
+    if is_mark(Mark::Member, sort) {
+        let (name, rest) = next_token(tokens);
+        if !is_name(name.kind) {
+            return Err(fault(context, AlsoAllowed::Nothing, tokens));
+        }
+        let tree = member_of(context.alloc, inner, token, number_of(name.kind))?;
+        return Ok(Part {
+            tree,
+            depth: 1 + reached,
+            rest,
+        });
+    }
+    let punct = punct_of(token.kind);
+    let tree = Expr::after(context.alloc, inner, token.place, punct)?;
+    Ok(Part {
+        tree,
+        depth: 1 + reached,
+        rest: tokens,
+    })
+}
+
+/// Whether the token is a name, that of a type or not.
+fn is_name(kind: Kind) -> bool
+    ensures { result ≡ sorts_there.is_name (sort_of kind) }
+{
+    matches!(kind, Kind::Name(_))
+}
+
+/// The member of this number, behind a `.` or a `->`.
+fn member_of(alloc: Global, inner: Expr, token: Token, number: u32) -> Result<Expr, AllocError>
+    ensures { IfOk result
+        (λ e. (name : Token) → number ≡ number_of name.kind → tree_of e ≡ make_member
+        (tree_of inner) token name) }
+{
+    match token.kind {
+        Kind::Mark(Punct::Arrow) => Expr::arrow(alloc, inner, token.place, number),
+        _ => Expr::member(alloc, inner, token.place, number),
+    }
+}
+
+/// Behind the `(` of a call: arguments and `)`.
+#[cycle(reader)]
+fn read_call<'a>(
+    context: Context<'_>,
+    tokens: &'a [Token],
+    opening: Token,
+    inner: Expr,
+    reached: u32,
+    depth: u32,
+) -> Result<Part<'a, Expr>, ReadError<'a>>
+    requires ended { IsEnded tokens.now }
+    requires opening { is_mark sorts_there.opening (view context.types.now (sort_of opening.kind)) ≡ true }
+    requires deep { reached ≡ depth_of (tree_of inner) }
+    requires shallow { reached < depth }
+    ensures { MatchResult result
+        (λ part. IsSuffixed (context_of context.entry) (tree_of inner) depth
+        (opening ∷ tokens.now) (tree_of part.tree) part.depth part.rest.now)
+        (IsStop (context_of context.entry) (grammar.suffixes (tree_of inner)) depth
+        (opening ∷ tokens.now)) }
+{
+    let arguments = read_arguments(context, tokens, depth - 1)?;
+    let purpose = if arguments.tree.is_empty() {
+        AlsoAllowed::Name
+    } else {
+        AlsoAllowed::Nothing
+    };
+    let rest = expect(context, purpose, Mark::CloseParen, arguments.rest)?;
+    let tree = Expr::call(context.alloc, inner, opening.place, arguments.tree)?;
+    Ok(Part {
+        tree,
+        depth: 1 + reached.max(arguments.depth),
+        rest,
+    })
+}
+
+/// The arguments of a call. Their depth is that of the deepest, 0 where there are none.
+#[cycle(reader)]
+fn read_arguments<'a>(
+    context: Context<'_>,
+    tokens: &'a [Token],
+    depth: u32,
+) -> Result<Part<'a, Vec<Expr>>, ReadError<'a>>
+    requires { IsEnded tokens.now }
+    ensures { Answers (context_of context.entry) grammar.arguments depth tokens.now
+        (λ all. map tree_of all.items) result }
+{
+    let mut all = Vec::new(context.alloc);
+    let (token, _) = next_token(tokens);
+    if !begins_expression(sort_at(context.types, token.kind)) {
+        return Ok(Part {
+            tree: all,
+            depth: 0,
+            rest: tokens,
+        });
+    }
+    let first = read_level(context, tokens, ASSIGNMENT, depth)?;
+    all.push(first.tree.tree)?;
+    let mut reached = first.depth;
+    let mut rest = first.rest;
+    'arguments: loop {
+        let (token, behind) = next_token(rest);
+        if !is_mark(Mark::Comma, sort_at(context.types, token.kind)) {
+            break;
+        }
+        let next = read_level(context, behind, ASSIGNMENT, depth)?;
+        all.push(next.tree.tree)?;
+        reached = reached.max(next.depth);
+        rest = next.rest;
+    }
+    Ok(Part {
+        tree: all,
+        depth: reached,
+        rest,
+    })
+}

@@ -1,0 +1,4 @@
+pub mod Settled
+pub mod FaultKinds
+pub mod Viewing
+pub mod SeenWords

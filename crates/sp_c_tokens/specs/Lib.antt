@@ -1,0 +1,10 @@
+pub mod Sorts
+pub mod Ended
+pub mod Makers
+pub mod SyntaxTrees
+pub mod Depths
+pub mod Faults
+pub mod Refined
+pub mod Codes
+pub mod Scopes
+pub mod Expecting
