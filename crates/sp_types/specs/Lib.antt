@@ -1,0 +1,10 @@
+pub mod Arithmetic
+pub mod Compatible
+pub mod Layout
+pub mod Programs
+pub mod Statements
+pub mod Structs
+pub mod Typed
+pub mod TypedView
+pub mod Types
+pub mod View

@@ -1,0 +1,105 @@
+//! Makers of types, and what is read of them.
+ghost use Rattle.std.specs.Prelude.{◌≡◌, IfOk, map, option_map};
+ghost use Rattle.sp_types.specs.Types.{pointer, array, function, result_of, parameters_of, is_variadic};
+ghost use Rattle.sp_types.specs.View.{type_of, signature_of, told};
+
+use crate::{CType, Signature};
+use std::alloc::{AllocError, Global};
+
+impl CType {
+    /// The same type again.
+    #[cycle(copying)]
+    pub fn copy(&self, alloc: Global) -> Result<CType, AllocError>
+        ensures { IfOk result (λ t. type_of t ≡ type_of self.now) }
+    {
+        match self {
+            CType::Void => Ok(CType::Void),
+            CType::Int(kind) => Ok(CType::Int(*kind)),
+            CType::Float(kind) => Ok(CType::Float(*kind)),
+            CType::Pointer(to) => CType::pointer(alloc, to.copy(alloc)?),
+            CType::Array(element, length) => CType::array(alloc, element.copy(alloc)?, *length),
+            CType::Struct(number) => Ok(CType::Struct(*number)),
+            CType::Function(of) => CType::function(alloc, of.copy(alloc)?),
+        }
+    }
+
+    /// A pointer to the type.
+    pub fn pointer(alloc: Global, to: CType) -> Result<CType, AllocError>
+        ensures { IfOk result (λ t. type_of t ≡ pointer (type_of to)) }
+    {
+        Ok(CType::Pointer(Box::new(alloc, to)?))
+    }
+
+    /// An array of the type, of so many elements where that is known.
+    pub fn array(alloc: Global, element: CType, length: Option<u64>) -> Result<CType, AllocError>
+        ensures { IfOk result (λ t. type_of t ≡ array (type_of element) length) }
+    {
+        Ok(CType::Array(Box::new(alloc, element)?, length))
+    }
+
+    /// A function of the signature.
+    pub fn function(alloc: Global, of: Signature) -> Result<CType, AllocError>
+        ensures { IfOk result (λ t. type_of t ≡ function (signature_of of)) }
+    {
+        Ok(CType::Function(Box::new(alloc, of)?))
+    }
+}
+
+impl Signature {
+    /// The same signature again.
+    #[cycle(copying)]
+    pub fn copy(&self, alloc: Global) -> Result<Signature, AllocError>
+        ensures { IfOk result (λ s. signature_of s ≡ signature_of self.now) }
+    {
+        let result = self.result.copy(alloc)?;
+        match &self.params {
+            None => Ok(Signature {
+                result,
+                params: None,
+                variadic: self.variadic,
+            }),
+            Some(params) => Ok(Signature {
+                result,
+                params: Some(copy_all(alloc, params)?),
+                variadic: self.variadic,
+            }),
+        }
+    }
+}
+
+impl Signature {
+    /// The type of its result.
+    pub fn result(&self) -> &CType
+        ensures { type_of result.now ≡ result_of (signature_of self.now) }
+    {
+        &self.result
+    }
+
+    /// Whether more arguments may follow its parameters.
+    pub fn variadic(&self) -> bool
+        ensures { result ≡ is_variadic (signature_of self.now) }
+    {
+        self.variadic
+    }
+
+    /// Its parameters, where it has a prototype.
+    pub fn params(&self) -> Option<&[CType]>
+        ensures { parameters_of (signature_of self.now) ≡ told (option_map (λ ts. ts.now) result) }
+    {
+        match &self.params {
+            None => None,
+            Some(params) => Some(params.as_slice()),
+        }
+    }
+}
+
+#[cycle(copying)]
+fn copy_all(alloc: Global, types: &[CType]) -> Result<Vec<CType>, AllocError>
+    ensures { IfOk result (λ all. map type_of all.items ≡ map type_of types.now) }
+{
+    let mut all = Vec::new(alloc);
+    'types: for (i, t) in types.iter().enumerate() {
+        all.push(t.copy(alloc)?)?;
+    }
+    Ok(all)
+}
