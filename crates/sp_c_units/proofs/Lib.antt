@@ -1,0 +1,3 @@
+pub mod Also
+pub mod Statements
+pub mod Units
