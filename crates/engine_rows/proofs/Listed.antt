@@ -5,7 +5,7 @@ use Rattle.std.specs.List.Sorted.{IsStrictlyIncreasing}
 use Rattle.std.proofs.lemmas.Bool.Decides.{nat_tests}
 use Rattle.std.proofs.lemmas.List.Kept.{AllPairs-from_increasing}
 use Rattle.sp_lattice.specs.System.{has, written}
-use Rattle.sp_sparse.specs.Grid.{row_at}
+use Rattle.engine_rows.specs.Vectors.{row_at}
 
 pub below_next : (k n : ℕ) → k < n + 1 → (k < n) ⊎ (k ≡ n)
 below_next k n h = grind arith

@@ -7,7 +7,7 @@ use Rattle.sp_interval.specs.declared.interval.Interval.{Interval}
 use Rattle.sp_interval.specs.declared.interval.Interval.TheVariants.{Empty}
 use Rattle.sp_interval.specs.Interval.{interval_le, whole, hull, IsFormed}
 use Rattle.sp_interval.proofs.Hulls.{hull-formed}
-use Rattle.sp_sparse.specs.Grid.{row_at}
+use Rattle.engine_rows.specs.Vectors.{row_at}
 use Rattle.engine_rows.specs.Intervals.{IsNode, AreNodes, made, union, uncrossed, uncrossed-formed}
 use Rattle.engine_rows.proofs.Listed.{below_next, has_first, has_later, row_at-push_last, row_at-push_other, written-at}
 

@@ -20,7 +20,7 @@ use Rattle.sp_interval.proofs.Betweens.{between-monotone}
 use Rattle.sp_interval.proofs.Hulls.{hull-formed, whole-above}
 use Rattle.sp_interval.proofs.Sums.{added-formed, added-monotone}
 use Rattle.sp_interval.proofs.Snapping.{held-formed, hull-held, snapped-held, snapped-monotone, rank-rises, rank-bound}
-use Rattle.sp_sparse.specs.Grid.{row_at}
+use Rattle.engine_rows.specs.Vectors.{row_at}
 
 abbrev pub int_range : Range
 int_range = signed_range 32

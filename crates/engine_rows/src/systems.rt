@@ -213,7 +213,7 @@ impl System for IntervalSystem {
     type Value = Interval;
 
     ghost use Rattle.std.specs.Prelude.{slice_index_or};
-    ghost use Rattle.sp_sparse.specs.Grid.{row_at};
+    ghost use Rattle.engine_rows.specs.Vectors.{row_at};
     ghost use Rattle.engine_rows.specs.Intervals.{intervals_system, intervals_system_lawful};
 
     ghost meaning = { λ s. intervals_system s.nodes s.locations s.passing s.kept_back.items s.ladder

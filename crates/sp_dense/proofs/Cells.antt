@@ -8,7 +8,7 @@ use Rattle.std.proofs.lemmas.Bool.Decides.{nat_tests}
 use Rattle.sp_lattice.specs.Lattice.{Order}
 use Rattle.sp_lattice.specs.System.{Meaning}
 use Rattle.sp_lattice.specs.Dense.{input, table_of}
-use Rattle.sp_dense.specs.Visit.{IsGrid}
+use Rattle.sp_dense.specs.inner.Visit.{IsGrid}
 use Rattle.sp_dense.specs.Solution.{Grids, cell, within_counts, IsSolved}
 
 module _ {V : Type 0} (m : Meaning V) where

@@ -5,7 +5,7 @@ use Rattle.sp_lattice.specs.Lattice.{Order, IsLattice}
 use Rattle.sp_lattice.specs.System.{Meaning, IsSystem, Below, store_at, values_at, written}
 use Rattle.sp_lattice.specs.Dense.{store_of}
 use Rattle.sp_lattice.proofs.Stores.{kept_below, effect_written}
-use Rattle.sp_dense.specs.Visit.{IsStore}
+use Rattle.sp_dense.specs.inner.Visit.{IsStore}
 
 module _ {V : Type 0} where
   -- what comes back of a list that was lent whole

@@ -2,7 +2,7 @@
 use Rattle.std.proofs.Common.{◌≡◌, ◌≢◌, ◌⊎◌, inl, inr, ℕ, zero, suc, ◌<◌, List, [], ◌∷◌, length, get_or, set, Vec, refl, sym, ap, ◌∙◌, arith, length-set}
 use Rattle.std.specs.declared.alloc.Global.{Global}
 use Rattle.sp_lattice.specs.System.{Meaning}
-use Rattle.sp_dense.specs.Visit.{IsGrid, row_at}
+use Rattle.sp_dense.specs.inner.Visit.{IsGrid, row_at}
 
 which : (k n : ℕ) → (k ≡ n) ⊎ (k ≢ n)
 which k n = grind arith

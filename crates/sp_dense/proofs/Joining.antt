@@ -5,7 +5,7 @@ use Rattle.sp_lattice.specs.Lattice.{Order}
 use Rattle.sp_lattice.specs.System.{Meaning}
 use Rattle.sp_lattice.specs.Dense.{joined, store_of, table_of}
 use Rattle.sp_lattice.proofs.Stores.{table_of-get_or}
-use Rattle.sp_dense.specs.Visit.{IsStore, JoinsPassed}
+use Rattle.sp_dense.specs.inner.Visit.{IsStore, JoinsPassed}
 
 module _ {V : Type 0} (o : Order V) where
   joined-take_suc : (pass : ℕ → Bool) (row : ℕ → V) (sum : V) (ps : List ℕ) (i d : ℕ) → i < length ps → joined o pass row sum (take (suc i) ps) ≡ cond (pass (get_or ps i d)) (o.join (joined o pass row sum (take i ps)) (row (get_or ps i d))) (joined o pass row sum (take i ps))

@@ -6,7 +6,7 @@ use Rattle.std.proofs.lemmas.List.Folds.{list_any-append}
 use Rattle.std.proofs.lemmas.List.Elements.{All-append}
 use Rattle.std.proofs.lemmas.Bool.Decides.{nat_tests}
 use Rattle.sp_lattice.specs.System.{AllBelow, has}
-use Rattle.sp_dense.specs.Waiting.{IsKept, Adds}
+use Rattle.sp_dense.specs.inner.Waiting.{IsKept, Adds}
 
 -- how many marks are not set
 abbrev pub idle : List Bool → ℕ

@@ -4,7 +4,7 @@ use Rattle.std.specs.declared.alloc.Global.{Global}
 use Rattle.std.proofs.lemmas.Bool.{false≢true}
 use Rattle.std.proofs.lemmas.List.{length-map, length-replicate}
 use Rattle.sp_lattice.specs.System.{Meaning, AllBelow, has}
-use Rattle.sp_dense.specs.Visit.{HasSuccessors, row_at}
+use Rattle.sp_dense.specs.inner.Visit.{HasSuccessors, row_at}
 use Rattle.sp_dense.proofs.Grids.{row_at-get_or, row_at-set_same, row_at-set_other}
 use Rattle.sp_dense.proofs.Queue.{has-left, has-last, has-take_more, below-push}
 

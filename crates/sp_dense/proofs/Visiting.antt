@@ -17,8 +17,8 @@ use Rattle.std.proofs.Common.{eqb, eqb-true}
 use Rattle.sp_lattice.specs.Row.{joined_rows, any_grows}
 use Rattle.sp_lattice.proofs.RowLaws.{length-joined_rows, le_from_no_growth, place_from_growth}
 use Rattle.sp_lattice.proofs.Stores.{table_of-get_or, table_of-set_same, table_of-set_other, store_of-joined_rows}
-use Rattle.sp_dense.specs.Visit.{IsGrid, IsStore, IsSettled, Grows, Visits, HasSuccessors, IsWorking, Works, row_at}
-use Rattle.sp_dense.specs.Waiting.{Adds}
+use Rattle.sp_dense.specs.inner.Visit.{IsGrid, IsStore, IsSettled, Grows, Visits, HasSuccessors, IsWorking, Works, row_at}
+use Rattle.sp_dense.specs.inner.Waiting.{Adds}
 use Rattle.sp_dense.proofs.Grids.{row_long, grid_set}
 
 same_nat : (x y : ℕ) → eqb x y ≡ true → x ≡ y

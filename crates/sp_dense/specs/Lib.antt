@@ -1,4 +1,3 @@
 pub mod Solution
 pub mod Cause
-pub mod Waiting
-pub mod Visit
+pub mod inner

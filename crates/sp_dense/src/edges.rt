@@ -1,6 +1,6 @@
 //! The edges of a system, the other way round.
 ghost use Rattle.std.specs.Prelude.{IfOk};
-ghost use Rattle.sp_dense.specs.Visit.{HasSuccessors};
+ghost use Rattle.sp_dense.specs.inner.Visit.{HasSuccessors};
 
 use sp_lattice::{Lattice, System};
 use std::alloc::{AllocError, Global};

@@ -2,7 +2,7 @@
 ghost use Rattle.std.specs.Prelude.{◌≡◌, ◌≤◌, ◌<◌, ◌+◌, ℕ, length, vec_len, IfOk, OnOk};
 ghost use Rattle.sp_lattice.specs.System.{AllBelow, Below, written};
 ghost use Rattle.sp_lattice.specs.Dense.{input, Partial, store_of, table_of};
-ghost use Rattle.sp_dense.specs.Visit.{IsGrid, IsStore, JoinsPassed, Visits};
+ghost use Rattle.sp_dense.specs.inner.Visit.{IsGrid, IsStore, JoinsPassed, Visits};
 
 use sp_lattice::rows::{bottoms, raise, values_of};
 use sp_lattice::{Lattice, Steps, System};

@@ -2,7 +2,7 @@
 ghost use Rattle.std.specs.Prelude.{◌≡◌, ◌≤◌, ◌<◌, ◌+◌, ℕ, map, replicate, ◌∷◌, IfOk, OnOk, IfErr};
 ghost use Rattle.sp_lattice.specs.Dense.{input, IsLeast, Partial, table_of};
 ghost use Rattle.sp_lattice.specs.Bound.{most_steps};
-ghost use Rattle.sp_dense.specs.Visit.{IsGrid, HasSuccessors, IsWorking, Works};
+ghost use Rattle.sp_dense.specs.inner.Visit.{IsGrid, HasSuccessors, IsWorking, Works};
 ghost use Rattle.sp_dense.specs.Solution.{IsSolved, cells, most_cells};
 ghost use Rattle.sp_dense.specs.Cause.{IsCause};
 

@@ -1,7 +1,7 @@
 //! The nodes that wait to be visited.
 ghost use Rattle.std.specs.Prelude.{◌≡◌, ◌≤◌, ◌<◌, ◌+◌, ◌++◌, ℕ, true, length, option_to_list, [], IfOk, IfSome, IfNone, OnOk};
 ghost use Rattle.sp_lattice.specs.System.{AllBelow, has};
-ghost use Rattle.sp_dense.specs.Waiting.{Adds};
+ghost use Rattle.sp_dense.specs.inner.Waiting.{Adds};
 
 use std::alloc::{AllocError, Global};
 use std::collections::VecDeque;
@@ -16,7 +16,8 @@ pub(crate) struct Worklist {
 
 impl Model for Worklist {
     ghost use Rattle.std.specs.Prelude.{length};
-    ghost use Rattle.sp_dense.specs.Waiting.{Waiting, IsKept};
+    ghost use Rattle.sp_lattice.specs.Waiting.{Waiting};
+    ghost use Rattle.sp_dense.specs.inner.Waiting.{IsKept};
 
     ghost Value = { Waiting };
 

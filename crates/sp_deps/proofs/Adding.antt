@@ -9,8 +9,8 @@ use Rattle.sp_lattice.specs.System.{Meaning, has}
 use Rattle.sp_lattice.specs.Dependency.{Depends}
 use Rattle.sp_deps.specs.Rows.{leaving, held, total, is_before, Ascends, added, most_dependencies}
 use Rattle.sp_deps.specs.Answer.{HasTooMany}
-use Rattle.sp_deps.specs.Walk.{IsFound}
-use Rattle.sp_deps.specs.Progress.{AreRows, AreBefore, AreSound, Gains, Exceeds}
+use Rattle.sp_deps.specs.inner.Walk.{IsFound}
+use Rattle.sp_deps.specs.inner.Progress.{AreRows, AreBefore, AreSound, Gains, Exceeds}
 use Rattle.sp_deps.proofs.Lists.{has-take_more, distinct-new}
 use Rattle.sp_deps.proofs.Held.{held_at, held-added, ascends-added, total-added}
 use Rattle.sp_deps.proofs.Bools.{and-parts, or-cases, or-left}

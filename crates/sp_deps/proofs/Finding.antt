@@ -13,13 +13,14 @@ use Rattle.sp_lattice.specs.Dependency.{Depends}
 use Rattle.sp_lattice.proofs.Paths.{Path-end}
 use Rattle.sp_deps.specs.Rows.{held, is_before}
 use Rattle.sp_deps.specs.Answer.{AreDependencies}
-use Rattle.sp_deps.specs.Users.{AreUsers}
-use Rattle.sp_deps.specs.Walk.{IsFound}
-use Rattle.sp_deps.specs.Cause.{IsCause, IsExcess}
+use Rattle.sp_deps.specs.inner.Users.{AreUsers}
+use Rattle.sp_deps.specs.inner.Walk.{IsFound}
+use Rattle.sp_deps.specs.Cause.{IsCause}
+use Rattle.sp_deps.specs.inner.Progress.{IsExcess}
 use Rattle.sp_deps.specs.declared.triples.DepError.{DepError}
 use Rattle.sp_deps.specs.declared.triples.DepError.TheVariants.{TooMany, NoMemory}
 use Rattle.sp_deps.proofs.Adding.{too_many}
-use Rattle.sp_deps.specs.Progress.{AreRows, AreBefore, AreSound, AreUpTo, GainsUse, is_done}
+use Rattle.sp_deps.specs.inner.Progress.{AreRows, AreBefore, AreSound, AreUpTo, GainsUse, is_done}
 use Rattle.sp_deps.proofs.Lists.{which, eqb-refl, has-take_more, has-get_or}
 use Rattle.sp_deps.proofs.Bools.{and-parts, and-both, or-cases, or-left, or-right}
 

@@ -8,7 +8,7 @@ use Rattle.std.proofs.lemmas.List.Quantifiers.{all_pairs_push}
 use Rattle.std.proofs.lemmas.List.Elements.{All-set, All-get_or}
 use Rattle.std.proofs.lemmas.List.Sums.{sum_by-cons}
 use Rattle.sp_deps.specs.Rows.{leaving, same_pair, held, total, is_before, Ascends, added, most_dependencies}
-use Rattle.sp_deps.specs.Kept.{IsKept}
+use Rattle.sp_deps.specs.inner.Kept.{IsKept}
 use Rattle.sp_deps.proofs.Lists.{which, below, eqb-refl, eqb-apart}
 use Rattle.sp_deps.proofs.Bools.{and-parts, or-false_right}
 

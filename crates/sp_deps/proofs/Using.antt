@@ -10,7 +10,7 @@ use Rattle.std.proofs.lemmas.List.Folds.{list_any_none}
 use Rattle.std.proofs.lemmas.List.Kept.{AllPairs-from_increasing}
 use Rattle.std.proofs.lemmas.List.Quantifiers.{all_pairs_push}
 use Rattle.sp_lattice.specs.System.{Meaning, has}
-use Rattle.sp_deps.specs.Users.{users_of}
+use Rattle.sp_deps.specs.inner.Users.{users_of}
 use Rattle.sp_deps.proofs.Lists.{which, eqb-refl, eqb-apart, has-push, has-take_more, has-get_or}
 use Rattle.sp_deps.proofs.Views.{view_pushed}
 use Rattle.sp_deps.proofs.Bools.{or-false_right, and-false_right}

@@ -4,13 +4,14 @@ ghost use Rattle.std.specs.List.{IsDistinct};
 ghost use Rattle.sp_lattice.specs.System.{AllBelow, has};
 ghost use Rattle.sp_deps.specs.Rows.{total, most_dependencies};
 ghost use Rattle.sp_deps.specs.Answer.{AreDependencies};
-ghost use Rattle.sp_deps.specs.Cause.{IsCause, IsExcess};
-ghost use Rattle.sp_deps.specs.Walk.{IsFresh, IsFound, AreKnown};
-ghost use Rattle.sp_deps.specs.Progress.{AreRows, AreBefore, AreSound, AreUpTo, Gains, GainsUse, is_done};
-ghost use Rattle.sp_deps.specs.Users.{AreUsers};
+ghost use Rattle.sp_deps.specs.Cause.{IsCause};
+ghost use Rattle.sp_deps.specs.inner.Progress.{IsExcess};
+ghost use Rattle.sp_deps.specs.inner.Walk.{IsFresh, IsFound, AreKnown};
+ghost use Rattle.sp_deps.specs.inner.Progress.{AreRows, AreBefore, AreSound, AreUpTo, Gains, GainsUse, is_done};
+ghost use Rattle.sp_deps.specs.inner.Users.{AreUsers};
 
 use crate::earlier::Earlier;
-use crate::triples::{DepError, Deps, MOST_DEPENDENCIES};
+use crate::triples::{DepError, Deps, Growing, MOST_DEPENDENCIES};
 use crate::users::users;
 use crate::walk::{Walk, fresh_walk, take_found, walk_back};
 use sp_lattice::System;
@@ -27,7 +28,7 @@ pub fn dependencies<S: System>(alloc: Global, system: &S) -> Result<Deps, DepErr
     let users = users(alloc, system)?;
     let mut walk = fresh_walk(alloc, system.nodes())?;
     let mut earlier = Earlier::none(alloc, system.nodes())?;
-    let mut deps = Deps::none(alloc, system.nodes())?;
+    let mut deps = Growing::none(alloc, system.nodes())?;
     'locations: for location in 0..system.locations() {
         let targets = &users[location as usize];
         earlier.clear();
@@ -41,7 +42,8 @@ pub fn dependencies<S: System>(alloc: Global, system: &S) -> Result<Deps, DepErr
             targets,
         )?;
     }
-    Ok(deps)
+    let laid = Deps::laid(alloc, &deps)?;
+    Ok(laid)
 }
 
 /// Adds the dependencies of all uses of one location, where those of the lesser locations are there.
@@ -50,7 +52,7 @@ fn add_location<S: System>(
     system: &S,
     walk: &mut Walk,
     earlier: &mut Earlier,
-    deps: &mut Deps,
+    deps: &mut Growing,
     location: u32,
     targets: &[u32],
 ) -> Result<(), DepError>
@@ -76,7 +78,7 @@ fn add_use<S: System>(
     system: &S,
     walk: &mut Walk,
     earlier: &mut Earlier,
-    deps: &mut Deps,
+    deps: &mut Growing,
     location: u32,
     to: u32,
 ) -> Result<(), DepError>
@@ -101,7 +103,7 @@ fn add_use<S: System>(
 }
 
 /// Adds the triples from the nodes that a walk found.
-fn add_found(deps: &mut Deps, found: &[u32], location: u32, to: u32) -> Result<(), DepError>
+fn add_found(deps: &mut Growing, found: &[u32], location: u32, to: u32) -> Result<(), DepError>
     requires once { IsDistinct nat_eq found.now }
     requires low { AllBelow (length deps.old) found.now }
     requires rows { AreRows (length deps.old) deps.old }

@@ -1,6 +1,6 @@
 //! What the walks to the other uses of a location found.
 ghost use Rattle.std.specs.Prelude.{◌≡◌, ◌<◌, ◌++◌, ◌∷◌, [], length, IfOk, IfSome, OnOk};
-ghost use Rattle.sp_deps.specs.Walk.{IsFinding};
+ghost use Rattle.sp_deps.specs.inner.Walk.{IsFinding};
 
 use std::alloc::{AllocError, Global};
 

@@ -2,11 +2,13 @@
 ghost use Rattle.std.specs.Prelude.{◌≡◌, ◌≤◌, ◌<◌, ◌+◌, ℕ, true, length, All, replicate, [], nat_eq, IfOk, OnOk};
 ghost use Rattle.sp_deps.specs.Rows.{leaving, held, total, is_before, Ascends, added, most_dependencies};
 
+use sp_lattice::rows::Rows;
 use std::alloc::{AllocError, Global};
 use std::marker::Model;
 use thiserror::Error;
 
-/// The most dependencies that are kept: as pairs of two numbers they take 400 MB, and lists that grew up to twice that.
+/// The most dependencies that are kept: as pairs of two numbers they take 400 MB, and up to three times that while they
+/// are found, since lists that grow have room for twice what is in them.
 pub const MOST_DEPENDENCIES: u64 = 50_000_000;
 
 /// Why the dependencies of a system aren't told.
@@ -37,20 +39,21 @@ impl From<AllocError> for DepError {
 /// ascending by location and then by target. There are at most [`MOST_DEPENDENCIES`].
 #[derive(Drop)]
 pub struct Deps {
-    rows: Vec<Vec<(u32, u32)>>,
+    alloc: Global,
+    rows: Rows<(u32, u32)>,
     count: u64,
 }
 
 impl Model for Deps {
-    ghost use Rattle.std.specs.Prelude.{List, ℕ, map};
+    ghost use Rattle.std.specs.Prelude.{List, ℕ};
 
     ghost Value = { List (List (ℕ × ℕ)) };
 
-    ghost use Rattle.sp_deps.specs.Kept.{IsKept};
+    ghost use Rattle.sp_deps.specs.inner.Kept.{IsKept};
 
-    ghost view = { λ d. map (λ row. row.items) d.rows.items };
+    ghost view = { λ d. d.rows };
 
-    ghost invariant = { λ d. IsKept (map (λ row. row.items) d.rows.items) d.count };
+    ghost invariant = { λ d. IsKept d.rows d.count };
 }
 
 impl Deps {
@@ -71,33 +74,71 @@ impl Deps {
     }
 
     /// The pairs of location and target of the triples that leave `from`, ascending; none past the last node.
-    pub fn leaving(&self, from: u32) -> &[(u32, u32)]
-        ensures pairs { result.now ≡ leaving self.now from }
-        ensures ascending { Ascends result.now }
-    {
-        match self.rows.get(from as usize) {
-            Some(row) => row,
-            None => &[],
-        }
-    }
-
-    /// A copy of what [`Deps::leaving`] tells.
     pub fn after(&self, from: u32) -> Result<Vec<(u32, u32)>, AllocError>
         ensures pairs { IfOk result (λ pairs. pairs.items ≡ leaving self.now from) }
         ensures ascending { IfOk result (λ pairs. Ascends pairs.items) }
     {
-        self.leaving(from).to_vec(*self.rows.allocator())
+        self.leaving(from).to_vec(self.alloc)
     }
 
+    /// What [`Deps::after`] copies.
+    fn leaving(&self, from: u32) -> &[(u32, u32)]
+        ensures pairs { result.now ≡ leaving self.now from }
+        ensures ascending { Ascends result.now }
+    {
+        let from = from as usize;
+        if from < self.rows.len() {
+            self.rows.row(from)
+        } else {
+            &[]
+        }
+    }
+
+    /// Lays the rows of what was found one behind another.
+    pub(crate) fn laid(alloc: Global, found: &Growing) -> Result<Deps, AllocError>
+        ensures { IfOk result (λ deps. deps ≡ found.now) }
+    {
+        let mut rows = Rows::with_capacity(alloc, found.rows.len(), found.count as usize)?;
+        for row in &found.rows {
+            rows.push_row(row)?;
+        }
+        Ok(Deps {
+            alloc,
+            rows,
+            count: found.count,
+        })
+    }
+}
+
+/// Dependencies while they are found: a row for each node, each in a list of its own.
+#[derive(Drop)]
+pub(crate) struct Growing {
+    rows: Vec<Vec<(u32, u32)>>,
+    count: u64,
+}
+
+impl Model for Growing {
+    ghost use Rattle.std.specs.Prelude.{List, ℕ, map};
+
+    ghost Value = { List (List (ℕ × ℕ)) };
+
+    ghost use Rattle.sp_deps.specs.inner.Kept.{IsKept};
+
+    ghost view = { λ d. map (λ row. row.items) d.rows.items };
+
+    ghost invariant = { λ d. IsKept (map (λ row. row.items) d.rows.items) d.count };
+}
+
+impl Growing {
     /// No dependencies yet, of this many nodes.
-    pub(crate) fn none(alloc: Global, nodes: u32) -> Result<Deps, AllocError>
+    pub(crate) fn none(alloc: Global, nodes: u32) -> Result<Growing, AllocError>
         ensures { IfOk result (λ deps. deps ≡ replicate nodes []) }
     {
         let mut rows = Vec::new(alloc);
         for _ in 0..nodes {
             rows.push(Vec::new(alloc))?;
         }
-        Ok(Deps { rows, count: 0 })
+        Ok(Growing { rows, count: 0 })
     }
 
     /// Whether there is no room for one more.

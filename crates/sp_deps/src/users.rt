@@ -1,6 +1,6 @@
 //! The uses of a system, by location.
 ghost use Rattle.std.specs.Prelude.{IfOk};
-ghost use Rattle.sp_deps.specs.Users.{HasUsers};
+ghost use Rattle.sp_deps.specs.inner.Users.{HasUsers};
 
 use sp_lattice::System;
 use std::alloc::{AllocError, Global};

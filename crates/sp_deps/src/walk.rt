@@ -1,7 +1,7 @@
 //! Walks backward from a use of a location to its definitions.
 ghost use Rattle.std.specs.Prelude.{◌≡◌, ◌<◌, ◌&&◌, ℕ, not, false, nat_eq, length, slice_index_or, vec_len, IfOk, OnOk};
 ghost use Rattle.sp_lattice.specs.System.{AllBelow, has};
-ghost use Rattle.sp_deps.specs.Walk.{reached, IsListed, IsFresh, AreMarked, Reaches, IsFound, AreKnown, GoesBehind};
+ghost use Rattle.sp_deps.specs.inner.Walk.{reached, IsListed, IsFresh, AreMarked, Reaches, IsFound, AreKnown, GoesBehind};
 
 use crate::earlier::Earlier;
 use sp_lattice::System;

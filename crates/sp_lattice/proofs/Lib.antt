@@ -12,3 +12,6 @@ pub mod Joins
 pub mod Tables
 pub mod Ranks
 pub mod Paths
+pub mod FlatRows
+pub mod Chains
+mod Existence

@@ -7,3 +7,6 @@ pub mod Dense
 pub mod Dependency
 pub mod Bound
 pub mod Row
+pub mod Flat
+pub mod Laws
+pub mod Waiting

@@ -1,7 +1,6 @@
 -- What a table's rows tell at a location, and how rows of least values begin.
-use Rattle.std.proofs.Common.{◌≡◌, ◌⊎◌, inl, inr, ℕ, zero, suc, ◌+◌, ◌<◌, ◌≤◌, Bool, true, false, cond, ◌&&◌, ◌||◌, nat_eq, nat_lt, if◌then◌else◌, List, [], ◌∷◌, ◌++◌, length, get_or, map, replicate, Vec, Some, None, refl, sym, ap, ◌∙◌, subst, arith}
-use Rattle.std.specs.Prelude.{slice_get, vec_len}
-use Rattle.std.specs.declared.alloc.Global.{Global}
+use Rattle.std.proofs.Common.{◌≡◌, ◌⊎◌, inl, inr, ℕ, zero, suc, ◌+◌, ◌<◌, ◌≤◌, Bool, true, false, cond, ◌&&◌, ◌||◌, nat_eq, nat_lt, if◌then◌else◌, List, [], ◌∷◌, ◌++◌, length, get_or, map, replicate, Some, None, refl, sym, ap, ◌∙◌, subst, arith}
+use Rattle.std.specs.Prelude.{slice_get}
 use Rattle.std.specs.List.Sorted.{IsStrictlyIncreasing}
 use Rattle.std.proofs.lemmas.Bool.{false≢true}
 use Rattle.std.proofs.lemmas.Bool.Decides.{nat_tests}
@@ -9,11 +8,16 @@ use Rattle.std.proofs.lemmas.Option.{slice_get-get_or}
 use Rattle.std.proofs.lemmas.List.{length-map, length-replicate}
 use Rattle.std.proofs.lemmas.List.Kept.{AllPairs-from_increasing}
 use Rattle.sp_lattice.specs.System.{Meaning, has, written}
-use Rattle.sp_sparse.specs.Grid.{row_at, IsGrid, AreLists, table_at}
-use Rattle.sp_sparse.specs.Solution.{cells_of, value_at, cell, IsFormed, within_list}
+use Rattle.sp_lattice.specs.Flat.{row_at}
+use Rattle.sp_sparse.specs.Solution.{Cells, value_at, cell, IsFormed, within_list}
+use Rattle.sp_sparse.specs.inner.Grid.{IsGrid, AreLists, table_at}
 use Rattle.sp_sparse.proofs.Numbers.{side, below_next, same_number, apart_numbers}
 use Rattle.sp_sparse.proofs.Few.{rest_rises}
-use Rattle.sp_sparse.proofs.GridLaws.{row_at-get_or, row_at-past, row_at-push_last, row_at-push_other}
+use Rattle.sp_sparse.proofs.GridLaws.{row_at-past, row_at-push_last, row_at-push_other}
+
+-- rows of values at their locations
+abbrev pub cells : {V : Type 0} → List (List ℕ) → List (List V) → Cells V
+cells places values = record { places = places; values = values }
 
 module _ {V : Type 0} where
   -- a row has nothing at a location that isn't among its own
@@ -58,17 +62,17 @@ module _ {V : Type 0} where
       by false more = more
 
   -- rows of least values, one for each list
-  least_row : (bottom : V) (places : List (Vec ℕ Global)) (rows : List (List V)) (n : ℕ) → rows ≡ map (λ (list : Vec ℕ Global). replicate (vec_len list) bottom) places → n < length places → get_or rows n [] ≡ replicate (length (row_at places n)) bottom
-  least_row bottom [] rows n is low = absurd (omega arith)
-  least_row bottom (p ∷ places) rows zero is low = ap (λ rs. get_or rs 0 []) is ∙ ap (λ k. replicate k bottom) p.ok.0
-  least_row bottom (p ∷ places) rows (suc n) is low = ap (λ rs. get_or rs (suc n) []) is ∙ least_row bottom places (map (λ (list : Vec ℕ Global). replicate (vec_len list) bottom) places) n refl (omega arith)
+  least_row : (bottom : V) (places : List (List ℕ)) (n : ℕ) → n < length places → row_at (map (λ (list : List ℕ). replicate (length list) bottom) places) n ≡ replicate (length (row_at places n)) bottom
+  least_row bottom [] n low = absurd (omega arith)
+  least_row bottom (p ∷ places) zero low = refl
+  least_row bottom (p ∷ places) (suc n) low = least_row bottom places n (omega arith)
 
-  module _ (bottom : V) (nodes : ℕ) (lists : ℕ → List ℕ) (places : List (Vec ℕ Global)) (rows : List (Vec V Global)) (are : AreLists nodes lists places) (is : map (λ (row : Vec V Global). row.items) rows ≡ map (λ (list : Vec ℕ Global). replicate (vec_len list) bottom) places) where
+  module _ (bottom : V) (nodes : ℕ) (lists : ℕ → List ℕ) (places : List (List ℕ)) (rows : List (List V)) (are : AreLists nodes lists places) (is : rows ≡ map (λ (list : List ℕ). replicate (length list) bottom) places) where
     rows_long : length rows ≡ nodes
-    rows_long = sym (length-map rows (λ (row : Vec V Global). row.items)) ∙ ap length is ∙ length-map places (λ (list : Vec ℕ Global). replicate (vec_len list) bottom) ∙ are.long
+    rows_long = ap length is ∙ length-map places (λ (list : List ℕ). replicate (length list) bottom) ∙ are.long
 
     row_is : (n : ℕ) → n < nodes → row_at rows n ≡ replicate (length (lists n)) bottom
-    row_is n low = least_row bottom places (map (λ (row : Vec V Global). row.items) rows) n is (omega (arith, low, are.long)) ∙ ap (λ list. replicate (length list) bottom) (are.same n low)
+    row_is n low = ap (λ rs. row_at rs n) is ∙ least_row bottom places n (omega (arith, low, are.long)) ∙ ap (λ list. replicate (length list) bottom) (are.same n low)
 
     pub least_grid : IsGrid nodes lists rows
     least_grid = record { long = rows_long; rows_long = λ n low. ap length (row_is n low) ∙ length-replicate (length (lists n)) bottom }
@@ -81,18 +85,18 @@ module _ {V : Type 0} where
         by (inr past) = ap (λ row. written (λ j. bottom) (lists n) row l) (row_at-past rows n (omega (arith, past, rows_long))) ∙ written-least bottom (lists n) 0 l
 
 -- one more list behind the others
-pub lists_more : (lists : ℕ → List ℕ) (rows : List (Vec ℕ Global)) (list : Vec ℕ Global) (n : ℕ) → length rows ≡ n → ((k : ℕ) → k < n → row_at rows k ≡ lists k) → list.items ≡ lists n → (k : ℕ) → k < n + 1 → row_at (rows ++ list ∷ []) k ≡ lists k
+pub lists_more : (lists : ℕ → List ℕ) (rows : List (List ℕ)) (list : List ℕ) (n : ℕ) → length rows ≡ n → ((k : ℕ) → k < n → row_at rows k ≡ lists k) → list ≡ lists n → (k : ℕ) → k < n + 1 → row_at (rows ++ list ∷ []) k ≡ lists k
 lists_more lists rows list n long so_far is k low = by (below_next k n low)
   where
     by : (k < n) ⊎ (k ≡ n) → row_at (rows ++ list ∷ []) k ≡ lists k
     by (inl less) = row_at-push_other rows list k (omega (arith, less, long)) ∙ so_far k less
     by (inr same) = ap (λ j. row_at (rows ++ list ∷ []) j) (same ∙ sym long) ∙ row_at-push_last rows list ∙ is ∙ ap lists (sym same)
 
-module _ {V : Type 0} (nodes : ℕ) (lists : ℕ → List ℕ) (places : List (Vec ℕ Global)) (rows : List (Vec V Global)) (are : AreLists nodes lists places) (grid : IsGrid nodes lists rows) where
+module _ {V : Type 0} (nodes : ℕ) (lists : ℕ → List ℕ) (places : List (List ℕ)) (rows : List (List V)) (are : AreLists nodes lists places) (grid : IsGrid nodes lists rows) where
   -- lists that ascend and rows that fit them
-  pub formed : ((n : ℕ) → n < nodes → IsStrictlyIncreasing (lists n)) → IsFormed (cells_of places rows)
+  pub formed : ((n : ℕ) → n < nodes → IsStrictlyIncreasing (lists n)) → IsFormed (cells places rows)
   formed rises = record {
-    rows = length-map rows (λ (row : Vec V Global). row.items) ∙ grid.long ∙ sym are.long ∙ sym (length-map places (λ (row : Vec ℕ Global). row.items));
+    rows = grid.long ∙ sym are.long;
     ascends = λ n. ascends n (side n nodes);
     long = λ n. long n (side n nodes);
   }
@@ -106,7 +110,7 @@ module _ {V : Type 0} (nodes : ℕ) (lists : ℕ → List ℕ) (places : List (V
       long n (inr past) = ap length (row_at-past rows n (omega (arith, past, grid.long))) ∙ ap length (sym (row_at-past places n (omega (arith, past, are.long))))
 
   -- what such rows tell at each node and location
-  pub cells_are : (m : Meaning V) (bottom : V) (dense : ℕ → ℕ → V) → nodes ≡ m.nodes → ((n l : ℕ) → n < nodes → has l (lists n) ≡ true → table_at bottom lists rows n l ≡ dense n l) → (n l : ℕ) → cell (cells_of places rows) n l ≡ within_list m lists n l (dense n l)
+  pub cells_are : (m : Meaning V) (bottom : V) (dense : ℕ → ℕ → V) → nodes ≡ m.nodes → ((n l : ℕ) → n < nodes → has l (lists n) ≡ true → table_at bottom lists rows n l ≡ dense n l) → (n l : ℕ) → cell (cells places rows) n l ≡ within_list m lists n l (dense n l)
   cells_are m bottom dense same values n l = by (side n nodes)
     where
       below : (t : Bool) → n < m.nodes → t ≡ has l (lists n) → within_list m lists n l (dense n l) ≡ (if t then Some (dense n l) else None)
@@ -128,33 +132,20 @@ module _ {V : Type 0} (nodes : ℕ) (lists : ℕ → List ℕ) (places : List (V
       there low false is =
           ap (λ ls. value_at ls (row_at rows n) l) (are.same n low) ∙ value_at-absent (lists n) (row_at rows n) l (sym is) ∙ sym (below false (omega (arith, low, same)) is)
 
-      by : (n < nodes) ⊎ (nodes ≤ n) → cell (cells_of places rows) n l ≡ within_list m lists n l (dense n l)
+      by : (n < nodes) ⊎ (nodes ≤ n) → cell (cells places rows) n l ≡ within_list m lists n l (dense n l)
       by (inl low) = there low (has l (lists n)) refl
       by (inr past) = ap (λ ls. value_at ls (row_at rows n) l) (row_at-past places n (omega (arith, past, are.long))) ∙ sym (beyond (omega (arith, past, same)))
 
 -- the row of a node that is there, with the locations at which its values stand
-module _ {V : Type 0} (places : List (Vec ℕ Global)) (values : List (Vec V Global)) (is : IsFormed (cells_of places values)) (n : ℕ) (list : Vec ℕ Global) (row : Vec V Global) (low : n < length values) (list_is : list ≡ get_or places n list) (row_is : row ≡ get_or values n row) where
-  list_at : row_at places n ≡ list.items
-  list_at =
-      row_at-get_or places n list (omega (arith, low, is.rows, length-map places (λ (r : Vec ℕ Global). r.items), length-map values (λ (r : Vec V Global). r.items)))
-      ∙ ap (λ (r : Vec ℕ Global). r.items) (sym list_is)
+module _ {V : Type 0} (places : List (List ℕ)) (values : List (List V)) (is : IsFormed (cells places values)) (n : ℕ) where
+  pub read_absent : (l : ℕ) → has l (row_at places n) ≡ false → cell (cells places values) n l ≡ None
+  read_absent l h = value_at-absent (row_at places n) (row_at values n) l h
 
-  values_at_row : row_at values n ≡ row.items
-  values_at_row = row_at-get_or values n row low ∙ ap (λ (r : Vec V Global). r.items) (sym row_is)
-
-  pub read_rises : IsStrictlyIncreasing list.items
-  read_rises = subst IsStrictlyIncreasing list_at (is.ascends n)
-
-  pub read_long : length row.items ≡ length list.items
-  read_long = ap length (sym values_at_row) ∙ is.long n ∙ ap length list_at
-
-  read : (l : ℕ) → cell (cells_of places values) n l ≡ value_at list.items row.items l
-  read l = ap (λ ls. value_at ls (row_at values n) l) list_at ∙ ap (λ vs. value_at list.items vs l) values_at_row
-
-  pub read_absent : (l : ℕ) → has l list.items ≡ false → cell (cells_of places values) n l ≡ None
-  read_absent l h = read l ∙ value_at-absent list.items row.items l h
-
-  pub read_place : (p l : ℕ) (v : V) → p < length list.items → get_or list.items p 0 ≡ l → v ≡ get_or row.items p v → cell (cells_of places values) n l ≡ Some v
+  pub read_place : (p l : ℕ) (v : V) → p < length (row_at places n) → get_or (row_at places n) p 0 ≡ l → v ≡ get_or (row_at values n) p v → cell (cells places values) n l ≡ Some v
   read_place p l v p_low at v_is =
-      read l ∙ ap (λ j. value_at list.items row.items j) (sym at) ∙ value_at-place list.items row.items p read_rises read_long p_low
-      ∙ slice_get-get_or row.items p v (omega (arith, p_low, read_long)) ∙ ap Some (sym v_is)
+      ap (λ j. value_at (row_at places n) (row_at values n) j) (sym at) ∙ value_at-place (row_at places n) (row_at values n) p (is.ascends n) (is.long n) p_low
+      ∙ slice_get-get_or (row_at values n) p v (omega (arith, p_low, is.long n)) ∙ ap Some (sym v_is)
+
+  -- past the rows there is nothing
+  pub read_past : (l : ℕ) → length values < n + 1 → cell (cells places values) n l ≡ None
+  read_past l past = ap (λ ls. value_at ls (row_at values n) l) (row_at-past places n (omega (arith, past, is.rows)))

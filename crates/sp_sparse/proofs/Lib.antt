@@ -1,5 +1,4 @@
 mod Numbers
-mod Chains
 mod Spreading
 mod Working
 mod Summing
@@ -7,7 +6,11 @@ mod Paying
 mod Few
 mod Ordered
 mod GridLaws
+mod Updating
 mod Sending
+mod Linking
+mod Laying
+mod Fronts
 mod Windows
 mod CellLaws
 mod Turns

@@ -7,9 +7,9 @@ use Rattle.sp_lattice.specs.System.{Meaning, IsSystem, Held, has}
 use Rattle.sp_lattice.specs.Dense.{Table}
 use Rattle.sp_lattice.specs.Bound.{sum_below, dependencies_into, most_evaluations, all_evaluations}
 use Rattle.sp_lattice.proofs.Ranks.{rank_le, sum_below-le, sum_below-lt}
-use Rattle.sp_sparse.specs.Engine.{IsWorking, Raises, risen, IsPaid}
-use Rattle.sp_sparse.specs.Queue.{Removes}
-use Rattle.sp_sparse.proofs.Chains.{all_or_some}
+use Rattle.sp_sparse.specs.inner.Engine.{IsWorking, Raises, risen, IsPaid}
+use Rattle.sp_sparse.specs.inner.Queue.{Removes}
+use Rattle.sp_lattice.proofs.Chains.{all_or_some}
 use Rattle.sp_sparse.proofs.Summing.{sum_by-mono, sum_by-lt, sum_by-times, sum_below-term}
 use Rattle.sp_sparse.proofs.Numbers.{which}
 use Rattle.sp_sparse.proofs.Working.{use_below}

@@ -9,7 +9,7 @@ use Rattle.sp_lattice.proofs.Joins.{joined_least}
 use Rattle.sp_lattice.proofs.Tables.{edge_below, input_below, input_under, input_held, least_from_partial}
 use Rattle.sp_lattice.proofs.Stores.{written-values_at, written_elsewhere, effect_from_uses, kept_held}
 use Rattle.sp_sparse.specs.Sparse.{IsStanding, EqualsDense}
-use Rattle.sp_sparse.proofs.Chains.{standing}
+use Rattle.sp_lattice.proofs.Chains.{standing}
 
 module _ {V : Type 0} (o : Order V) (m : Meaning V) (laws : IsLattice o) (sys : IsSystem o m) (test : ℕ → ℕ → ℕ → Bool) (exact : IsDependencies m test) (ins outs : Table V) (done : IsStanding o m test ins outs) where
   -- the outputs at the definitions, and elsewhere what has come in so many steps

@@ -1,5 +1,5 @@
 -- One turn: a node that waited is evaluated and counted, and what it defines is sent.
-use Rattle.std.proofs.Common.{◌≡◌, ◌≢◌, ◌⊎◌, inl, inr, ℕ, suc, ◌+◌, ◌^◌, ◌<◌, ◌≤◌, Bool, true, false, cond, nat_eq, List, [], ◌∷◌, length, get_or, set, sum, refl, sym, ap, ◌∙◌, subst, arith, get_or-set_same, get_or-set_other}
+use Rattle.std.proofs.Common.{◌≡◌, ◌≢◌, ◌⊎◌, inl, inr, ℕ, zero, suc, ◌+◌, ◌^◌, ◌<◌, ◌≤◌, Bool, true, false, cond, nat_eq, List, [], ◌∷◌, length, get_or, set, take, sum, refl, sym, ap, ◌∙◌, subst, arith, get_or-set_same, get_or-set_other}
 use Rattle.std.proofs.Math.Nat.{mul-le-mul_left}
 use Rattle.std.proofs.lemmas.Bool.{false≢true}
 use Rattle.std.proofs.lemmas.Bool.Decides.{nat_tests}
@@ -11,9 +11,9 @@ use Rattle.sp_lattice.specs.Bound.{sum_below, dependencies_into, all_evaluations
 use Rattle.sp_deps.specs.Rows.{held, total, most_dependencies}
 use Rattle.sp_deps.specs.Answer.{AreDependencies}
 use Rattle.sp_sparse.specs.Sparse.{EqualsDense}
-use Rattle.sp_sparse.specs.Engine.{IsWorking, Every, IsPaid}
+use Rattle.sp_sparse.specs.inner.Engine.{IsWorking, Every, IsPaid}
 use Rattle.sp_sparse.specs.Solution.{IsWithinBounds}
-use Rattle.sp_sparse.specs.Queue.{Removes}
+use Rattle.sp_sparse.specs.inner.Queue.{Removes, most_shown}
 use Rattle.sp_sparse.proofs.Numbers.{which}
 use Rattle.sp_sparse.proofs.Working.{standing_last}
 use Rattle.sp_sparse.proofs.Spreading.{equals_dense}
@@ -36,6 +36,25 @@ nothing_waits (x ∷ waiting) h = absurd (false≢true (sym (never (length waiti
 pub some_waits : (waiting : List ℕ) → nat_eq (length waiting) 0 ≡ false → 0 < length waiting
 some_waits [] h = absurd (false≢true (sym h))
 some_waits (x ∷ waiting) h = omega arith
+
+length-take_le : (k : ℕ) (xs : List ℕ) → length (take k xs) ≤ length xs
+length-take_le zero xs = omega arith
+length-take_le (suc k) [] = omega arith
+length-take_le (suc k) (x ∷ xs) = omega (arith, length-take_le k xs)
+
+-- what a picker is shown of a list
+pub shown_low : (waiting : List ℕ) (i : ℕ) → i < length (take most_shown waiting) → i < length waiting
+shown_low waiting i low = below most_shown waiting low
+  where
+    below : (k : ℕ) (xs : List ℕ) → i < length (take k xs) → i < length xs
+    below k xs h = omega (arith, h, length-take_le k xs)
+
+pub shown_some : (waiting : List ℕ) → 0 < length waiting → 0 < length (take most_shown waiting)
+shown_some [] some = absurd (omega arith)
+shown_some (x ∷ waiting) some = begins 1023
+  where
+    begins : (k : ℕ) → 0 < length (take (suc k) (x ∷ waiting))
+    begins k = omega arith
 
 -- one more evaluation of a node, in the list that is kept
 module _ (counts : List ℕ) (node count : ℕ) (low : node < length counts) (is : count ≡ get_or counts node count) where

@@ -9,7 +9,7 @@ use Rattle.std.proofs.lemmas.List.Sums.{sum_by-cons, sum_by_push, sum_by-set}
 use Rattle.sp_lattice.specs.System.{has}
 use Rattle.sp_lattice.specs.Bound.{sum_below}
 use Rattle.sp_lattice.proofs.Ranks.{sum_below-lt, sum_below-bound}
-use Rattle.sp_sparse.specs.Queue.{occurs, IsWindow, Removes}
+use Rattle.sp_sparse.specs.inner.Queue.{occurs, IsWindow, Removes}
 use Rattle.sp_sparse.proofs.Numbers.{which, side, same_number, apart_numbers}
 use Rattle.sp_sparse.proofs.Ordered.{has-at}
 

@@ -1,6 +1,6 @@
 -- The first induction: the sparse values stay below every table under the ceiling whose rows lie above the effects of
 -- their inputs, as nodes are evaluated and values are sent along paths that define nothing of their location between.
-use Rattle.std.proofs.Common.{◌≡◌, ◌≢◌, ◌⊎◌, inl, inr, ℕ, ◌<◌, Bool, true, false, not, nat_eq, List, [], sym, ap, ◌∙◌, subst, refl, eqb-true}
+use Rattle.std.proofs.Common.{◌≡◌, ◌≢◌, ◌⊎◌, inl, inr, ℕ, ◌<◌, Bool, true, false, not, ◌||◌, nat_eq, List, [], ◌∷◌, sym, ap, ◌∙◌, subst, refl, eqb-true}
 use Rattle.std.proofs.lemmas.Bool.{false≢true}
 use Rattle.std.proofs.lemmas.Map.Views.{Contains-from_any}
 use Rattle.std.proofs.lemmas.List.Elements.{All-contains}
@@ -11,9 +11,9 @@ use Rattle.sp_lattice.specs.Dependency.{Path, direct, onward, Depends, IsDepende
 use Rattle.sp_lattice.proofs.Tables.{edge_below, input_under, effect_under}
 use Rattle.sp_lattice.proofs.Paths.{Path-end, along}
 use Rattle.sp_sparse.specs.Sparse.{SparsePartial, IsEvaluated, IsSent, IsStanding}
-use Rattle.sp_sparse.specs.Engine.{IsWorking, Every, EveryOther, Evaluates, Raises}
-use Rattle.sp_sparse.specs.Queue.{Removes}
-use Rattle.sp_sparse.proofs.Numbers.{which}
+use Rattle.sp_sparse.specs.inner.Engine.{IsWorking, Every, EveryBut, Evaluates, Raises}
+use Rattle.sp_sparse.specs.inner.Queue.{Removes}
+use Rattle.sp_sparse.proofs.Numbers.{which, apart_numbers}
 
 same_nat : (x y : ℕ) → nat_eq x y ≡ true → x ≡ y
 same_nat x y h = eqb-true x y h
@@ -71,9 +71,9 @@ module _ {V : Type 0} (o : Order V) (m : Meaning V) (laws : IsLattice o) (sys : 
       sent = λ b l c is. working.sent b l c is;
     }
 
-    -- a node that waited is evaluated: then what it defines is to be sent
-    pub working_evaluated : (ins outs after : Table V) (waiting rest : List ℕ) (n : ℕ) → n < m.nodes → IsWorking o m test (Every test) ins outs waiting → Evaluates m ins outs after n → Removes waiting rest n → IsWorking o m test (EveryOther test n) ins after rest
-    working_evaluated ins outs after waiting rest n low working evaluates removes = record {
+    -- a node that waited is evaluated: then what grew is to be sent
+    pub working_evaluated : (ins outs after : Table V) (waiting rest grown : List ℕ) (n : ℕ) → n < m.nodes → IsWorking o m test (Every test) ins outs waiting → Evaluates o m ins outs after n grown → Removes waiting rest n → IsWorking o m test (EveryBut test n grown) ins after rest
+    working_evaluated ins outs after waiting rest grown n low working evaluates removes = record {
       part = record {
         in_held = working.part.in_held;
         in_under = working.part.in_under;
@@ -86,30 +86,39 @@ module _ {V : Type 0} (o : Order V) (m : Meaning V) (laws : IsLattice o) (sys : 
         ];
       };
       evaluated = λ k k_low idle. elim (which k n) [
-        | inl e ↦ subst (λ i. IsEvaluated o m ins after i) (sym e) (λ l defined. subst (λ v. o.le (m.effect n (ins n) l) v ≡ true) (sym (evaluates.made l defined)) (laws.reflexive (m.effect n (ins n) l)))
+        | inl e ↦ subst (λ i. IsEvaluated o m ins after i) (sym e) (λ l defined. here_evaluated l defined (has l grown) refl)
         | inr e ↦ λ l defined. subst (λ v. o.le (m.effect k (ins k) l) v ≡ true) (sym (evaluates.others k l e)) (working.evaluated k k_low (sym (removes.others k e) ∙ idle) l defined)
       ];
-      sent = λ b l c due. subst (λ v. o.le v (ins c l) ≡ true) (sym (evaluates.others b l due.0)) (working.sent b l c due.1);
+      sent = λ b l c due. still_sent b l c due.0 due.1 (which b n);
       untouched = working.untouched;
     }
       where
-        at : (l : ℕ) (P : V → Type 0) → (b : Bool) → has l (m.defs n) ≡ b → P (outs n l) → P (m.effect n (ins n) l) → P (after n l)
+        at : (l : ℕ) (P : V → Type 0) → (b : Bool) → has l grown ≡ b → P (outs n l) → P (m.effect n (ins n) l) → P (after n l)
         at l P true is kept made = subst P (sym (evaluates.made l is)) made
-        at l P false is kept made = subst P (sym (evaluates.absent l is)) kept
+        at l P false is kept made = subst P (sym (evaluates.kept l is)) kept
 
         split : (k l : ℕ) (P : V → Type 0) → P (outs k l) → P (m.effect n (ins n) l) → P (after k l)
         split k l P kept made = by (which k n)
           where
             by : (k ≡ n) ⊎ (k ≢ n) → P (after k l)
-            by (inl e) = subst (λ i. P (after i l)) (sym e) (at l P (has l (m.defs n)) refl (subst (λ i. P (outs i l)) e kept) made)
+            by (inl e) = subst (λ i. P (after i l)) (sym e) (at l P (has l grown) refl (subst (λ i. P (outs i l)) e kept) made)
             by (inr e) = subst P (sym (evaluates.others k l e)) kept
 
         here_below : (other : Table V) → Under o m other → Above o m other → (l : ℕ) → l < m.locations → o.le (after n l) (other n l) ≡ true
         here_below other under above l l_low =
-            at l (λ v. o.le v (other n l) ≡ true) (has l (m.defs n)) refl (working.part.out_below other under above n low l l_low)
+            at l (λ v. o.le v (other n l) ≡ true) (has l grown) refl (working.part.out_below other under above n low l l_low)
             (laws.transitive (m.effect n (ins n) l) (m.effect n (input o m other n) l) (other n l)
             (sys.monotone n (ins n) (input o m other n) low (working.part.in_held n low) (working.part.in_below other under above n low) (input_under o m laws sys other under n low) l l_low)
             (above n low l l_low))
+
+        here_evaluated : (l : ℕ) → has l (m.defs n) ≡ true → (b : Bool) → has l grown ≡ b → o.le (m.effect n (ins n) l) (after n l) ≡ true
+        here_evaluated l defined true is = subst (λ v. o.le (m.effect n (ins n) l) v ≡ true) (sym (evaluates.made l is)) (laws.reflexive (m.effect n (ins n) l))
+        here_evaluated l defined false is = subst (λ v. o.le (m.effect n (ins n) l) v ≡ true) (sym (evaluates.kept l is)) (evaluates.settled l defined is)
+
+        still_sent : (b l c : ℕ) → test b l c ≡ true → (b ≢ n) ⊎ (has l grown ≡ false) → (b ≡ n) ⊎ (b ≢ n) → IsSent o ins after b l c
+        still_sent b l c is due (inr e) = subst (λ v. o.le v (ins c l) ≡ true) (sym (evaluates.others b l e)) (working.sent b l c is)
+        still_sent b l c is (inl apart) (inl e) = absurd (apart e)
+        still_sent b l c is (inr idle) (inl e) = subst (λ i. o.le (after i l) (ins c l) ≡ true) (sym e) (subst (λ v. o.le v (ins c l) ≡ true) (sym (evaluates.kept l idle)) (working.sent n l c (ap (λ i. test i l c) (sym e) ∙ is)))
 
     -- a value is sent along a dependency; where the input grew, its node waits
     module _ (exact : IsDependencies m test) (due : ℕ → ℕ → ℕ → Type 0) (ins outs after : Table V) (waiting now : List ℕ) (b l c : ℕ) (grew : Bool) (holds : test b l c ≡ true) (working : IsWorking o m test due ins outs waiting) (raises : Raises o ins after c l (outs b l) grew)
@@ -204,15 +213,30 @@ module _ {V : Type 0} (o : Order V) (m : Meaning V) (laws : IsLattice o) (sys : 
         ];
       }
 
-    -- when all that a node defines is sent, every dependency is due again
-    pub working_all : (ins outs : Table V) (waiting : List ℕ) (n : ℕ) → IsWorking o m test (EveryOther test n) ins outs waiting → ((l c : ℕ) → test n l c ≡ true → IsSent o ins outs n l c) → IsWorking o m test (Every test) ins outs waiting
-    working_all ins outs waiting n working all = record {
+    -- when a node's output at one location is sent, that is due again
+    pub working_location : (ins outs : Table V) (waiting pending : List ℕ) (n l : ℕ) → IsWorking o m test (EveryBut test n (l ∷ pending)) ins outs waiting → ((c : ℕ) → test n l c ≡ true → IsSent o ins outs n l c) → IsWorking o m test (EveryBut test n pending) ins outs waiting
+    working_location ins outs waiting pending n l working all = record {
       part = working.part;
       evaluated = working.evaluated;
-      sent = λ b l c is. by b l c is (which b n);
+      sent = λ b j c due. by b j c due.0 due.1 (which b n) (which j l);
       untouched = working.untouched;
     }
       where
-        by : (b l c : ℕ) → test b l c ≡ true → (b ≡ n) ⊎ (b ≢ n) → IsSent o ins outs b l c
-        by b l c is (inl e) = subst (λ i. IsSent o ins outs i l c) (sym e) (all l c (ap (λ i. test i l c) (sym e) ∙ is))
-        by b l c is (inr e) = working.sent b l c (e, is)
+        or-false : (a b : Bool) → a ≡ false → b ≡ false → (a || b) ≡ false
+        or-false true b h k = absurd (false≢true (sym h))
+        or-false false b h k = k
+
+        by : (b j c : ℕ) → test b j c ≡ true → (b ≢ n) ⊎ (has j pending ≡ false) → (b ≡ n) ⊎ (b ≢ n) → (j ≡ l) ⊎ (j ≢ l) → IsSent o ins outs b j c
+        by b j c is due (inr e) f = working.sent b j c (is, inl e)
+        by b j c is due (inl e) (inl f) = subst (λ i. IsSent o ins outs i j c) (sym e) (subst (λ i. IsSent o ins outs n i c) (sym f) (all c (ap (λ i. test i l c) (sym e) ∙ ap (λ i. test b i c) (sym f) ∙ is)))
+        by b j c is (inl apart) (inl e) (inr f) = absurd (apart e)
+        by b j c is (inr idle) (inl e) (inr f) = working.sent b j c (is, inr (or-false (nat_eq j l) (has j pending) (apart_numbers j l f) idle))
+
+    -- when all that grew is sent, every dependency is due again
+    pub working_all : (ins outs : Table V) (waiting : List ℕ) (n : ℕ) → IsWorking o m test (EveryBut test n []) ins outs waiting → IsWorking o m test (Every test) ins outs waiting
+    working_all ins outs waiting n working = record {
+      part = working.part;
+      evaluated = working.evaluated;
+      sent = λ b l c is. working.sent b l c (is, inr refl);
+      untouched = working.untouched;
+    }

@@ -1,5 +1,3 @@
 pub mod Sparse
-pub mod Grid
-pub mod Engine
-pub mod Queue
 pub mod Solution
+pub mod inner

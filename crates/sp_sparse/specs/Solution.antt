@@ -1,6 +1,5 @@
 -- What a solved sparse table holds.
-use Rattle.std.specs.Prelude.{◌≡◌, ◌<◌, ◌≤◌, ◌&&◌, ℕ, Bool, nat_eq, nat_lt, cond, if◌then◌else◌, List, [], ◌∷◌, length, map, Option, Some, None, slice_index_or, Vec}
-use Rattle.std.specs.declared.alloc.Global.{Global}
+use Rattle.std.specs.Prelude.{◌≡◌, ◌<◌, ◌≤◌, ◌&&◌, ℕ, Bool, nat_eq, nat_lt, cond, if◌then◌else◌, List, [], ◌∷◌, length, Option, Some, None, slice_index_or}
 use Rattle.std.specs.List.Sorted.{IsStrictlyIncreasing}
 use Rattle.sp_lattice.specs.Lattice.{Order}
 use Rattle.sp_lattice.specs.System.{Meaning, has}
@@ -11,10 +10,6 @@ use Rattle.sp_lattice.specs.Bound.{most_evaluations}
 pub record Cells (V : Type 0) : Type 0 where
   pub places : List (List ℕ)
   pub values : List (List V)
-
--- the rows that two vectors of vectors are
-abbrev pub cells_of : {V : Type 0} → List (Vec ℕ Global) → List (Vec V Global) → Cells V
-cells_of places values = record { places = map (λ row. row.items) places; values = map (λ row. row.items) values }
 
 -- a table: the inputs, the outputs, and how often each node was evaluated
 pub record SparseCells (V : Type 0) : Type 0 where

@@ -1,12 +1,13 @@
 //! The sparse engine: it solves any system of equations with values at the uses and definitions of nodes alone.
 //!
-//! A node has *inputs*, a value for each location that it uses, and *outputs*, one for each that it defines. All begin with
-//! the least values, and every node *waits*. A *turn* takes a waiting node that a [`Picker`] picks, makes its outputs the
-//! effect of its inputs, and *sends* them along the *dependencies* of `sp_deps` to the nodes that use them; a node of which
-//! an input grew waits again. Where none waits, inputs and outputs are those of the dense least solution, whatever was
-//! picked: they lie below every table under the ceiling whose rows lie above the effects of their inputs (`proofs/Working`),
-//! and spread to every node along the edges they are such a table themselves (`proofs/Spreading`). After Oh et al. 2012, over a
-//! frame and a support.
+//! A node has *inputs*, a value for each location that it uses, and *outputs*, one for each that it defines: rows, one
+//! behind another in flat lists. All begin with the least values, and every node *waits*. A *turn* takes a waiting node
+//! that a [`Picker`] picks and makes its outputs the effect of its inputs. Those that grew are *sent* along their *links*: a
+//! link leads from a definition to a node that depends on it (`sp_deps`), and tells the place of the location among that
+//! node's uses. A node of which an input grew waits again. Where none waits, inputs and outputs are those of the dense
+//! least solution, whatever was picked: they lie below every table under the ceiling whose rows lie above the effects of
+//! their inputs (`proofs/Working`), and spread to every node along the edges they are such a table themselves
+//! (`proofs/Spreading`). After Oh et al. 2012, over a frame and a support.
 //!
 //! A [`System`](sp_lattice::System) goes in with its dependencies, a picker and a counter of evaluations, and a
 //! [`SparseTable`] comes out. The layer above uses the contract of [`solve_sparse`]: the table `IsSolved`, and the evaluations
@@ -25,6 +26,7 @@
 #![tactic(auto)]
 
 mod evaluation;
+mod links;
 mod pickers;
 mod places;
 mod solver;
@@ -34,3 +36,4 @@ mod waiting;
 pub use pickers::{First, Last, Picker};
 pub use solver::solve_sparse;
 pub use tables::SparseTable;
+pub use waiting::MOST_SHOWN;

@@ -5,13 +5,14 @@ ghost use Rattle.std.specs.Prelude.{◌≡◌, ◌+◌, ◌<◌, length};
 ///
 /// The solution is the same whatever is picked, and so are the bounds on evaluations.
 pub trait Picker {
-    /// The index of the node that is served next, among those that wait.
+    /// The index of the node that is served next, among the first [`MOST_SHOWN`](crate::MOST_SHOWN) of those that wait.
+    /// A node comes in behind the others; where one in between is served, the last takes its place.
     fn pick(&mut self, waiting: &[u32]) -> usize
         requires { 0 < length waiting.now }
         ensures { result < length waiting.now };
 }
 
-/// Serves the node that has waited longest.
+/// Serves the first of the nodes that wait: where none but the first was ever served, the one that has waited longest.
 #[derive(Clone, Copy, Debug)]
 pub struct First;
 
@@ -25,7 +26,8 @@ impl Picker for First {
     }
 }
 
-/// Serves the node that came last.
+/// Serves the last node that is shown: the one that came last where no more than [`MOST_SHOWN`](crate::MOST_SHOWN) wait,
+/// and else one that came earlier.
 #[derive(Clone, Copy, Debug)]
 pub struct Last;
 

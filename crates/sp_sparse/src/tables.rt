@@ -1,8 +1,9 @@
 //! The table of a solved system.
 ghost use Rattle.std.specs.Prelude.{◌≡◌, option_copied, slice_get};
-ghost use Rattle.sp_sparse.specs.Solution.{cell, IsFormed, cells_of};
+ghost use Rattle.sp_sparse.specs.Solution.{Cells, cell, IsFormed};
 
 use crate::places::find_place;
+use sp_lattice::rows::Rows;
 use sp_lattice::{Inputs, Lattice};
 use std::marker::Model;
 
@@ -11,41 +12,41 @@ use std::marker::Model;
 /// Contracts see the inputs and the outputs as a row of values for each node, with the locations at which they stand.
 #[derive(Drop)]
 pub struct SparseTable<V> {
-    uses: Vec<Vec<u32>>,
-    inputs: Vec<Vec<V>>,
-    defs: Vec<Vec<u32>>,
-    outputs: Vec<Vec<V>>,
+    uses: Rows<u32>,
+    inputs: Rows<V>,
+    defs: Rows<u32>,
+    outputs: Rows<V>,
     evaluations: Vec<u64>,
 }
 
 impl<V> Model for SparseTable<V> {
-    ghost use Rattle.sp_sparse.specs.Solution.{SparseCells, IsFormed, cells_of};
+    ghost use Rattle.sp_sparse.specs.Solution.{SparseCells, IsFormed};
 
     ghost Value = { SparseCells V };
 
     ghost view = { λ t. record {
-      inputs = cells_of t.uses.items t.inputs.items;
-      outputs = cells_of t.defs.items t.outputs.items;
+      inputs = (record { places = t.uses; values = t.inputs });
+      outputs = (record { places = t.defs; values = t.outputs });
       evaluations = t.evaluations.items;
     } };
 
-    ghost invariant = { λ t. IsFormed (cells_of t.uses.items t.inputs.items)
-        × IsFormed (cells_of t.defs.items t.outputs.items) };
+    ghost invariant = { λ t. IsFormed ((record { places = t.uses; values = t.inputs }))
+        × IsFormed ((record { places = t.defs; values = t.outputs })) };
 }
 
 impl<V> SparseTable<V> {
     /// The table with these rows.
     pub(crate) fn from_rows(
-        uses: Vec<Vec<u32>>,
-        inputs: Vec<Vec<V>>,
-        defs: Vec<Vec<u32>>,
-        outputs: Vec<Vec<V>>,
+        uses: Rows<u32>,
+        inputs: Rows<V>,
+        defs: Rows<u32>,
+        outputs: Rows<V>,
         evaluations: Vec<u64>,
     ) -> SparseTable<V>
-        requires inputs { IsFormed (cells_of uses.items inputs.items) }
-        requires outputs { IsFormed (cells_of defs.items outputs.items) }
-        ensures inputs { result.inputs ≡ cells_of uses.items inputs.items }
-        ensures outputs { result.outputs ≡ cells_of defs.items outputs.items }
+        requires inputs { IsFormed ((record { places = uses; values = inputs })) }
+        requires outputs { IsFormed ((record { places = defs; values = outputs })) }
+        ensures inputs { result.inputs ≡ (record { places = uses; values = inputs }) }
+        ensures outputs { result.outputs ≡ (record { places = defs; values = outputs }) }
         ensures evaluations { result.evaluations ≡ evaluations.items }
     {
         SparseTable {
@@ -92,16 +93,19 @@ impl<V: Lattice> Inputs for SparseTable<V> {
 }
 
 /// The value of a row that stands at a location.
-fn value_at<'a, V>(
-    places: &Vec<Vec<u32>>,
-    values: &'a Vec<Vec<V>>,
+fn value_at<'a, V: Lattice>(
+    places: &Rows<u32>,
+    values: &'a Rows<V>,
     node: u32,
     location: u32,
 ) -> Option<&'a V>
-    requires { IsFormed (cells_of places.now.items values.now.items) }
-    ensures { option_copied result ≡ cell (cells_of places.now.items values.now.items) node location }
+    requires { IsFormed (record { places = places.now; values = values.now }) }
+    ensures { option_copied result ≡ cell (record { places = places.now; values = values.now }) node location }
 {
-    let row = values.get(node as usize)?;
-    let place = find_place(&places[node as usize], location)?;
-    Some(&row[place])
+    let node = node as usize;
+    if node >= values.len() {
+        return None;
+    }
+    let place = find_place(places.row(node), location)?;
+    Some(&values.row(node)[place])
 }

@@ -1,10 +1,13 @@
 //! The nodes that wait to be evaluated.
 ghost use Rattle.std.specs.Prelude.{◌≡◌, ◌≤◌, ◌<◌, ◌+◌, ◌*◌, ◌++◌, ℕ, true, [], ◌∷◌, length, take, drop, slice_index, slice_range, vec_len, nat_eq, if◌then◌else◌, IfOk};
 ghost use Rattle.sp_lattice.specs.System.{has};
-ghost use Rattle.sp_sparse.specs.Queue.{Removes};
+ghost use Rattle.sp_sparse.specs.inner.Queue.{Removes, most_shown};
 
 use std::alloc::{AllocError, Global};
 use std::marker::Model;
+
+/// How many of the nodes that wait a picker is shown: so one that goes over them all stays cheap.
+pub const MOST_SHOWN: usize = 1024;
 
 /// The nodes that wait, none of them twice.
 ///
@@ -21,7 +24,8 @@ pub(crate) struct WaitingNodes {
 
 impl Model for WaitingNodes {
     ghost use Rattle.std.specs.Prelude.{length, slice_range};
-    ghost use Rattle.sp_sparse.specs.Queue.{Waiting, IsWindow};
+    ghost use Rattle.sp_lattice.specs.Waiting.{Waiting};
+    ghost use Rattle.sp_sparse.specs.inner.Queue.{IsWindow};
 
     ghost Value = { Waiting };
 
@@ -54,11 +58,12 @@ impl WaitingNodes {
         })
     }
 
-    /// The nodes that wait.
-    pub(crate) fn as_slice(&self) -> &[u32]
-        ensures { result.now ≡ self.now.waiting }
+    /// The first of the nodes that wait, at most [`MOST_SHOWN`] of them.
+    pub(crate) fn front(&self) -> &[u32]
+        ensures { result.now ≡ take most_shown self.now.waiting }
     {
-        &self.buffer[self.first..self.end]
+        let count = (self.end - self.first).min(MOST_SHOWN);
+        &self.buffer[self.first..self.first + count]
     }
 
     /// Whether no node waits.

@@ -1,6 +1,6 @@
 use Rattle.std.proofs.Common.{take}
 use Rattle.sp_lattice.specs.Dense.{joined, table_of}
-use Rattle.sp_dense.specs.Visit.{IsStore}
+use Rattle.sp_dense.specs.inner.Visit.{IsStore}
 use Rattle.sp_dense.proofs.evaluation.input_row.Given as goal
 
 -- the row is joined over the edges so far

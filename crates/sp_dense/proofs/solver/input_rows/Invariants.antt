@@ -1,6 +1,6 @@
 use Rattle.std.proofs.Common.{◌≡◌, ◌<◌, ℕ, length, vec_len}
 use Rattle.sp_lattice.specs.Dense.{input, table_of}
-use Rattle.sp_dense.specs.Visit.{row_at}
+use Rattle.sp_dense.specs.inner.Visit.{row_at}
 use Rattle.sp_dense.proofs.solver.input_rows.Given as goal
 
 abbrev pub invariant-loop-node : goal.invariant-loop-node

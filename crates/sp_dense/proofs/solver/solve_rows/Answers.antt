@@ -2,7 +2,7 @@ use Rattle.std.proofs.Common.{◌+◌, ◌*◌, ap, length, subst, arith}
 use Rattle.sp_lattice.specs.Dense.{table_of}
 use Rattle.sp_lattice.specs.Bound.{total_rank}
 use Rattle.sp_lattice.proofs.Ranks.{total_rank-bound}
-use Rattle.sp_dense.specs.Visit.{IsWorking}
+use Rattle.sp_dense.specs.inner.Visit.{IsWorking}
 use Rattle.sp_dense.proofs.Counting.{bounded, falls}
 use Rattle.sp_dense.proofs.Visiting.{least_when_done}
 use Rattle.sp_dense.proofs.solver.solve_rows.Goals as goal

@@ -1,7 +1,7 @@
 use Rattle.std.proofs.Common.{◌≡◌, ◌≤◌, ◌+◌, ◌*◌, ◌-◌, length}
 use Rattle.sp_lattice.specs.Dense.{table_of}
 use Rattle.sp_lattice.specs.Bound.{total_rank}
-use Rattle.sp_dense.specs.Visit.{IsGrid, HasSuccessors, IsWorking}
+use Rattle.sp_dense.specs.inner.Visit.{IsGrid, HasSuccessors, IsWorking}
 use Rattle.sp_dense.proofs.solver.solve_rows.Given as goal
 
 -- the visits so far and those that wait are paid: a visit of each node to begin with, and one of each

@@ -1,8 +1,8 @@
 use Rattle.std.proofs.Common.{◌≡◌, ◌∙◌, Vec, ℕ, sym, ap, subst, arith}
 use Rattle.std.specs.declared.alloc.Global.{Global}
 use Rattle.sp_lattice.specs.System.{AllBelow}
-use Rattle.sp_dense.specs.Visit.{row_at}
-use Rattle.sp_dense.specs.Waiting.{Adds}
+use Rattle.sp_dense.specs.inner.Visit.{row_at}
+use Rattle.sp_dense.specs.inner.Waiting.{Adds}
 use Rattle.sp_dense.proofs.Visiting.{works_still, works_on}
 use Rattle.sp_dense.proofs.Grids.{row_at-get_or}
 use Rattle.sp_dense.proofs.solver.work.Goals as goal

@@ -1,6 +1,6 @@
 use Rattle.std.proofs.Common.{length, take}
 use Rattle.sp_lattice.specs.System.{has}
-use Rattle.sp_deps.specs.Progress.{AreRows, Gains}
+use Rattle.sp_deps.specs.inner.Progress.{AreRows, Gains}
 use Rattle.sp_deps.proofs.collect.add_found.Given as goal
 
 abbrev pub invariant-loop-from : goal.invariant-loop-from

@@ -1,5 +1,5 @@
 use Rattle.sp_deps.proofs.Finding.{target_low, target_uses, sound_upto, before_target, upto_more, upto_next}
-use Rattle.sp_deps.specs.Progress.{is_done}
+use Rattle.sp_deps.specs.inner.Progress.{is_done}
 use Rattle.std.proofs.Common.{take, arith}
 use Rattle.sp_deps.proofs.collect.add_location.Goals as goal
 

@@ -1,6 +1,6 @@
 use Rattle.std.proofs.Common.{take}
-use Rattle.sp_deps.specs.Walk.{IsFresh, AreKnown}
-use Rattle.sp_deps.specs.Progress.{AreUpTo, is_done}
+use Rattle.sp_deps.specs.inner.Walk.{IsFresh, AreKnown}
+use Rattle.sp_deps.specs.inner.Progress.{AreUpTo, is_done}
 use Rattle.sp_deps.proofs.collect.add_location.Given as goal
 
 abbrev pub invariant-loop-to : goal.invariant-loop-to

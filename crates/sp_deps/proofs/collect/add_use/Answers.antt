@@ -1,7 +1,7 @@
 use Rattle.std.proofs.Common.{length, sym, subst, arith}
 use Rattle.std.proofs.lemmas.Result.{err_from_is_err_and}
 use Rattle.sp_lattice.specs.System.{AllBelow}
-use Rattle.sp_deps.specs.Walk.{IsFound}
+use Rattle.sp_deps.specs.inner.Walk.{IsFound}
 use Rattle.sp_deps.proofs.Walks.{found_low}
 use Rattle.sp_deps.proofs.Finding.{use_low, cause_from_excess}
 use Rattle.sp_deps.proofs.collect.add_use.Goals as goal

@@ -1,5 +1,6 @@
 use Rattle.std.proofs.Common.{◌≤◌, ◌<◌, ◌∙◌, length, sym, subst, arith}
-use Rattle.sp_deps.specs.Users.{AreUsers}
+use Rattle.sp_deps.specs.inner.Users.{AreUsers}
+use Rattle.sp_deps.specs.Answer.{AreDependencies}
 use Rattle.sp_deps.proofs.Views.{row_view}
 use Rattle.sp_deps.proofs.Finding.{upto_all}
 use Rattle.sp_deps.proofs.collect.dependencies.Goals as goal
@@ -19,4 +20,4 @@ returns-clause-exact g c =
     let s = c.args.system.now in
     let m = g.S.System.meaning s in
     let all : m.locations ≤ c.locations.location = omega (arith, c.locations-test.false, c.locations-location-end.ensures) in
-    upto_all m g.S.Value.Lattice.order (g.met.S.System.lawful s) c.locations.deps c.locations.location all c.locations.invariant.so_far
+    subst (AreDependencies m) (sym c.in_ok-laid.ensures) (upto_all m g.S.Value.Lattice.order (g.met.S.System.lawful s) c.locations.deps c.locations.location all c.locations.invariant.so_far)

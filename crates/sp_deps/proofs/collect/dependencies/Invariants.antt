@@ -1,7 +1,7 @@
 use Rattle.std.proofs.Common.{◌≡◌, [], length}
-use Rattle.sp_deps.specs.Walk.{IsFresh}
-use Rattle.sp_deps.specs.Users.{HasUsers}
-use Rattle.sp_deps.specs.Progress.{AreUpTo, is_done}
+use Rattle.sp_deps.specs.inner.Walk.{IsFresh}
+use Rattle.sp_deps.specs.inner.Users.{HasUsers}
+use Rattle.sp_deps.specs.inner.Progress.{AreUpTo, is_done}
 use Rattle.sp_deps.proofs.collect.dependencies.Given as goal
 
 abbrev pub invariant-locations : goal.invariant-locations

@@ -1,6 +1,6 @@
 use Rattle.std.proofs.Common.{◌+◌, ◌&&◌, ◌∙◌, take, sym, subst}
 use Rattle.sp_lattice.specs.System.{has}
-use Rattle.sp_deps.specs.Walk.{IsListed, Reaches}
+use Rattle.sp_deps.specs.inner.Walk.{IsListed, Reaches}
 use Rattle.sp_deps.specs.declared.walk.Walk.{Walk}
 use Rattle.sp_deps.proofs.Walks.{reaches_edge, reaches_no_edge}
 use Rattle.sp_deps.proofs.walk.look_behind.Goals as goal

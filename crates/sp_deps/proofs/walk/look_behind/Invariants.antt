@@ -1,6 +1,6 @@
 use Rattle.std.proofs.Common.{◌&&◌, take}
 use Rattle.sp_lattice.specs.System.{has}
-use Rattle.sp_deps.specs.Walk.{IsListed, Reaches}
+use Rattle.sp_deps.specs.inner.Walk.{IsListed, Reaches}
 use Rattle.sp_deps.proofs.walk.look_behind.Given as goal
 
 abbrev pub invariant-loop-from : goal.invariant-loop-from

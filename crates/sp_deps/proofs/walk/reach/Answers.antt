@@ -1,7 +1,7 @@
 use Rattle.std.proofs.Common.{◌≡◌, ◌<◌, ◌∙◌, length, true, false, refl, sym, arith}
 use Rattle.std.specs.Vec.{with_item}
 use Rattle.std.proofs.lemmas.List.{get_or_default}
-use Rattle.sp_deps.specs.Walk.{reached}
+use Rattle.sp_deps.specs.inner.Walk.{reached}
 use Rattle.sp_deps.proofs.Walks.{listed_found, listed_waiting}
 use Rattle.sp_deps.proofs.walk.reach.Goals as goal
 

@@ -1,37 +1,33 @@
-use Rattle.std.proofs.Common.{◌≡◌, ◌∙◌, sym, ap, length, arith}
-use Rattle.std.specs.Vec.{with_items}
-use Rattle.std.proofs.lemmas.List.{length-map}
-use Rattle.sp_lattice.specs.System.{store_at}
-use Rattle.sp_sparse.specs.Grid.{row_at}
-use Rattle.sp_sparse.proofs.GridLaws.{grid_set, row_at-get_or, returned_whole, evaluates}
+use Rattle.std.proofs.Common.{◌≡◌, ◌∙◌, ◌<◌, ℕ, ◌++◌, true, length, take, drop, sym, ap, subst, arith}
+use Rattle.sp_lattice.specs.System.{has}
+use Rattle.sp_lattice.specs.Flat.{row_at}
+use Rattle.sp_sparse.specs.inner.Grid.{table_at, BeginsWith}
+use Rattle.sp_sparse.proofs.GridLaws.{evaluates, updated_grid, returned_whole}
 use Rattle.sp_sparse.proofs.evaluation.evaluate.Goals as goal
 
 pub returns-clause-grid : goal.returns-clause-grid
 returns-clause-grid g c =
     let m = g.S.System.meaning c.args.system.now in
-    let rows = c.args.outputs.now.items in
-    let row = c.index_mut-output.result.now in
-    let back = c.evaluate.new.output in
-    let old_long : length row.items ≡ length (m.defs c.args.node) =
-    ap (λ r. length r.items) c.index_mut-output.ensures.value ∙ ap length (sym (row_at-get_or rows c.args.node row (omega (arith, c.requires.node, c.requires.outputs.long)))) ∙ c.requires.outputs.rows_long c.args.node c.requires.node in
-    let back_long : length back ≡ length (m.defs c.args.node) =
-    ap length c.in_ok-evaluate.ensures.values ∙ length-map (m.defs c.args.node) (m.effect c.args.node (store_at g.S.Value.Lattice.order.bottom (m.uses c.args.node) c.deref.result.now)) in
-    let whole = returned_whole row.items back row.len (omega (arith, back_long, old_long, row.ok.0)) (sym row.ok.0) in
-    grid_set m.nodes m.defs rows c.args.node (with_items row back) c.requires.outputs c.requires.node (ap length whole ∙ back_long)
+    let sys = g.met.S.System.lawful c.args.system.now in
+    let o = g.S.Value.Lattice.order in
+    let ins = table_at o.bottom m.uses c.args.inputs.now in
+    let made = take c.args.row.now.len (c.fill.new.row ++ drop (length c.fill.new.row) c.args.row.now.items) in
+    let back : length c.fill.new.row ≡ c.args.row.now.len = omega (arith, c.fill.auto.row, ap length c.deref_mut.ensures.value, c.args.row.now.ok.0) in
+    let begins : BeginsWith m o.bottom c.args.node (ins c.args.node) made = subst (BeginsWith m o.bottom c.args.node (ins c.args.node)) (sym (returned_whole c.args.row.now.items c.fill.new.row c.args.row.now.len back (sym c.args.row.now.ok.0))) c.in_ok-fill.ensures.filled in
+    updated_grid o m ins made c.args.outputs.now c.update.new.outputs c.args.node c.update.new.grown.items c.requires.node (sys.defs_ascend c.args.node c.requires.node) c.requires.outputs begins c.in_ok-update.ensures.updated
 
 pub returns-clause-evaluated : goal.returns-clause-evaluated
 returns-clause-evaluated g c =
     let m = g.S.System.meaning c.args.system.now in
-    let bottom = g.S.Value.Lattice.order.bottom in
-    let rows = c.args.outputs.now.items in
-    let row = c.index_mut-output.result.now in
-    let input = c.index-input.result.now in
-    let back = c.evaluate.new.output in
-    let old_long : length row.items ≡ length (m.defs c.args.node) =
-    ap (λ r. length r.items) c.index_mut-output.ensures.value ∙ ap length (sym (row_at-get_or rows c.args.node row (omega (arith, c.requires.node, c.requires.outputs.long)))) ∙ c.requires.outputs.rows_long c.args.node c.requires.node in
-    let back_long : length back ≡ length (m.defs c.args.node) =
-    ap length c.in_ok-evaluate.ensures.values ∙ length-map (m.defs c.args.node) (m.effect c.args.node (store_at bottom (m.uses c.args.node) c.deref.result.now)) in
-    let whole = returned_whole row.items back row.len (omega (arith, back_long, old_long, row.ok.0)) (sym row.ok.0) in
-    let passed : c.deref.result.now ≡ row_at c.args.inputs.now.items c.args.node =
-    c.deref.ensures.value ∙ ap (λ r. r.items) c.index-input.ensures ∙ sym (row_at-get_or c.args.inputs.now.items c.args.node input (omega (arith, c.requires.node, c.requires.inputs.long))) in
-    evaluates m bottom c.args.inputs.now.items rows c.args.node (with_items row back) c.deref.result.now c.requires.node c.requires.outputs passed (whole ∙ c.in_ok-evaluate.ensures.values)
+    let sys = g.met.S.System.lawful c.args.system.now in
+    let o = g.S.Value.Lattice.order in
+    let ins = table_at o.bottom m.uses c.args.inputs.now in
+    let made = take c.args.row.now.len (c.fill.new.row ++ drop (length c.fill.new.row) c.args.row.now.items) in
+    let back : length c.fill.new.row ≡ c.args.row.now.len = omega (arith, c.fill.auto.row, ap length c.deref_mut.ensures.value, c.args.row.now.ok.0) in
+    let begins : BeginsWith m o.bottom c.args.node (ins c.args.node) made = subst (BeginsWith m o.bottom c.args.node (ins c.args.node)) (sym (returned_whole c.args.row.now.items c.fill.new.row c.args.row.now.len back (sym c.args.row.now.ok.0))) c.in_ok-fill.ensures.filled in
+    evaluates o m ins made c.args.outputs.now c.update.new.outputs c.args.node c.update.new.grown.items c.requires.node (sys.defs_ascend c.args.node c.requires.node) c.requires.outputs begins c.in_ok-update.ensures.updated
+
+pub returns-clause-low : goal.returns-clause-low
+returns-clause-low g c p h =
+    let updated = c.in_ok-update.ensures.updated in
+    omega (arith, updated.row.low p h, c.requires.outputs.rows_long c.args.node c.requires.node)

@@ -2,7 +2,7 @@ use Rattle.std.proofs.Common.{◌≡◌, ◌∙◌, get_or, ap, arith}
 use Rattle.std.proofs.lemmas.List.{get_or_default}
 use Rattle.sp_interval.specs.declared.interval.Interval.{Interval}
 use Rattle.sp_interval.specs.declared.interval.Interval.TheVariants.{Empty}
-use Rattle.sp_sparse.specs.Grid.{row_at}
+use Rattle.engine_rows.specs.Vectors.{row_at}
 use Rattle.engine_rows.specs.Intervals.{made}
 use Rattle.engine_rows.proofs.SystemLaws.{evaluated, passed_whole}
 use Rattle.engine_rows.proofs.systems.IntervalSystemSystem.evaluate.Goals as goal

@@ -1,6 +1,6 @@
 use Rattle.std.proofs.Common.{◌≡◌, ◌<◌, ◌≤◌, ◌+◌, ◌∙◌, true, false, length, get_or, set, take, sym, ap, subst, arith, length-set}
 use Rattle.std.proofs.lemmas.List.{get_or_default}
-use Rattle.sp_dense.specs.Waiting.{IsKept, Adds}
+use Rattle.sp_dense.specs.inner.Waiting.{IsKept, Adds}
 use Rattle.sp_dense.proofs.Queue.{idle, idle-le, adds_none, kept_added, adds_new, fewer_marked}
 use Rattle.sp_dense.proofs.worklist.Worklist.add.Goals as goal
 

@@ -1,5 +1,5 @@
 use Rattle.std.proofs.Common.{◌≡◌, ◌≤◌, ◌+◌, length, take}
-use Rattle.sp_dense.specs.Waiting.{IsKept, Adds}
+use Rattle.sp_dense.specs.inner.Waiting.{IsKept, Adds}
 use Rattle.sp_dense.proofs.Queue.{idle}
 use Rattle.sp_dense.proofs.worklist.Worklist.add.Given as goal
 

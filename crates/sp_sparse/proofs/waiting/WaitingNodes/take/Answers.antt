@@ -1,6 +1,6 @@
 use Rattle.std.proofs.Common.{◌<◌, ◌+◌, ◌-◌, set, length, ap, subst, arith}
 use Rattle.std.specs.List.{slice_range}
-use Rattle.sp_sparse.specs.Queue.{Removes}
+use Rattle.sp_sparse.specs.inner.Queue.{Removes}
 use Rattle.sp_sparse.proofs.Windows.{node_low, first_left, last_moves}
 use Rattle.sp_sparse.proofs.waiting.WaitingNodes.take.Goals as goal
 

@@ -1,0 +1,5 @@
+-- What is kept while dependencies are found; no public contract cites it.
+pub mod Kept
+pub mod Users
+pub mod Walk
+pub mod Progress

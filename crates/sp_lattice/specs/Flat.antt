@@ -1,0 +1,20 @@
+-- Rows of items, one behind another in one list.
+use Rattle.std.specs.Prelude.{◌≡◌, ◌≤◌, ℕ, List, [], ◌∷◌, slice_index, slice_index_or, slice_range}
+
+-- a row; none past the last
+abbrev pub row_at : {A : Type 0} → List (List A) → ℕ → List A
+row_at rows n = slice_index_or rows n []
+
+-- the rows that end at these places of a list, where the first begins at `begin`
+abbrev pub rows_between : {A : Type 0} → ℕ → List ℕ → List A → List (List A)
+rows_between begin [] items = []
+rows_between begin (end ∷ ends) items = slice_range items begin end ∷ rows_between end ends items
+
+-- places where rows may end: none before the one before it, and the last within the list
+abbrev pub AreEnds : ℕ → List ℕ → ℕ → Type 0
+AreEnds begin [] long = begin ≤ long
+AreEnds begin (end ∷ ends) long = (begin ≤ end) × AreEnds end ends long
+
+-- where a row begins, where these are the ends of all and the first begins at `begin`
+abbrev pub begin_of : ℕ → List ℕ → ℕ → ℕ
+begin_of begin ends n = slice_index (begin ∷ ends) n
