@@ -130,7 +130,7 @@ fn declarator_read(
 /// The names that begin with a `T`.
 fn types_among(alloc: Global, names: &Names) -> Result<TypeNames, AllocError> {
     let mut types = TypeNames::new(alloc);
-    for number in 0..names.len() as u32 {
+    for number in (0..u32::MAX).take(names.len()) {
         if names
             .get(number)
             .unwrap_or(b"".as_slice())
@@ -146,11 +146,11 @@ fn types_among(alloc: Global, names: &Names) -> Result<TypeNames, AllocError> {
 pub fn parsed(alloc: Global, call: &str, given: &str) -> Result<String, AllocError> {
     let (at, more) = given.split_once('\t').unwrap_or(("", ""));
     let (depth, text) = more.split_once('\t').unwrap_or(("", ""));
-    if text.len() > MAX_TEXT {
-        return String::from_str(alloc, "the row is too long");
-    }
     let mut names = Names::new(alloc);
     let name = names.add(b"a.c".as_slice())?;
+    if text.len() > MAX_TEXT || names.len() > MAX_TEXT {
+        return String::from_str(alloc, "the row is too long");
+    }
     let Ok(tokens) = scan(alloc, text.as_bytes(), name, 100_000, &mut names) else {
         return String::from_str(alloc, "not scanned");
     };
