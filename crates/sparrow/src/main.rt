@@ -11,7 +11,7 @@ mod command;
 mod command_line;
 mod report;
 
-ghost use Rattle.std.specs.Prelude.{◌≡◌, ◌<◌};
+ghost use Rattle.std.specs.Prelude.{◌≡◌, ◌≢◌, ◌<◌};
 ghost use Rattle.sparrow.specs.Run.{Ends, exit_status};
 
 use crate::command::{Status, run};
@@ -40,7 +40,9 @@ fn run_counted<F: Files, W: Sink, L: Ledger>(
     ensures ends { (status : Status) × (result ≡ exit_status status) × Ends words.now (F.text_of files.old)
         (record { asked = F.asked files.old; begun = F.begun files.old; at = F.at files.old; read_faults = F.faults files.old; written = W.written out.old; write_faults = W.faults out.old })
         (record { asked = F.asked files.new; begun = F.begun files.new; at = F.at files.new; read_faults = F.faults files.new; written = W.written out.new; write_faults = W.faults out.new })
-        status }
+        status
+        × (status ≢ Status.ReadFault → F.faults files.new ≡ F.faults files.old)
+        × (status ≢ Status.WriteFault → W.faults out.new ≡ W.faults out.old) }
 {
     let mut steps = Steps::<L>::new(blank);
     run(alloc, words, files, out, &mut steps).code()
