@@ -16,6 +16,7 @@ cp "$top/bench/sparse/main.antt.in" "$folder/proofs/main/Invariants.antt"
 cp -R "$rows/proofs/systems" "$rows/proofs/SystemLaws.antt" "$rows/proofs/Listed.antt" "$rows/proofs/Lib.antt" "$folder/proofs/"
 cp "$rows"/specs/*.antt "$folder/specs/"
 find "$folder" -name out -prune -o \( -name '*.antt' -o -name '*.rt' \) -exec sed -i 's/Rattle\.engine_rows\./Rattle.sparse_bench./' {} +
+grep -rqF 'Rattle.sparse_bench.' "$folder" || { echo "no file of engine_rows names its own definitions" >&2; exit 1; }
 (cd "$folder" && rt run -- blocks 1000) >"$room/built.txt"
 
 line='%-7s %8s %13s %12s %12s %8s %12s %7s\n'
