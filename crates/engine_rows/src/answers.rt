@@ -4,7 +4,7 @@ use crate::rows::{intervals, numbers, system_of};
 use crate::systems::{IntervalSystem, all_below};
 use crate::tables::{Middle, dense_cells, holds_alike, is_dense, sparse_cells, write_intervals};
 use anyhow::{Context, bail, ensure};
-use sp_dense::{DenseError, solve_dense};
+use sp_dense::{DenseError, Table, solve_dense};
 use sp_deps::{DepError, dependencies};
 use sp_interval::Interval;
 use sp_lattice::rows::{bottoms, raise, values_of};
@@ -98,17 +98,26 @@ fn engines_agree<L: Ledger>(
     system: &IntervalSystem,
     steps: &mut Steps<L>,
 ) -> anyhow::Result<bool> {
-    let deps = dependencies(alloc, system)?;
     let dense = solve_dense(alloc, system, steps)?;
-    let first = solve_sparse(alloc, system, &deps, &mut First, steps)?;
-    let last = solve_sparse(alloc, system, &deps, &mut Last, steps)?;
-    let middle = solve_sparse(alloc, system, &deps, &mut Middle, steps)?;
-    let shuffled = solve_sparse(alloc, system, &deps, &mut Shuffled::new(2), steps)?;
-    let mut agree = true;
-    for table in [&first, &last, &middle, &shuffled] {
-        agree = agree && is_dense(alloc, system, &deps, &dense, table)?;
-    }
-    Ok(agree && holds_alike(system, &deps)?)
+    Ok(
+        agrees(alloc, system, &dense, &mut First, steps)?
+            && agrees(alloc, system, &dense, &mut Last, steps)?
+            && agrees(alloc, system, &dense, &mut Middle, steps)?
+            && agrees(alloc, system, &dense, &mut Shuffled::new(2), steps)?,
+    )
+}
+
+/// Whether the sparse engine tells under `picker` what the dense one does.
+fn agrees<P: Picker, L: Ledger>(
+    alloc: Global,
+    system: &IntervalSystem,
+    dense: &Table<Interval>,
+    picker: &mut P,
+    steps: &mut Steps<L>,
+) -> anyhow::Result<bool> {
+    let deps = dependencies(alloc, system)?;
+    let table = solve_sparse(alloc, system, &deps, picker, steps)?;
+    Ok(holds_alike(system, &deps)? && is_dense(alloc, system, &deps, dense, &table)?)
 }
 
 fn through_hub(alloc: Global, text: &str) -> anyhow::Result<String> {
