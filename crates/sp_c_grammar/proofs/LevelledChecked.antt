@@ -41,9 +41,6 @@ punct_is k p e = ap make.punct_of e
 number_is : (k : Kind) (n : ℕ) → k ≡ kinds.Name n → make.number_of k ≡ n
 number_is k n e = ap make.number_of e
 
-keyword_is : (k : Kind) (w : Keyword) → k ≡ kinds.Word w → make.keyword_of k ≡ w
-keyword_is k w e = ap make.keyword_of e
-
 pub name_is : (g : Context) (x : Terminal) (n : ℕ) → viewed g.types x.sort ≡ tokens.name n → names_type (scope_of g) (make.number_of x.what.kind) ≡ false
 name_is g x n v = let o = at_sort g.types x (tokens.name n) v in ap (λ m. list_any (λ t. t == m) g.types) (number_is x.what.kind n o.0) ∙ o.1
 

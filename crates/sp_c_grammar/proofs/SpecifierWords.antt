@@ -662,9 +662,6 @@ word_read stored seen n m ks js k w sort (by_whole a b c) e =
     let count : is_one_type (suc m) (k ∷ js) ≡ true = subst (λ v. is_one_type v (k ∷ js) ≡ true) size e in
     absurd cc
 
-no_two : (m : ℕ) (ks : List Keyword) → is_one_type (suc (suc m)) ks ≡ false
-no_two m ks = refl
-
 one_alone : (m : ℕ) (ks : List Keyword) → is_one_type (suc m) ks ≡ true → (m ≡ 0) × (ks ≡ [])
 one_alone zero [] e = (refl, refl)
 one_alone zero (k ∷ ks) e = absurd cc

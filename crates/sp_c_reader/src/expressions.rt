@@ -11,11 +11,11 @@ ghost use Rattle.sp_c_tokens.specs.Sorts.{terminal, sort_of};
 ghost use Rattle.sp_c_tokens.specs.SyntaxTrees.{syntax_trees};
 ghost use Rattle.sp_c_tokens.specs.Ended.{IsEnded};
 ghost use Rattle.sp_c_tokens.specs.Scopes.{context_of};
-ghost use Rattle.sp_c_reader.specs.Reading.{Answers, IsRead, IsStop, IsTypeName, IsSuffixed, AreTexts, operand_seen, is_suffix, is_prefix, is_operand};
+ghost use Rattle.sp_c_reader.specs.Reading.{Answers, IsRead, IsStop, IsSuffixed, operand_seen, is_suffix, is_prefix};
 ghost use Rattle.sp_c_tokens.specs.Codes.{sort_seen};
-ghost use Rattle.sp_c_tokens.specs.declared.part.ReadError.TheVariants.{NoMemory};
 
 use crate::declarators::read_type_name;
+use crate::primaries::{is_operand, number_of, read_leaf};
 use sp_c_tokens::{
     AlsoAllowed, Context, Mark, Operand, Part, ReadError, Sort, begins_expression, continues_level,
     expect, fault, is_mark, is_specifier, next_token, sort_at,
@@ -520,91 +520,6 @@ fn read_primary<'a>(
         return Err(ReadError::TooDeep(tokens));
     }
     read_leaf(context, rest, token)
-}
-
-/// Whether the token is a name, a constant or a string.
-fn is_operand(sort: Sort) -> bool
-    ensures { result ≡ is_operand (sort_seen sort) }
-{
-    matches!(sort, Sort::Name(_) | Sort::Constant | Sort::Text)
-}
-
-/// A name, a constant or strings, of which the first token is read.
-fn read_leaf<'a>(
-    context: Context<'_>,
-    tokens: &'a [Token],
-    token: Token,
-) -> Result<Part<'a, Expr>, ReadError<'a>>
-    requires ended { IsEnded tokens.now }
-    requires operand { is_operand (view context.types.now (sort_of token.kind)) ≡ true }
-    ensures { MatchResult result
-        (λ part. IsRead (context_of context.entry) grammar.primary 1 (token ∷ tokens.now)
-        (tree_of part.tree) part.depth part.rest.now)
-        (λ stop. stop ≡ NoMemory) }
-{
-    match token.kind {
-        Kind::Text(_) => {
-            let (tree, rest) = read_texts(context, tokens, token)?;
-            Ok(Part {
-                tree,
-                depth: 1,
-                rest,
-            })
-        }
-        Kind::Number(number) => Ok(Part {
-            tree: Expr::number(number, token.place),
-            depth: 1,
-            rest: tokens,
-        }),
-        Kind::Char(value) => Ok(Part {
-            tree: Expr::character(value, token.place),
-            depth: 1,
-            rest: tokens,
-        }),
-        _ => Ok(Part {
-            tree: Expr::name(number_of(token.kind), token.place),
-            depth: 1,
-            rest: tokens,
-        }),
-    }
-}
-
-/// The number of a name or a text.
-fn number_of(kind: Kind) -> u32
-    ensures { result ≡ number_of kind }
-{
-    match kind {
-        Kind::Name(number) | Kind::Text(number) => number,
-        _ => 0,
-    }
-}
-
-/// Adjacent strings, of which the first is read, and the tokens behind them.
-fn read_texts<'a>(
-    context: Context<'_>,
-    tokens: &'a [Token],
-    first: Token,
-) -> Result<(Expr, &'a [Token]), ReadError<'a>>
-    requires { IsEnded tokens.now }
-    ensures { MatchResult result
-        (λ read. AreTexts (context_of context.entry) first tokens.now (tree_of read.0)
-        read.1.now)
-        (λ stop. stop ≡ NoMemory) }
-{
-    let mut texts = Vec::new(context.alloc);
-    texts.push(number_of(first.kind))?;
-    let mut rest = tokens;
-    'texts: loop {
-        let (token, behind) = next_token(rest);
-        match sort_at(context.types, token.kind) {
-            Sort::Text => {
-                texts.push(number_of(token.kind))?;
-                rest = behind;
-            }
-            _ => break,
-        }
-    }
-    Ok((Expr::text(texts, first.place), rest))
 }
 
 /// What stands behind a postfix expression, whose depth is given.

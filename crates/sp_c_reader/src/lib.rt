@@ -18,6 +18,7 @@
 
 mod declarators;
 mod expressions;
+mod primaries;
 mod specifiers;
 
 pub use declarators::{closed, read_declarator, read_type_name};

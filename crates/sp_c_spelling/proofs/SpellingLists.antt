@@ -56,9 +56,6 @@ args_more us x vs es e some l k r = record {
 abbrev pub SParams : List Terminal → List Param → Type 0
 SParams ws es = Spelled (λ fs. params_tokens [] (view.params fs)) (λ at fs. PlacedParams at (view.params fs)) ws es
 
-pub params_one : (ws : List Terminal) (e : Param) → Spelled param_tokens PlacedParam ws e → SParams ws (e ∷ [])
-params_one ws e s = record { spells = append-nil (param_tokens e) ∙ s.spells; places = λ at h. (s.places at h, tt) }
-
 pub params_spell : (b : List Kind) (es : List Param) (e : Param) → HasSome es → params_tokens b (view.params (es ++ e ∷ [])) ≡ params_tokens b (view.params es) ++ kinds.Mark puncts.Comma ∷ param_tokens e
 params_spell b [] e h = elim h [ ]
 params_spell b (f ∷ []) e h = simp (append_assoc, append-nil) refl

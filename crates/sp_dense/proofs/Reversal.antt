@@ -1,8 +1,6 @@
 -- The lists of successors, while they are made.
-use Rattle.std.proofs.Common.{◌≡◌, ◌≢◌, ◌⊎◌, inl, inr, ℕ, zero, suc, ◌+◌, ◌<◌, ◌≤◌, true, List, [], ◌∷◌, ◌++◌, length, get_or, set, take, map, replicate, Vec, sym, ap, ◌∙◌, subst, arith, length-set}
+use Rattle.std.proofs.Common.{◌≡◌, ◌≢◌, ◌⊎◌, inl, inr, ℕ, ◌+◌, ◌<◌, ◌≤◌, true, List, [], ◌∷◌, ◌++◌, length, get_or, set, take, Vec, sym, ap, ◌∙◌, subst, arith, length-set}
 use Rattle.std.specs.declared.alloc.Global.{Global}
-use Rattle.std.proofs.lemmas.Bool.{false≢true}
-use Rattle.std.proofs.lemmas.List.{length-map, length-replicate}
 use Rattle.sp_lattice.specs.System.{Meaning, AllBelow, has}
 use Rattle.sp_dense.specs.inner.Visit.{HasSuccessors, row_at}
 use Rattle.sp_dense.proofs.Grids.{row_at-get_or, row_at-set_same, row_at-set_other}
@@ -15,20 +13,7 @@ pub record Reversing {V : Type 0} (m : Meaning V) (lists : List (Vec ℕ Global)
   pub all : (n k : ℕ) → k < i → has n (m.into k) ≡ true → has k (row_at lists n) ≡ true
   pub now : (n : ℕ) → has n edges ≡ true → has i (row_at lists n) ≡ true
 
-nothing_below : (bound n k : ℕ) → AllBelow bound (get_or (replicate k []) n [])
-nothing_below bound n zero i d h = absurd (omega arith)
-nothing_below bound zero (suc k) i d h = absurd (omega arith)
-nothing_below bound (suc n) (suc k) i d h = nothing_below bound n k i d h
-
 module _ {V : Type 0} (m : Meaning V) where
-  pub reversing_none : (lists : List (Vec ℕ Global)) → map (λ row. row.items) lists ≡ replicate m.nodes [] → Reversing m lists 0 []
-  reversing_none lists empty = record {
-    long = sym (length-map lists (λ (row : Vec ℕ Global). row.items)) ∙ ap length empty ∙ length-replicate m.nodes [];
-    low = λ n low. subst (λ rows. AllBelow m.nodes (get_or rows n [])) (sym empty) (nothing_below m.nodes n m.nodes);
-    all = λ n k low h. absurd (omega arith);
-    now = λ n h. absurd (false≢true h);
-  }
-
   which : (k n : ℕ) → (k ≡ n) ⊎ (k ≢ n)
   which k n = grind arith
 
@@ -66,19 +51,6 @@ module _ {V : Type 0} (m : Meaning V) where
 
   below : (k i : ℕ) → k < i + 1 → (k < i) ⊎ (k ≡ i)
   below k i h = grind arith
-
-  -- all edges into i
-  pub reversing_next : (lists : List (Vec ℕ Global)) (i : ℕ) (edges : List ℕ) → edges ≡ m.into i → Reversing m lists i edges → Reversing m lists (i + 1) []
-  reversing_next lists i edges are done = record {
-    long = done.long;
-    low = done.low;
-    all = λ n k low h. at n k (below k i low) h;
-    now = λ n h. absurd (false≢true h);
-  }
-    where
-      at : (n k : ℕ) → (k < i) ⊎ (k ≡ i) → has n (m.into k) ≡ true → has k (row_at lists n) ≡ true
-      at n k (inl less) h = done.all n k less h
-      at n k (inr same) h = ap (λ j. has j (row_at lists n)) same ∙ done.now n (ap (λ xs. has n xs) are ∙ ap (λ j. has n (m.into j)) (sym same) ∙ h)
 
   pub reversed : (lists : List (Vec ℕ Global)) (i : ℕ) → m.nodes ≤ i → Reversing m lists i [] → HasSuccessors m lists
   reversed lists i past done = record { long = done.long; low = done.low; all = λ n k low h. done.all n k (omega (arith, past, low)) h }

@@ -1,45 +1,24 @@
 -- What rows of triples hold: at a place of a row, and after one more triple.
-use Rattle.std.proofs.Common.{◌≡◌, ◌≢◌, ◌⊎◌, inl, inr, ℕ, zero, suc, ◌+◌, ◌<◌, ◌≤◌, true, ◌&&◌, ◌||◌, eqb, List, [], ◌∷◌, ◌++◌, length, get_or, All, Contains, sym, ap, ◌∙◌, subst, arith, eqb-true, get_or-set_same, get_or-set_other}
+use Rattle.std.proofs.Common.{◌≡◌, ◌≢◌, ◌⊎◌, inl, inr, ℕ, zero, suc, ◌+◌, ◌<◌, true, ◌&&◌, ◌||◌, eqb, List, [], ◌∷◌, ◌++◌, length, get_or, All, sym, ap, ◌∙◌, subst, arith, get_or-set_same, get_or-set_other}
 use Rattle.std.specs.List.{list_any}
-use Rattle.std.proofs.lemmas.Bool.{false≢true}
-use Rattle.std.proofs.lemmas.List.{get_or_default, get_or_past, length_push}
-use Rattle.std.proofs.lemmas.List.Folds.{list_any-append, list_any_at, Any-from_list_any}
+use Rattle.std.proofs.lemmas.List.{length_push}
+use Rattle.std.proofs.lemmas.List.Folds.{list_any-append, list_any_at}
 use Rattle.std.proofs.lemmas.List.Quantifiers.{all_pairs_push}
 use Rattle.std.proofs.lemmas.List.Elements.{All-set, All-get_or}
 use Rattle.std.proofs.lemmas.List.Sums.{sum_by-cons}
 use Rattle.sp_deps.specs.Rows.{leaving, same_pair, held, total, is_before, Ascends, added, most_dependencies}
 use Rattle.sp_deps.specs.inner.Kept.{IsKept}
-use Rattle.sp_deps.proofs.Lists.{which, below, eqb-refl, eqb-apart}
-use Rattle.sp_deps.proofs.Bools.{and-parts, or-false_right}
+use Rattle.sp_deps.proofs.Lists.{which, eqb-refl, eqb-apart}
+use Rattle.sp_deps.proofs.Bools.{or-false_right}
 
 pub same_pair-refl : (p : ℕ × ℕ) → same_pair p p ≡ true
 same_pair-refl p = ap (λ b. b && eqb p.1 p.1) (eqb-refl p.0) ∙ eqb-refl p.1
-
-pub same_pair-true : (p q : ℕ × ℕ) → same_pair p q ≡ true → p ≡ q
-same_pair-true p q h =
-    let parts = and-parts (eqb p.0 q.0) (eqb p.1 q.1) h in
-    let first : p.0 ≡ q.0 = eqb-true p.0 q.0 parts.0 in
-    let second : p.1 ≡ q.1 = eqb-true p.1 q.1 parts.1 in
-    ap (λ x. (x, p.1)) first ∙ ap (λ y. (q.0, y)) second
 
 -- the triple at a place of a row is held
 pub held_at : (rows : List (List (ℕ × ℕ))) (from i : ℕ) (d : ℕ × ℕ) → i < length (leaving rows from) → held rows from (get_or (leaving rows from) i d).0 (get_or (leaving rows from) i d).1 ≡ true
 held_at rows from i d low =
     let pair = get_or (leaving rows from) i d in
     list_any_at (same_pair (pair.0, pair.1)) (leaving rows from) i d low (same_pair-refl pair)
-
--- and what is held stands at a place
-pub place_of_held : (rows : List (List (ℕ × ℕ))) (from location to : ℕ) → held rows from location to ≡ true → Contains (leaving rows from) (location, to)
-place_of_held rows from location to h =
-    let any = Any-from_list_any (same_pair (location, to)) (leaving rows from) h in
-    let same : (location, to) ≡ any.1 = same_pair-true (location, to) any.1 any.4 in
-    (any.0, any.2, get_or_default (leaving rows from) any.0 (location, to) any.1 any.2 ∙ any.3 ∙ sym same)
-
--- a node that holds a triple has a row
-pub held_low : (rows : List (List (ℕ × ℕ))) (from location to : ℕ) → held rows from location to ≡ true → from < length rows
-held_low [] from location to h = absurd (false≢true h)
-held_low (row ∷ rows) zero location to h = omega arith
-held_low (row ∷ rows) (suc from) location to h = omega (arith, held_low rows from location to h)
 
 -- ---- one more triple
 
@@ -79,11 +58,3 @@ kept_added rows from pair count low room last kept = record {
   counted = omega (arith, kept.counted, total-added rows from pair low);
   few = omega (arith, kept.counted, room);
 }
-
--- a row of ascending rows ascends, and so does the empty one past them
-pub row_ascends : (rows : List (List (ℕ × ℕ))) (from : ℕ) → All Ascends rows → Ascends (leaving rows from)
-row_ascends rows from ascending = by (below from (length rows))
-  where
-    by : (from < length rows) ⊎ (length rows ≤ from) → Ascends (leaving rows from)
-    by (inl low) = All-get_or Ascends rows from [] low ascending
-    by (inr past) = subst (λ row. Ascends row) (sym (get_or_past rows from [] past)) (λ i j d less low. absurd (omega arith))

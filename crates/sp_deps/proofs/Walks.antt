@@ -36,12 +36,6 @@ stays true false true is = refl
 stays false false true is = refl
 stays r d false is = refl
 
-cond-or : (r e : Bool) → cond e true r ≡ (r || e)
-cond-or true true = refl
-cond-or true false = refl
-cond-or false true = refl
-cond-or false false = refl
-
 not-true : (b : Bool) → not b ≡ true → b ≡ false
 not-true true h = sym h
 not-true false h = refl

@@ -1,5 +1,5 @@
 -- The constants that are taken: the front of the list that is sorted and has each constant once.
-use Rattle.std.proofs.Common.{◌≡◌, ◌≢◌, ℕ, ◌+◌, ◌*◌, ◌<◌, true, List, length, get_or, take, Contains, AllPairs, IsPermutation, filter, ℤ, pos, negsuc, sym, ap, ◌∙◌, subst, arith, length-take, length-take-le, lt-ltb, ltb-true}
+use Rattle.std.proofs.Common.{◌≡◌, ◌≢◌, ℕ, ◌+◌, ◌*◌, ◌<◌, true, List, length, get_or, take, Contains, AllPairs, IsPermutation, filter, ℤ, pos, negsuc, sym, ◌∙◌, subst, arith, length-take, length-take-le, lt-ltb, ltb-true}
 use Rattle.std.specs.Prelude.{int_lt, unsigned_abs, nat_lt}
 use Rattle.std.specs.Ordering.{nat_cmp, bool_cmp, ordering_then, int_eq, is_lt, eq_by_cmp, on}
 use Rattle.std.specs.declared.cmp.Ordering.TheVariants.{Less}
@@ -20,12 +20,6 @@ use Rattle.sp_lattice.proofs.Ascending.{AllPairs-dedup, AllPairs-weaker, AllPair
 abbrev pub rank : ℤ → ℕ
 rank (pos n) = 2 * n
 rank (negsuc n) = 2 * n + 3
-
-rank_injective : (a b : ℤ) → rank a ≡ rank b → a ≡ b
-rank_injective (pos a) (pos b) e = ap pos (omega (arith, e))
-rank_injective (pos a) (negsuc b) e = absurd (omega (arith, e))
-rank_injective (negsuc a) (pos b) e = absurd (omega (arith, e))
-rank_injective (negsuc a) (negsuc b) e = ap negsuc (omega (arith, e))
 
 is_before-rank : (j k : ℤ) → is_before j k ≡ nat_lt (rank j) (rank k)
 is_before-rank (pos j) (pos k) = grind (arith, nat_tests)

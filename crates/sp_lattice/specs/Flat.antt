@@ -1,5 +1,5 @@
 -- Rows of items, one behind another in one list.
-use Rattle.std.specs.Prelude.{◌≡◌, ◌≤◌, ℕ, List, [], ◌∷◌, slice_index, slice_index_or, slice_range}
+use Rattle.std.specs.Prelude.{◌≤◌, ℕ, List, [], ◌∷◌, slice_index, slice_index_or, slice_range}
 
 -- a row; none past the last
 abbrev pub row_at : {A : Type 0} → List (List A) → ℕ → List A

@@ -19,10 +19,6 @@ pub record IsProper (count : ℕ) (f : Entries) : Type 0 where
   pub coherent : (r c : ℕ) → r < count → c < count → f (negative c) (negative r) ≡ f r c
   pub in_range : (r c : ℕ) → r < count → c < count → IsInRange (f r c)
 
--- from the entry of a walk
-walk_of : (count : ℕ) (m : Entries) (r c : ℕ) (d e : ℤ) → d ≡ e → IsLeastWalk count m r c d → IsLeastWalk count m r c e
-walk_of count m r c d e same h = subst (λ (x : ℤ). IsLeastWalk count m r c x) same h
-
 module _ (size : ℕ) (m d : Entries) (few : size ≤ 8) (matrix : IsMatrix size m) (all : AfterRounds (2 * size) m (2 * size) d) where
   inner : (r c : ℕ) → r < 2 * size → c < 2 * size → m (negative c) (negative r) ≡ m r c
   inner r c hr hc = matrix.coherent r c (omega arith) (omega arith)

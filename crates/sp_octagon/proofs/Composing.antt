@@ -1,5 +1,5 @@
 -- Two changes, one after the other.
-use Rattle.std.proofs.Common.{◌≡◌, ◌⊎◌, inl, inr, ℕ, ◌*◌, true, cond, ℤ, ◌∙◌, ap, subst, arith}
+use Rattle.std.proofs.Common.{◌≡◌, ℕ, ◌*◌, true, cond, ℤ, ◌∙◌, ap, subst, arith}
 use Rattle.std.proofs.lemmas.Int.{ints}
 use Rattle.std.specs.Int.{int_min}
 use Rattle.sp_octagon.specs.declared.octagon.Octagon.{Octagon}
@@ -38,10 +38,6 @@ becomes_holds old new m p is h = record {
 pub le_holds : (a b : Octagon) (p : Point) → a.size ≡ b.size → octagon_le a b ≡ true → OctagonHolds a p → OctagonHolds b p
 le_holds a b p same le h =
     subst (λ (n : ℕ). Holds (2 * n) (entries b) p) same (holds-below (rows a) (entries a) (entries b) p (below_from_test (rows a) (entries a) (entries b) le) h)
-
-pub either_holds : (a b new : Octagon) (p : Point) → a.size ≡ new.size → b.size ≡ new.size → octagon_le a new ≡ true → octagon_le b new ≡ true → OctagonHolds a p ⊎ OctagonHolds b p → OctagonHolds new p
-either_holds a b new p e f x y (inl h) = le_holds a new p e x h
-either_holds a b new p e f x y (inr h) = le_holds b new p f y h
 
 -- and the other way round
 pub becomes_held : (old new : Octagon) (m : Entries) (p : Point) → Becomes old new m → OctagonHolds new p → Holds (rows old) m p

@@ -297,13 +297,6 @@ start-16 : start 16 ≡ 144
 unfolding start
 start-16 = refl
 
-start-most : (n : ℕ) → n ≤ 16 → start n ≤ 144
-start-most n h = by (order n 16)
-  where
-    by : (n < 16) ⊎ (16 ≤ n) → start n ≤ 144
-    by (inl low) = omega (arith, start-le n 16 low, start-16)
-    by (inr high) = let same : 16 ≡ n = omega arith in subst (λ (k : ℕ). start k ≤ 144) same (omega (arith, start-16))
-
 -- a place in the list is small
 pub place-small : (r c : ℕ) → r < 16 → c < width r → start r + c < 144
 place-small r c hr hc = omega (arith, hc, start-le r 16 hr, start-16)

@@ -7,8 +7,7 @@ use Rattle.std.proofs.lemmas.Bool.Decides.{nat_tests}
 use Rattle.std.proofs.lemmas.List.{length-set}
 use Rattle.sp_octagon.specs.Entries.{Entries, least_bound, greatest_bound, negative, entries_of}
 use Rattle.sp_octagon.specs.Facts.{IsInRange, IsMatrix, IsOctagon}
-use Rattle.sp_octagon.specs.Order.{Below}
-use Rattle.sp_octagon.specs.Changes.{is_pair, with_pair, lowered}
+use Rattle.sp_octagon.specs.Changes.{is_pair, with_pair}
 use Rattle.sp_octagon.proofs.Numbers.{which, negative-lt}
 use Rattle.sp_octagon.proofs.Closures.{IsProper}
 use Rattle.sp_octagon.proofs.Passing.{entry_written, entry_kept}
@@ -191,22 +190,9 @@ min-in_range v z low high h = record {
   most = omega (arith, ints, clamps, high);
 }
 
--- a pair that becomes the lesser of v and its first entry is lowered to v, since both were equal
-pub lowered-is : (m : Entries) (r c : ℕ) (v : ℤ) → m (negative c) (negative r) ≡ m r c → (i j : ℕ) → with_pair m r c (int_min v (m r c)) i j ≡ lowered m r c v i j
-lowered-is m r c v same i j = by (pair_cases r c i j)
-  where
-    by : PairCases r c i j → with_pair m r c (int_min v (m r c)) i j ≡ lowered m r c v i j
-    by (itself e f t) = rw t (ap (int_min v) (sym (ap (λ a. m a j) e ∙ ap (m r) f)))
-    by (its_equal e f t) = rw t (ap (int_min v) (sym (ap (λ a. m a j) e ∙ ap (m (negative c)) f ∙ same)))
-    by (apart ne ne' t) = rw t refl
-
 -- a pass over its own rows and columns, as the code makes it
 pub pass-octagon : (size count : ℕ) (old new : List ℤ) (f : Entries) → IsOctagon size old → length new ≡ 256 → IsProper (2 * size) f → count ≡ 2 * size → ((r c : ℕ) → r < count → c < count → entries_of new r c ≡ f r c) → ((r c : ℕ) → r < 16 → c < 16 → count ≤ max r c → entries_of new r c ≡ entries_of old r c) → IsOctagon size new
 pass-octagon size count old new f is room proper same inside outside =
     octagon-from size old new f is room proper
     (λ r c hr hc. inside r c (omega (arith, same)) (omega (arith, same)))
     (λ r c hr hc far. outside r c hr hc (omega (arith, same)))
-
--- what lies below some entries lies below equal ones
-pub below_equal : (n : ℕ) (a b e : Entries) → Below n a b → ((r c : ℕ) → r < n → c < n → e r c ≡ b r c) → Below n a e
-below_equal n a b e below is r c hr hc = rw (is r c hr hc) (below r c hr hc)

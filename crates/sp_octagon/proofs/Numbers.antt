@@ -1,5 +1,5 @@
 -- Numbers with and without a bound, halves, and the negative of a row.
-use Rattle.std.proofs.Common.{◌≡◌, ◌⊎◌, inl, inr, ℕ, ◌+◌, ◌*◌, ◌<◌, ◌==◌, Bool, true, false, cond, ◌&&◌, ℤ, pos, negsuc, ◌+ℤ◌, ◌≤ℤ◌, ◌<ℤ◌, refl, sym, ◌∙◌, arith}
+use Rattle.std.proofs.Common.{◌≡◌, ◌⊎◌, inl, inr, ℕ, ◌*◌, ◌<◌, ◌==◌, Bool, true, false, cond, ◌&&◌, ℤ, pos, negsuc, ◌+ℤ◌, ◌≤ℤ◌, ◌<ℤ◌, refl, sym, ◌∙◌, arith}
 use Rattle.std.specs.Prelude.{int_lt}
 use Rattle.std.proofs.lemmas.Int.{ints, clamps}
 use Rattle.std.proofs.lemmas.Bool.Decides.{nat_tests}
@@ -44,12 +44,6 @@ negative-lt r n h = omega arith
 
 pub negative_other : (r : ℕ) → r ≡ negative r → ⊥
 negative_other r h = omega arith
-
-pub negative_even : (i : ℕ) → negative (2 * i) ≡ 2 * i + 1
-negative_even i = omega arith
-
-pub negative_odd : (i : ℕ) → negative (2 * i + 1) ≡ 2 * i
-negative_odd i = omega arith
 
 -- ---- sums
 
@@ -150,15 +144,6 @@ cut-le y z le = by (cut_cases y) (cut_cases z)
     by (taken h e) (raised h' e') = absurd (omega (arith, ints, h, h', le))
     by (taken h e) (stays h' g' e') = absurd (omega (arith, ints, h, g', le))
     by (taken h e) (taken h' e') = omega (arith, ints, e, e')
-
--- it never falls
-pub cut-above : (z : ℤ) → z ≤ℤ unbounded → z ≤ℤ cut z
-cut-above z h = by (cut_cases z)
-  where
-    by : CutCases z → z ≤ℤ cut z
-    by (raised low e) = omega (arith, ints, low, e)
-    by (stays low high e) = omega (arith, ints, e)
-    by (taken past e) = omega (arith, ints, e, h)
 
 -- what is in range stays
 pub cut-same : (z : ℤ) → IsInRange z → cut z ≡ z

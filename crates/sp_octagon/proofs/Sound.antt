@@ -32,12 +32,6 @@ holds-below n a b p below h = record {
   within = λ r c hr hc bound. let le = below r c hr hc in omega (arith, ints, le, h.within r c hr hc (omega (arith, ints, le, bound)));
 }
 
--- equal entries hold the same
-pub holds_equal : (n : ℕ) (a b : Entries) (p : Point) → ((r c : ℕ) → r < n → c < n → b r c ≡ a r c) → Holds n a p → Holds n b p
-holds_equal n a b p is h = record {
-  within = λ r c hr hc bound. let e = is r c hr hc in omega (arith, ints, e, h.within r c hr hc (subst IsBound e bound));
-}
-
 -- ---- what rows stand for at a point of whole numbers
 
 row_even : (v : ℕ → ℤ) (i : ℕ) → value_at (whole_point v) (2 * i) ≡ (v i +ℤ v i)

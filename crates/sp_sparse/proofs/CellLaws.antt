@@ -145,7 +145,3 @@ module _ {V : Type 0} (places : List (List ℕ)) (values : List (List V)) (is : 
   read_place p l v p_low at v_is =
       ap (λ j. value_at (row_at places n) (row_at values n) j) (sym at) ∙ value_at-place (row_at places n) (row_at values n) p (is.ascends n) (is.long n) p_low
       ∙ slice_get-get_or (row_at values n) p v (omega (arith, p_low, is.long n)) ∙ ap Some (sym v_is)
-
-  -- past the rows there is nothing
-  pub read_past : (l : ℕ) → length values < n + 1 → cell (cells places values) n l ≡ None
-  read_past l past = ap (λ ls. value_at ls (row_at values n) l) (row_at-past places n (omega (arith, past, is.rows)))

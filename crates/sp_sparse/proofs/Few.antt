@@ -25,10 +25,6 @@ sum_by-le_sum : (f g h : ℕ → ℕ) (ls : List ℕ) → ((l : ℕ) → f l ≤
 sum_by-le_sum f g h [] each = omega arith
 sum_by-le_sum f g h (l ∷ ls) each = omega (arith, sum_by-cons f l ls, sum_by-cons g l ls, sum_by-cons h l ls, each l, sum_by-le_sum f g h ls each)
 
-sum_by-le_each : (f g : ℕ → ℕ) (ls : List ℕ) → ((l : ℕ) → f l ≤ g l) → sum_by f ls ≤ sum_by g ls
-sum_by-le_each f g [] each = omega arith
-sum_by-le_each f g (l ∷ ls) each = omega (arith, sum_by-cons f l ls, sum_by-cons g l ls, each l, sum_by-le_each f g ls each)
-
 sum_by-none : (ls : List ℕ) → sum_by (λ l. 0) ls ≡ 0
 sum_by-none [] = refl
 sum_by-none (l ∷ ls) = omega (arith, sum_by-cons (λ k. 0) l ls, sum_by-none ls)

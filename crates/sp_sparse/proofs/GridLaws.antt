@@ -1,5 +1,5 @@
 -- Grids of rows: what stands in a row, and in the table that the grid is.
-use Rattle.std.proofs.Common.{◌≡◌, ◌≢◌, ◌⊎◌, inl, inr, ℕ, zero, suc, ◌+◌, ◌<◌, ◌≤◌, Bool, true, false, not, List, [], ◌∷◌, ◌++◌, length, get_or, set, take, drop, map, refl, sym, ap, ◌∙◌, subst, arith, length-append, length-drop, length-set, get_or-set_same, get_or-set_other}
+use Rattle.std.proofs.Common.{◌≡◌, ◌≢◌, ◌⊎◌, inl, inr, ℕ, zero, suc, ◌+◌, ◌<◌, ◌≤◌, Bool, true, false, not, List, [], ◌∷◌, ◌++◌, length, get_or, set, take, drop, map, refl, sym, ap, ◌∙◌, subst, arith, length-set, get_or-set_same, get_or-set_other}
 use Rattle.std.specs.List.Sorted.{IsStrictlyIncreasing}
 use Rattle.std.proofs.lemmas.Bool.{false≢true}
 use Rattle.std.proofs.lemmas.List.{length-map}
@@ -10,8 +10,8 @@ use Rattle.sp_lattice.specs.Dense.{Table}
 use Rattle.sp_lattice.proofs.Joins.{has-cons}
 use Rattle.sp_lattice.proofs.Stores.{written_elsewhere}
 use Rattle.sp_sparse.specs.inner.Grid.{IsGrid, table_at, BeginsWith}
-use Rattle.sp_sparse.specs.inner.Engine.{Evaluates, Raises, Updates, UpdatesRow, locations_at}
-use Rattle.sp_sparse.proofs.Numbers.{which, same_number, apart_numbers}
+use Rattle.sp_sparse.specs.inner.Engine.{Evaluates, Raises, UpdatesRow, locations_at}
+use Rattle.sp_sparse.proofs.Numbers.{which}
 use Rattle.sp_sparse.proofs.Ordered.{written-at, written-set_other}
 use Rattle.sp_sparse.proofs.Summing.{has_first, has_later}
 

@@ -1,5 +1,5 @@
 -- Rows of links are laid, one for each definition, node by node.
-use Rattle.std.proofs.Common.{◌≡◌, ◌⊎◌, inl, inr, ℕ, zero, suc, ◌+◌, ◌<◌, ◌≤◌, Bool, true, List, [], ◌∷◌, ◌++◌, length, get_or, refl, sym, ap, ◌∙◌, subst, arith, length-append}
+use Rattle.std.proofs.Common.{◌≡◌, ◌⊎◌, inl, inr, ℕ, zero, suc, ◌+◌, ◌<◌, Bool, true, List, [], ◌∷◌, ◌++◌, length, get_or, sym, ap, ◌∙◌, subst, arith, length-append}
 use Rattle.std.specs.List.{list_any}
 use Rattle.sp_lattice.specs.Flat.{row_at}
 use Rattle.sp_lattice.specs.System.{Meaning, has}
@@ -9,7 +9,7 @@ use Rattle.sp_lattice.proofs.Paths.{Path-end}
 use Rattle.sp_lattice.proofs.Ranks.{sum_below-same}
 use Rattle.sp_deps.specs.Rows.{leaving, held, same_pair}
 use Rattle.sp_sparse.specs.inner.Grid.{IsGrid}
-use Rattle.sp_sparse.specs.inner.Links.{AreLinks, HasLinks, UsedAt, definitions_before}
+use Rattle.sp_sparse.specs.inner.Links.{AreLinks, UsedAt, definitions_before}
 use Rattle.sp_sparse.proofs.Numbers.{below_next}
 use Rattle.sp_sparse.proofs.GridLaws.{row_at-push_last, row_at-push_other}
 use Rattle.sp_sparse.proofs.Linking.{found_at}
@@ -44,9 +44,6 @@ module _ {V : Type 0} (m : Meaning V) where
       pub each : (n p : ℕ) → n < node → p < length (m.defs n) → AreLinks m test n (get_or (m.defs n) p 0) (row_at rows (definitions_before m n + p))
       pub here : (p : ℕ) → p < count → AreLinks m test node (get_or (m.defs node) p 0) (row_at rows (definitions_before m node + p))
 
-    pub laying_first : IsLaying [] 0 0
-    laying_first = record { long = refl; each = λ n p low. absurd (omega arith); here = λ p low. absurd (omega arith) }
-
     pub laying_more : (rows later : List (List (ℕ × ℕ))) (row : List (ℕ × ℕ)) (node count : ℕ) → later ≡ rows ++ row ∷ [] → AreLinks m test node (get_or (m.defs node) count 0) row → IsLaying rows node count → IsLaying later node (count + 1)
     laying_more rows later row node count is links so_far = record {
       long = omega (arith, ap length is, length-append rows (row ∷ []), so_far.long);
@@ -73,12 +70,6 @@ module _ {V : Type 0} (m : Meaning V) where
         by : (n p : ℕ) → p < length (m.defs n) → (n < node) ⊎ (n ≡ node) → AreLinks m test n (get_or (m.defs n) p 0) (row_at rows (definitions_before m n + p))
         by n p p_low (inl less) = so_far.each n p less p_low
         by n p p_low (inr same) = subst (λ k. AreLinks m test k (get_or (m.defs k) p 0) (row_at rows (definitions_before m k + p))) (sym same) (so_far.here p (omega (arith, p_low, ap (λ k. length (m.defs k)) same, is)))
-
-    pub laying_done : (rows : List (List (ℕ × ℕ))) (node : ℕ) → node ≡ m.nodes → IsLaying rows node 0 → HasLinks m test rows
-    laying_done rows node is so_far = record {
-      long = omega (arith, so_far.long, ap (definitions_before m) is);
-      each = λ n p low p_low. so_far.each n p (omega (arith, low, is)) p_low;
-    }
 
   module _ (rows : List (List (ℕ × ℕ))) (node : ℕ) (pairs : List (ℕ × ℕ)) (are : pairs ≡ leaving rows node) where
     -- the pairs that leave a node are its dependencies

@@ -25,10 +25,6 @@ pub record Lets (before after : List ℕ) (n : ℕ) (grew : Bool) : Type 0 where
   pub others : (k : ℕ) → k ≢ n → has k after ≡ has k before
 
 module _ {V : Type 0} (o : Order V) (m : Meaning V) (laws : IsLattice o) (sys : IsSystem o m) where
-  -- to begin with, each node is owed one evaluation
-  pub paid_first : (ins : Table V) (waiting : List ℕ) (counts : ℕ → ℕ) → ((n : ℕ) → n < m.nodes → counts n ≡ 0) → IsPaid o m ins waiting counts
-  paid_first ins waiting counts none n low = omega (arith, none n low, one (has n waiting))
-
   -- the evaluation for which a node waited is done
   pub paid_evaluated : (ins : Table V) (waiting rest : List ℕ) (counts after : ℕ → ℕ) (n : ℕ) → has n waiting ≡ true → Removes waiting rest n → after n ≡ counts n + 1 → ((k : ℕ) → k ≢ n → after k ≡ counts k) → IsPaid o m ins waiting counts → IsPaid o m ins rest after
   paid_evaluated ins waiting rest counts after n there removes here others paid k low = by (which k n)

@@ -1,12 +1,10 @@
 -- What a solved table tells at a use and at a definition: what every dense least solution has there.
 use Rattle.std.proofs.Common.{◌≡◌, ◌∙◌, ℕ, ◌<◌, true, ◌&&◌, nat_lt, if◌then◌else◌, List, Some, None, ap, arith}
 use Rattle.std.proofs.lemmas.Bool.Decides.{nat_tests}
-use Rattle.sp_lattice.specs.Lattice.{Order, IsLattice}
-use Rattle.sp_lattice.specs.System.{Meaning, IsSystem, has}
-use Rattle.sp_lattice.specs.Dense.{Table, input, IsLeast}
-use Rattle.sp_lattice.proofs.Tables.{input_same, least_unique}
+use Rattle.sp_lattice.specs.Lattice.{Order}
+use Rattle.sp_lattice.specs.System.{Meaning, has}
+use Rattle.sp_lattice.specs.Dense.{input}
 use Rattle.sp_sparse.specs.Solution.{SparseCells, cell, within_list, IsSolved}
-use Rattle.sp_sparse.proofs.Working.{use_below, def_below}
 
 -- a value that is within a node's list
 pub within_list-there : {V : Type 0} (m : Meaning V) (lists : ℕ → List ℕ) (n l : ℕ) (v : V) → n < m.nodes → has l (lists n) ≡ true → within_list m lists n l v ≡ Some v
@@ -21,10 +19,3 @@ module _ {V : Type 0} (o : Order V) (m : Meaning V) (table : SparseCells V) (sol
 
   pub output_there : (n l : ℕ) → n < m.nodes → has l (m.defs n) ≡ true → cell table.outputs n l ≡ Some (solved.dense n l)
   output_there n l low defined = solved.outputs n l ∙ within_list-there m m.defs n l (solved.dense n l) low defined
-
-  module _ (laws : IsLattice o) (sys : IsSystem o m) (dense : Table V) (least : IsLeast o m dense) where
-    pub input_of_least : (n l : ℕ) → n < m.nodes → has l (m.uses n) ≡ true → cell table.inputs n l ≡ Some (input o m dense n l)
-    input_of_least n l low used = input_there n l low used ∙ ap Some (input_same o m laws sys solved.dense dense (least_unique o m laws sys solved.dense dense solved.least least) n l low (use_below o m laws sys n l low used))
-
-    pub output_of_least : (n l : ℕ) → n < m.nodes → has l (m.defs n) ≡ true → cell table.outputs n l ≡ Some (dense n l)
-    output_of_least n l low defined = output_there n l low defined ∙ ap Some (least_unique o m laws sys solved.dense dense solved.least least n l low (def_below o m laws sys n l low defined))

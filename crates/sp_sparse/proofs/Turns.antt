@@ -33,10 +33,6 @@ nothing_waits (x ∷ waiting) h = absurd (false≢true (sym (never (length waiti
     never : (n : ℕ) → nat_eq (suc n) 0 ≡ false
     never n = grind (arith, nat_tests)
 
-pub some_waits : (waiting : List ℕ) → nat_eq (length waiting) 0 ≡ false → 0 < length waiting
-some_waits [] h = absurd (false≢true (sym h))
-some_waits (x ∷ waiting) h = omega arith
-
 length-take_le : (k : ℕ) (xs : List ℕ) → length (take k xs) ≤ length xs
 length-take_le zero xs = omega arith
 length-take_le (suc k) [] = omega arith

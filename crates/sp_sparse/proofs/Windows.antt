@@ -290,14 +290,6 @@ module _ (b : List ℕ) (first end : ℕ) (marks : List Bool) (is : IsWindow b f
         ap (λ xs. occurs n xs + cond (nat_eq n (get_or (slice_range b first end) i 0)) 1 0) left_is
         ∙ occurs-without n (slice_range b first end) i (end - 1 - first) (omega (arith, size)) (omega (arith, size))
 
-    pub left_back : i + 1 ≡ length (slice_range b first end) → slice_range (set b (first + i) (get_or b (end - 1) 0)) first (end - 1) ≡ take i (slice_range b first end)
-    unfolding without
-    left_back e =
-        let size = range-length b first end is.ordered is.within in
-        let same : end - 1 - first ≡ i = omega (arith, size) in
-        left_is ∙ set-past (take (end - 1 - first) (slice_range b first end)) i (get_or (slice_range b first end) (end - 1 - first) 0) (omega (arith, length-take (end - 1 - first) (slice_range b first end), same))
-        ∙ ap (λ k. take k (slice_range b first end)) same
-
 -- each node once, in the order of their numbers
 pub occurs_in_order : (b : List ℕ) (count n : ℕ) → count ≤ length b → ((k : ℕ) → k < count → get_or b k 0 ≡ k) → occurs n (take count b) ≡ cond (nat_lt n count) 1 0
 occurs_in_order b zero n low at = none (take zero b) (omega (arith, length-take zero b)) ∙ sym (ap (λ t. cond {A = ℕ} t 1 0) (not_below n))

@@ -44,25 +44,6 @@ module _ {V : Type 0} (o : Order V) (m : Meaning V) (laws : IsLattice o) (sys : 
   effect_agrees n l s t low under_s under_t same defined = sys.support n l s t low under_s under_t (λ u h. same u) defined
 
   module _ (test : ℕ → ℕ → ℕ → Bool) where
-    -- the way begins with the least values, where every node waits
-    pub working_first : (ins outs : Table V) (waiting : List ℕ) → ((n l : ℕ) → ins n l ≡ o.bottom) → ((n l : ℕ) → outs n l ≡ o.bottom) → ((n : ℕ) → n < m.nodes → has n waiting ≡ true) → IsWorking o m test (Every test) ins outs waiting
-    working_first ins outs waiting in_least out_least all = record {
-      part = record {
-        in_held = λ n low l l_low. subst m.held (sym (in_least n l)) sys.bottom_held;
-        in_under = λ n low l l_low. least (in_least n l) (m.ceiling l);
-        in_below = λ other under above n low l l_low. least (in_least n l) (input o m other n l);
-        out_held = λ n low l l_low. subst m.held (sym (out_least n l)) sys.bottom_held;
-        out_under = λ n low l l_low. least (out_least n l) (m.ceiling l);
-        out_below = λ other under above n low l l_low. least (out_least n l) (other n l);
-      };
-      evaluated = λ n low idle. absurd (false≢true (sym idle ∙ all n low));
-      sent = λ b l c due. least (out_least b l) (ins c l);
-      untouched = λ n l low none. in_least n l;
-    }
-      where
-        least : {v : V} → v ≡ o.bottom → (w : V) → o.le v w ≡ true
-        least {v} e w = subst (λ u. o.le u w ≡ true) (sym e) (laws.bottom w)
-
     -- where no node waits, the way is at its end
     pub standing_last : (ins outs : Table V) → IsWorking o m test (Every test) ins outs [] → IsStanding o m test ins outs
     standing_last ins outs working = record {

@@ -1,6 +1,4 @@
-use Rattle.std.proofs.Common.{◌≡◌, ◌∙◌, ◌<◌, ℕ, ◌++◌, true, length, take, drop, sym, ap, subst, arith}
-use Rattle.sp_lattice.specs.System.{has}
-use Rattle.sp_lattice.specs.Flat.{row_at}
+use Rattle.std.proofs.Common.{◌≡◌, ◌++◌, length, take, drop, sym, ap, subst, arith}
 use Rattle.sp_sparse.specs.inner.Grid.{table_at, BeginsWith}
 use Rattle.sp_sparse.proofs.GridLaws.{evaluates, updated_grid, returned_whole}
 use Rattle.sp_sparse.proofs.evaluation.evaluate.Goals as goal

@@ -1,4 +1,4 @@
-use Rattle.std.proofs.Common.{◌≡◌, ◌∙◌, drop, ap}
+use Rattle.std.proofs.Common.{◌∙◌, ap}
 use Rattle.sp_lattice.specs.System.{store_at, values_at}
 use Rattle.sp_sparse.specs.inner.Grid.{table_at}
 use Rattle.sp_sparse.proofs.GridLaws.{begins_with}

@@ -1,6 +1,5 @@
-use Rattle.std.proofs.Common.{◌≡◌, ◌∙◌, ◌+◌, ◌<◌, ◌∷◌, ℕ, false, List, length, get_or, drop, refl, sym, ap, subst, arith}
+use Rattle.std.proofs.Common.{◌≡◌, ◌∙◌, ◌+◌, ◌<◌, false, length, get_or, drop, refl, sym, ap, subst, arith}
 use Rattle.std.proofs.lemmas.List.{get_or_default}
-use Rattle.sp_lattice.specs.System.{has}
 use Rattle.sp_lattice.specs.Flat.{row_at}
 use Rattle.sp_deps.specs.Rows.{held}
 use Rattle.sp_sparse.specs.inner.Grid.{table_at}

@@ -1,4 +1,4 @@
-use Rattle.std.proofs.Common.{◌≡◌, ◌<◌, ◌∷◌, ℕ, true, drop, get_or}
+use Rattle.std.proofs.Common.{◌≡◌, ◌<◌, ℕ, true, drop, get_or}
 use Rattle.sp_lattice.specs.System.{has}
 use Rattle.sp_deps.specs.Rows.{held}
 use Rattle.sp_sparse.specs.Sparse.{IsSent}

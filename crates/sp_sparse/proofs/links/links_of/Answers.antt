@@ -1,4 +1,4 @@
-use Rattle.std.proofs.Common.{◌≡◌, ◌∙◌, ◌+◌, ◌∷◌, [], ◌++◌, length, get_or, sym, ap, subst, arith}
+use Rattle.std.proofs.Common.{◌∙◌, ◌∷◌, [], ◌++◌, length, get_or, ap, subst, arith}
 use Rattle.sp_deps.specs.Rows.{held}
 use Rattle.sp_sparse.specs.inner.Links.{AreLinks}
 use Rattle.sp_sparse.proofs.Laying.{laying_more, laying_next, pairs_used, links_held}

@@ -6,7 +6,7 @@ use Rattle.sp_sparse.specs.inner.Engine.{IsWorking, Every, locations_at}
 use Rattle.sp_sparse.proofs.Ordered.{has-at}
 use Rattle.sp_sparse.proofs.Working.{working_evaluated}
 use Rattle.sp_sparse.proofs.Paying.{paid_evaluated}
-use Rattle.sp_sparse.proofs.Turns.{counted, counted_here, counted_other, counted_sum, counted_once, count_is, nothing_waits, shown_low, shown_some, turns_bound, turns_room, turns_fit, turns_most, turns_done}
+use Rattle.sp_sparse.proofs.Turns.{counted, counted_here, counted_other, counted_sum, counted_once, count_is, nothing_waits, shown_low, turns_bound, turns_room, turns_fit, turns_most, turns_done}
 use Rattle.sp_sparse.proofs.solver.solve.Goals as goal
 
 pub returns-in_err-evaluate-clause-bound : goal.returns-in_err-evaluate-clause-bound

@@ -1,7 +1,6 @@
-use Rattle.std.proofs.Common.{◌≡◌, ◌<◌, ◌∙◌, false, length, get_or, sym, ap, subst, arith}
+use Rattle.std.proofs.Common.{◌≡◌, ◌<◌, ◌∙◌, false, length, get_or, sym, ap, subst}
 use Rattle.std.specs.Prelude.{option_copied}
 use Rattle.sp_lattice.specs.System.{has}
-use Rattle.sp_lattice.specs.Flat.{row_at}
 use Rattle.sp_sparse.proofs.CellLaws.{read_absent, read_place}
 use Rattle.sp_sparse.proofs.tables.value_at.Goals as goal
 

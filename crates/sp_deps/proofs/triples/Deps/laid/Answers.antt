@@ -1,4 +1,4 @@
-use Rattle.std.proofs.Common.{◌≡◌, ℕ, List, Vec, map, rules, sym, subst, arith}
+use Rattle.std.proofs.Common.{◌≡◌, ℕ, Vec, map, rules, sym, subst, arith}
 use Rattle.std.specs.declared.alloc.Global.{Global}
 use Rattle.std.proofs.lemmas.Grind.{common_steps}
 use Rattle.sp_deps.specs.inner.Kept.{IsKept}

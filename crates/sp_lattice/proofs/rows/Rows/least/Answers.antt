@@ -1,4 +1,4 @@
-use Rattle.std.proofs.Common.{◌≡◌, ◌∙◌, ℕ, List, length, map, replicate, sym, ap, arith}
+use Rattle.std.proofs.Common.{◌∙◌, ℕ, List, length, map, replicate, ap}
 use Rattle.sp_lattice.specs.Flat.{rows_between}
 use Rattle.sp_lattice.proofs.FlatRows.{rows-replicate}
 use Rattle.sp_lattice.proofs.rows.Rows.least.Goals as goal

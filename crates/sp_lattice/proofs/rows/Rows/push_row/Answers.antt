@@ -1,4 +1,4 @@
-use Rattle.std.proofs.Common.{◌≡◌, ◌∙◌, ◌∷◌, [], ◌++◌, List, length, take, Ok, Err, sym, ap, subst, arith}
+use Rattle.std.proofs.Common.{◌≡◌, ◌∙◌, ◌∷◌, [], ◌++◌, length, Ok, Err, sym, ap, subst}
 use Rattle.std.specs.Prelude.{OnErr, Result}
 use Rattle.sp_lattice.specs.Flat.{rows_between, AreEnds, begin_of}
 use Rattle.sp_lattice.proofs.FlatRows.{cut_is, pushed_is, kept_is}

@@ -1,6 +1,6 @@
-use Rattle.std.proofs.Common.{◌≡◌, ◌<◌, ◌≤◌, ◌+◌, ◌∙◌, List, get_or, set, length, sym, ap, subst, arith}
+use Rattle.std.proofs.Common.{◌+◌, ◌∙◌, get_or, set, ap, arith}
 use Rattle.std.proofs.lemmas.List.{get_or_default}
-use Rattle.sp_lattice.specs.Flat.{row_at, rows_between, begin_of}
+use Rattle.sp_lattice.specs.Flat.{row_at, rows_between}
 use Rattle.sp_lattice.proofs.FlatRows.{rows_long, place_low, item_is, set_is}
 use Rattle.sp_lattice.proofs.rows.Rows.swap_at.Goals as goal
 

@@ -1,4 +1,4 @@
-use Rattle.std.proofs.Common.{◌∙◌, ◌+◌, take, drop, sym, ap}
+use Rattle.std.proofs.Common.{◌∙◌, ◌+◌, take, ap}
 use Rattle.std.specs.Prelude.{slice_range}
 use Rattle.sp_sparse.specs.inner.Queue.{most_shown}
 use Rattle.sp_sparse.proofs.Fronts.{front_is}

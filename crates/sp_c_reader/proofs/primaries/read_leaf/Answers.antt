@@ -8,7 +8,7 @@ use Rattle.sp_c_tokens.specs.Makers.{constant_form}
 use Rattle.sp_c_tokens.specs.Sorts.{sort_of}
 use Rattle.sp_c_tokens.specs.Scopes.{there}
 use Rattle.sp_c_reader.proofs.Leaves.{constant_leaf, name_leaf, texts_leaf, name_of}
-use Rattle.sp_c_reader.proofs.expressions.read_leaf.Goals as goal
+use Rattle.sp_c_reader.proofs.primaries.read_leaf.Goals as goal
 
 pub returns-in_ok-tree-in-Text : goal.returns-in_ok-tree-in-Text
 returns-in_ok-tree-in-Text c =

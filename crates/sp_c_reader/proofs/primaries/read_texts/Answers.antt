@@ -6,7 +6,7 @@ use Rattle.sp_c_tokens.specs.Codes.{sort_seen}
 use Rattle.sp_c_tokens.specs.Scopes.{there}
 use Rattle.sp_c_tokens.proofs.Viewing.{ended_text}
 use Rattle.sp_c_reader.proofs.Texts.{TextsSoFar, text_more, texts_read}
-use Rattle.sp_c_reader.proofs.expressions.read_texts.Goals as goal
+use Rattle.sp_c_reader.proofs.primaries.read_texts.Goals as goal
 
 pub texts-preserved : goal.texts-preserved
 texts-preserved c =

@@ -2,7 +2,7 @@
 use Rattle.std.proofs.Common.{◌≤◌, length}
 use Rattle.sp_c_tokens.specs.Ended.{IsEnded}
 use Rattle.sp_c_tokens.specs.Scopes.{there}
-use Rattle.sp_c_reader.proofs.expressions.read_texts.Given as goal
+use Rattle.sp_c_reader.proofs.primaries.read_texts.Given as goal
 use Rattle.sp_c_reader.proofs.Texts.{TextsSoFar}
 
 abbrev pub invariant-texts : goal.invariant-texts
