@@ -7,9 +7,9 @@ use Rattle.sp_interval.specs.declared.interval.Interval.{Interval}
 use Rattle.sp_interval.specs.declared.interval.Interval.TheVariants.{Empty}
 use Rattle.sp_interval.specs.Interval.{interval_le, whole, hull, IsFormed}
 use Rattle.sp_interval.proofs.Hulls.{hull-formed}
-use Rattle.engine_rows.specs.Vectors.{row_at}
+use Rattle.sp_lattice.specs.Flat.{vector_at}
 use Rattle.engine_rows.specs.Intervals.{IsNode, AreNodes, made, union, uncrossed, uncrossed-formed}
-use Rattle.engine_rows.proofs.Listed.{below_next, has_first, has_later, row_at-push_last, row_at-push_other, written-at}
+use Rattle.engine_rows.proofs.Listed.{below_next, has_first, has_later, vector_at-push_last, vector_at-push_other, written-at}
 
 module _ {A : Type 0} where
   get_or-push_last : (xs : List A) (x d : A) → get_or (xs ++ x ∷ []) (length xs) d ≡ x
@@ -41,20 +41,20 @@ nodes_more count nodes locations into defs uses begins adds i d u b a so_far nod
   fit = λ n low. at n (below_next n count low);
 }
   where
-    at : (n : ℕ) → (n < count) ⊎ (n ≡ count) → IsNode nodes locations (row_at (into ++ i ∷ []) n) (row_at (defs ++ d ∷ []) n) (row_at (uses ++ u ∷ []) n) (get_or (begins ++ b ∷ []) n Empty) (get_or (adds ++ a ∷ []) n Empty)
+    at : (n : ℕ) → (n < count) ⊎ (n ≡ count) → IsNode nodes locations (vector_at (into ++ i ∷ []) n) (vector_at (defs ++ d ∷ []) n) (vector_at (uses ++ u ∷ []) n) (get_or (begins ++ b ∷ []) n Empty) (get_or (adds ++ a ∷ []) n Empty)
     at n (inl low) =
-        same_node nodes locations (row_at into n) (row_at (into ++ i ∷ []) n) (row_at defs n) (row_at (defs ++ d ∷ []) n) (row_at uses n) (row_at (uses ++ u ∷ []) n) (get_or begins n Empty) (get_or (begins ++ b ∷ []) n Empty) (get_or adds n Empty) (get_or (adds ++ a ∷ []) n Empty)
-        (row_at-push_other into i n (omega (arith, low, so_far.into_long)))
-        (row_at-push_other defs d n (omega (arith, low, so_far.defs_long)))
-        (row_at-push_other uses u n (omega (arith, low, so_far.uses_long)))
+        same_node nodes locations (vector_at into n) (vector_at (into ++ i ∷ []) n) (vector_at defs n) (vector_at (defs ++ d ∷ []) n) (vector_at uses n) (vector_at (uses ++ u ∷ []) n) (get_or begins n Empty) (get_or (begins ++ b ∷ []) n Empty) (get_or adds n Empty) (get_or (adds ++ a ∷ []) n Empty)
+        (vector_at-push_other into i n (omega (arith, low, so_far.into_long)))
+        (vector_at-push_other defs d n (omega (arith, low, so_far.defs_long)))
+        (vector_at-push_other uses u n (omega (arith, low, so_far.uses_long)))
         (get_or-push_other begins b Empty n (omega (arith, low, so_far.begins_long)))
         (get_or-push_other adds a Empty n (omega (arith, low, so_far.adds_long)))
         (so_far.fit n low)
     at n (inr same) =
-        same_node nodes locations i.items (row_at (into ++ i ∷ []) n) d.items (row_at (defs ++ d ∷ []) n) u.items (row_at (uses ++ u ∷ []) n) b (get_or (begins ++ b ∷ []) n Empty) a (get_or (adds ++ a ∷ []) n Empty)
-        (ap (λ k. row_at (into ++ i ∷ []) k) (same ∙ sym so_far.into_long) ∙ row_at-push_last into i)
-        (ap (λ k. row_at (defs ++ d ∷ []) k) (same ∙ sym so_far.defs_long) ∙ row_at-push_last defs d)
-        (ap (λ k. row_at (uses ++ u ∷ []) k) (same ∙ sym so_far.uses_long) ∙ row_at-push_last uses u)
+        same_node nodes locations i.items (vector_at (into ++ i ∷ []) n) d.items (vector_at (defs ++ d ∷ []) n) u.items (vector_at (uses ++ u ∷ []) n) b (get_or (begins ++ b ∷ []) n Empty) a (get_or (adds ++ a ∷ []) n Empty)
+        (ap (λ k. vector_at (into ++ i ∷ []) k) (same ∙ sym so_far.into_long) ∙ vector_at-push_last into i)
+        (ap (λ k. vector_at (defs ++ d ∷ []) k) (same ∙ sym so_far.defs_long) ∙ vector_at-push_last defs d)
+        (ap (λ k. vector_at (uses ++ u ∷ []) k) (same ∙ sym so_far.uses_long) ∙ vector_at-push_last uses u)
         (ap (λ k. get_or (begins ++ b ∷ []) k Empty) (same ∙ sym so_far.begins_long) ∙ get_or-push_last begins b Empty)
         (ap (λ k. get_or (adds ++ a ∷ []) k Empty) (same ∙ sym so_far.adds_long) ∙ get_or-push_last adds a Empty)
         node

@@ -20,7 +20,7 @@ use Rattle.sp_interval.proofs.Betweens.{between-monotone}
 use Rattle.sp_interval.proofs.Hulls.{hull-formed, whole-above}
 use Rattle.sp_interval.proofs.Sums.{added-formed, added-monotone}
 use Rattle.sp_interval.proofs.Snapping.{held-formed, hull-held, snapped-held, snapped-monotone, rank-rises, rank-bound}
-use Rattle.engine_rows.specs.Vectors.{row_at}
+use Rattle.sp_lattice.specs.Flat.{vector_at}
 
 abbrev pub int_range : Range
 int_range = signed_range 32
@@ -219,4 +219,4 @@ pub record AreNodes (count nodes locations : ℕ) (into defs uses : List (Vec �
   pub uses_long : length uses ≡ count
   pub begins_long : length begins ≡ count
   pub adds_long : length adds ≡ count
-  pub fit : (n : ℕ) → n < count → IsNode nodes locations (row_at into n) (row_at defs n) (row_at uses n) (slice_index_or begins n Empty) (slice_index_or adds n Empty)
+  pub fit : (n : ℕ) → n < count → IsNode nodes locations (vector_at into n) (vector_at defs n) (vector_at uses n) (slice_index_or begins n Empty) (slice_index_or adds n Empty)

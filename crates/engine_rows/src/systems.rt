@@ -213,11 +213,11 @@ impl System for IntervalSystem {
     type Value = Interval;
 
     ghost use Rattle.std.specs.Prelude.{slice_index_or};
-    ghost use Rattle.engine_rows.specs.Vectors.{row_at};
+    ghost use Rattle.sp_lattice.specs.Flat.{vector_at};
     ghost use Rattle.engine_rows.specs.Intervals.{intervals_system, intervals_system_lawful};
 
     ghost meaning = { λ s. intervals_system s.nodes s.locations s.passing s.kept_back.items s.ladder
-        (row_at s.into.items) (row_at s.defs.items) (row_at s.uses.items)
+        (vector_at s.into.items) (vector_at s.defs.items) (vector_at s.uses.items)
         (λ n. slice_index_or s.begins.items n Empty) (λ n. slice_index_or s.adds.items n Empty) };
 
     fn nodes(&self) -> u32 {
@@ -265,7 +265,7 @@ impl System for IntervalSystem {
     }
 
     ghost lawful = { λ s. intervals_system_lawful s.nodes s.locations s.passing s.kept_back.items s.ladder
-        (row_at s.into.items) (row_at s.defs.items) (row_at s.uses.items)
+        (vector_at s.into.items) (vector_at s.defs.items) (vector_at s.uses.items)
         (λ n. slice_index_or s.begins.items n Empty) (λ n. slice_index_or s.adds.items n Empty)
         s.is_ladder s.few s.formed.fit };
 }

@@ -17,7 +17,8 @@ use Rattle.std.proofs.Common.{eqb, eqb-true}
 use Rattle.sp_lattice.specs.Row.{joined_rows, any_grows}
 use Rattle.sp_lattice.proofs.RowLaws.{length-joined_rows, le_from_no_growth, place_from_growth}
 use Rattle.sp_lattice.proofs.Stores.{table_of-get_or, table_of-set_same, table_of-set_other, store_of-joined_rows}
-use Rattle.sp_dense.specs.inner.Visit.{IsGrid, IsStore, IsSettled, Grows, Visits, HasSuccessors, IsWorking, Works, row_at}
+use Rattle.sp_lattice.specs.Flat.{vector_at}
+use Rattle.sp_dense.specs.inner.Visit.{IsGrid, IsStore, IsSettled, Grows, Visits, HasSuccessors, IsWorking, Works}
 use Rattle.sp_dense.specs.inner.Waiting.{Adds}
 use Rattle.sp_dense.proofs.Grids.{row_long, grid_set}
 
@@ -168,11 +169,11 @@ module _ {V : Type 0} (o : Order V) (m : Meaning V) (laws : IsLattice o) (sys : 
       ranks : total_rank m (table_of o.bottom after) ≡ total_rank m (table_of o.bottom before)
       ranks = total_rank-same o m laws sys (table_of o.bottom after) (table_of o.bottom before) (raised_still o m laws sys (table_of o.bottom before) (table_of o.bottom after) n low working.part visits.raises visits.grown)
 
-  pub works_on : (before after : List (Vec V Global)) (n : ℕ) (rest waiting : List ℕ) (lists : List (Vec ℕ Global)) (grew : Bool) → grew ≡ true → n < m.nodes → IsWorking o m (table_of o.bottom before) (n ∷ rest) → Visits o m before after n grew → HasSuccessors m lists → Adds rest waiting (row_at lists n) → length waiting ≤ length rest + m.nodes → Works o m before after rest waiting
+  pub works_on : (before after : List (Vec V Global)) (n : ℕ) (rest waiting : List ℕ) (lists : List (Vec ℕ Global)) (grew : Bool) → grew ≡ true → n < m.nodes → IsWorking o m (table_of o.bottom before) (n ∷ rest) → Visits o m before after n grew → HasSuccessors m lists → Adds rest waiting (vector_at lists n) → length waiting ≤ length rest + m.nodes → Works o m before after rest waiting
   works_on before after n rest waiting lists false e low working visits successors adds few = absurd (false≢true e)
   works_on before after n rest waiting lists true e low working visits successors adds few = record {
     grid = visits.grid;
-    working = working_on (table_of o.bottom before) (table_of o.bottom after) n rest waiting (row_at lists n) low working visits.raises adds (λ k k_low edge. successors.all n k k_low edge);
+    working = working_on (table_of o.bottom before) (table_of o.bottom after) n rest waiting (vector_at lists n) low working visits.raises adds (λ k k_low edge. successors.all n k k_low edge);
     higher = omega (arith, rises);
     paid = omega (arith, few, mul-le-mul_left {m = total_rank m (table_of o.bottom before) + 1} {n = total_rank m (table_of o.bottom after)} m.nodes rises);
   }

@@ -1,19 +1,16 @@
 -- The rows that the solver keeps, one store for each node, and what the visit of a node does to them.
-use Rattle.std.specs.Prelude.{◌≡◌, ◌<◌, ◌≤◌, ◌+◌, ◌*◌, ℕ, Bool, true, false, cond, List, [], map, length, slice_index_or, MatchBool, Vec}
+use Rattle.std.specs.Prelude.{◌≡◌, ◌<◌, ◌≤◌, ◌+◌, ◌*◌, ℕ, Bool, true, false, cond, List, length, MatchBool, Vec}
 use Rattle.std.specs.declared.alloc.Global.{Global}
 use Rattle.sp_lattice.specs.Lattice.{Order}
+use Rattle.sp_lattice.specs.Flat.{vector_at}
 use Rattle.sp_lattice.specs.System.{Meaning, Below, AllBelow, has}
 use Rattle.sp_lattice.specs.Dense.{Table, input, Partial, RaisesRow, store_of, table_of}
 use Rattle.sp_lattice.specs.Bound.{total_rank}
 
--- the values in a row
-abbrev pub row_at : {V : Type 0} → List (Vec V Global) → ℕ → List V
-row_at rows n = slice_index_or (map (λ row. row.items) rows) n []
-
 -- a row for each node, and in it a value for each location
 pub record IsGrid {V : Type 0} (m : Meaning V) (rows : List (Vec V Global)) : Type 0 where
   pub long : length rows ≡ m.nodes
-  pub rows_long : (n : ℕ) → n < m.nodes → length (row_at rows n) ≡ m.locations
+  pub rows_long : (n : ℕ) → n < m.nodes → length (vector_at rows n) ≡ m.locations
 
 -- the row has a store's value for each location
 pub record IsStore {V : Type 0} (o : Order V) (m : Meaning V) (row : List V) (store : ℕ → V) : Type 0 where
@@ -44,8 +41,8 @@ pub record Visits {V : Type 0} (o : Order V) (m : Meaning V) (before after : Lis
 -- for each node the nodes into which an edge leads from it
 pub record HasSuccessors {V : Type 0} (m : Meaning V) (lists : List (Vec ℕ Global)) : Type 0 where
   pub long : length lists ≡ m.nodes
-  pub low : (n : ℕ) → n < m.nodes → AllBelow m.nodes (row_at lists n)
-  pub all : (n k : ℕ) → k < m.nodes → has n (m.into k) ≡ true → has k (row_at lists n) ≡ true
+  pub low : (n : ℕ) → n < m.nodes → AllBelow m.nodes (vector_at lists n)
+  pub all : (n k : ℕ) → k < m.nodes → has n (m.into k) ≡ true → has k (vector_at lists n) ≡ true
 
 -- a table on the way to the least solution, in which each node that doesn't wait is settled
 pub record IsWorking {V : Type 0} (o : Order V) (m : Meaning V) (table : Table V) (waiting : List ℕ) : Type 0 where
