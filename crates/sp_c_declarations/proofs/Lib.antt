@@ -1,0 +1,2 @@
+pub mod InitSteps
+pub mod DeclarationSteps
