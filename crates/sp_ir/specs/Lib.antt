@@ -1,0 +1,12 @@
+pub mod Commands
+pub mod View
+pub mod Paths
+pub mod PathLaws
+pub mod Regions
+pub mod Programs
+pub mod Terrain
+pub mod TerrainLaws
+pub mod Functions
+pub mod Denoted
+pub mod Shapes
+pub mod Formed
