@@ -1,0 +1,15 @@
+pub mod Targets
+pub mod Known
+pub mod Tests
+pub mod Orders
+pub mod TargetLaws
+pub mod KnownLaws
+pub mod FormedLaws
+pub mod Slots
+pub mod SlotLaws
+pub mod Snapped
+pub mod Held
+pub mod HeldLaws
+pub mod Parts
+pub mod Kinds
+pub mod Locations
