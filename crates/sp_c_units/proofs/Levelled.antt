@@ -2,7 +2,7 @@
 --
 -- That each `else` is at its nearest `if` hangs on the token behind a statement: where that is an `else`, the statement doesn't
 -- end open, since the grammar would have given it the `else`.
-use Rattle.std.proofs.Common.{◌≡◌, ◌≤◌, ℕ, ◌+◌, Bool, true, false, List, [], ◌∷◌, ◌++◌, Option, Some, None, refl, sym, ap, ◌∙◌, subst, arith}
+use Rattle.std.proofs.Common.{◌≡◌, ◌≤◌, ℕ, Bool, true, false, List, [], ◌∷◌, ◌++◌, Option, Some, None, refl, sym, ap, ◌∙◌, subst, arith}
 use Rattle.std.proofs.lemmas.Bool.{false≢true}
 use Rattle.std.specs.Prelude.{⊤, if◌then◌else◌, ◌||◌, ◌&&◌, not}
 use Rattle.sp_syntax.specs.Syntax as syntax

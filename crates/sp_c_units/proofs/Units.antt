@@ -3,7 +3,7 @@ use Rattle.std.proofs.Common.{◌≡◌, ℕ, Bool, true, false, List, [], ◌�
 use Rattle.std.specs.Prelude.{⊤, if◌then◌else◌, is_some, ◌||◌, ◌&&◌, not}
 use Rattle.std.proofs.lemmas.List.{append_assoc, append-nil, map-append}
 use Rattle.sp_syntax.specs.Syntax as syntax
-use Rattle.sp_syntax.specs.Syntax.{Declarator, Statement, External, InitDeclarator}
+use Rattle.sp_syntax.specs.Syntax.{Declarator, Statement, External}
 use Rattle.sp_syntax.specs.Spelling.{specifiers_tokens, declarator_tokens, external_tokens, unit_tokens}
 use Rattle.sp_syntax.specs.Places.{PlacedDeclarator, PlacedExternal, PlacedUnit, behind, past}
 use Rattle.sp_syntax.specs.Levels.{declared_name}

@@ -1,5 +1,5 @@
 -- Which lowered programs are formed: all that they name is there, and their parts fit together.
-use Rattle.std.specs.Prelude.{◌≡◌, ◌≢◌, ℕ, ◌+◌, ◌-◌, ◌*◌, ◌^◌, ◌≤◌, ◌<◌, ◌||◌, ◌&&◌, Bool, true, false, List, [], ◌∷◌, ◌++◌, Option, Some, None, slice_get, length, All, Contains, is_some, ◌↔◌, ◌⊎◌, ℤ, pos, neg_ℤ, ◌≤ℤ◌, ⊤}
+use Rattle.std.specs.Prelude.{◌≡◌, ◌≢◌, ℕ, ◌+◌, ◌-◌, ◌*◌, ◌^◌, ◌≤◌, ◌<◌, ◌||◌, ◌&&◌, Bool, true, false, List, [], ◌∷◌, ◌++◌, Option, Some, None, slice_get, length, All, Contains, ◌↔◌, ◌⊎◌, ℤ, pos, neg_ℤ, ◌≤ℤ◌, ⊤}
 use Rattle.sp_tree.specs.declared.token.Punct.{Punct}
 use Rattle.sp_tree.specs.declared.token.Punct.TheVariants.{Star, Plus, Minus, Tilde, Slash, Percent, ShiftLeft, ShiftRight, Less, LessEqual, Greater, GreaterEqual, EqualEqual, NotEqual, Ampersand, Caret, Bar}
 use Rattle.sp_types.specs.declared.ctype.IntKind.{IntKind}
@@ -10,7 +10,7 @@ use Rattle.sp_types.specs.Structs.{IsTable, IsFormed as IsFormedType}
 use Rattle.sp_ir.specs.declared.command.Routine.{Routine}
 use Rattle.sp_ir.specs.declared.command.Routine.TheVariants.{Malloc, Calloc, Realloc, Free, Exit, Abort, Memset, Memcpy, Memmove, Strlen, Strcpy, Strncpy, Strcat}
 use Rattle.sp_ir.specs.declared.program.ObjectKind.{ObjectKind}
-use Rattle.sp_ir.specs.declared.program.ObjectKind.TheVariants.{Static, Outside, Text, Auto, Formal, Temp, Result, Function, Heap, Foreign}
+use Rattle.sp_ir.specs.declared.program.ObjectKind.TheVariants.{Static, Text, Auto, Formal, Temp, Result, Function, Heap, Foreign}
 use Rattle.sp_ir.specs.Commands.{Expression, number, address, decay, read, convert, unary, binary, compare, move, distance, Lvalue, direct, through, field, lvalue_type, expression_type, Leaf, Command, start, entry, exit, skip, assign, copy, init, assume, eval, call, return, library, outside, Node}
 use Rattle.sp_ir.specs.Regions.{Region, number_at}
 use Rattle.sp_ir.specs.Shapes.{Shape, Shapes, scalar, floating_shape, union_of, array_of, struct_of, no_shapes, next_shape, HasShape, region, regions, leaf_count, leaf_cell}

@@ -1,5 +1,5 @@
 -- The functions that a pointer calls.
-use Rattle.std.specs.Prelude.{ℕ, nat_eq, cond, List, length, Option, Some, None, slice_get}
+use Rattle.std.specs.Prelude.{ℕ, nat_eq, cond, length, Option, Some, None, slice_get}
 use Rattle.sp_ir.specs.Regions.{Region}
 use Rattle.sp_ir.specs.Programs.{Object, Code, Lowered}
 

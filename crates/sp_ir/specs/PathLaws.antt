@@ -4,7 +4,7 @@ use Rattle.std.proofs.lemmas.Bool.{false≢true}
 use Rattle.std.specs.Bool.{Decides, one_answer}
 use Rattle.std.specs.Option.{option_eq}
 use Rattle.std.specs.Cmp.{IsPartialEquivalence, IsEquivalence, decided, partial_equiv_from_equiv, unsigned_Decides, nat_eq_equiv, on_equiv, and_equiv, first_so, second_so}
-use Rattle.std.specs.Cmp.Lexicographic.{pointwise, pointwise_decides, lists_equiv, options_equiv}
+use Rattle.std.specs.Cmp.Lexicographic.{pointwise_decides, lists_equiv, options_equiv}
 use Rattle.sp_ir.specs.declared.region.Step.{Step}
 use Rattle.sp_ir.specs.declared.region.Step.TheVariants.{Field, Element}
 use Rattle.sp_ir.specs.Paths.{same_step, same_path, whole_path, step_input, place_input}

@@ -1,6 +1,6 @@
 -- Object types with their structs written out, and what regions, cells and leaves an object of such
 -- a type has (C90 6.1.2.5, 6.5.7).
-use Rattle.std.specs.Prelude.{◌≡◌, ℕ, ◌+◌, ◌*◌, ◌-◌, ◌%◌, nat_lt, Bool, true, false, List, [], ◌∷◌, ◌++◌, Option, Some, None, option_map, slice_get, if◌then◌else◌}
+use Rattle.std.specs.Prelude.{◌≡◌, ℕ, ◌+◌, ◌*◌, ◌-◌, ◌%◌, nat_lt, true, false, List, [], ◌∷◌, ◌++◌, Option, Some, None, option_map, slice_get, if◌then◌else◌}
 use Rattle.sp_types.specs.Types.{CType, integer, floating, pointer, array, structure, Struct}
 use Rattle.sp_ir.specs.declared.region.Step.{Step}
 use Rattle.sp_ir.specs.declared.region.Step.TheVariants.{Field, Element}

@@ -1,4 +1,4 @@
-use Rattle.std.proofs.Common.{sym, ◌∙◌, length, arith, ◌<◌}
+use Rattle.std.proofs.Common.{sym, length, arith, ◌<◌}
 use Rattle.sp_ir.specs.Regions.{region_list}
 use Rattle.sp_ir.proofs.Lookups.{many-some}
 use Rattle.sp_ir.proofs.regions.Regions.is_under_many.Goals as goal
