@@ -19,12 +19,14 @@
 
 mod gathering;
 mod kinds;
+mod lawful;
 mod locations;
 mod slots;
 mod targets;
 
 pub use gathering::{AtTarget, Part, gather};
 pub use kinds::range_of;
+pub use lawful::storing_is_lawful;
 pub use locations::{Locations, View};
 pub use slots::{Slot, Value};
 pub use targets::{Target, Targets};
