@@ -7,7 +7,7 @@ use Rattle.std.proofs.lemmas.Bool.{false≢true}
 use Rattle.std.specs.Prelude.{⊤, if◌then◌else◌, ◌||◌, ◌&&◌, not}
 use Rattle.sp_syntax.specs.Syntax as syntax
 use Rattle.sp_syntax.specs.Syntax.{Statement}
-use Rattle.sp_syntax.specs.Levels.{Scope, level, declares_types, is_variadic, names_type, has_else, ends_open, form_ends_open, else_ends_open, named_by, new_types, IsLevelled, IsLevelledStatement, IsLevelledStatementForm, IsLevelledElse, AreLevelledStatements, AreLevelledSpecifiers, may_declare, IsLevelledDeclarator, AreLevelledItems, IsLevelledExternal, AreLevelledExternals, outside}
+use Rattle.sp_syntax.specs.Levels.{Scope, level, declares_types, names_type, has_else, ends_open, form_ends_open, else_ends_open, named_by, new_types, IsLevelled, IsLevelledStatement, IsLevelledStatementForm, IsLevelledElse, AreLevelledStatements, AreLevelledSpecifiers, may_declare, IsLevelledDeclarator, AreLevelledItems, IsLevelledExternal, AreLevelledExternals, outside}
 use Rattle.sp_grammar.specs.CTokens as tokens
 use Rattle.sp_grammar.specs.CTokens.{Sort, view as viewed, is_mark}
 use Rattle.sp_grammar.specs.CTable as grammar

@@ -4,3 +4,12 @@ pub mod Units
 pub mod Between
 pub mod Shapes
 pub mod Levelled
+pub mod Steps
+pub mod PartsRead
+pub mod InitsRead
+pub mod DeclarationsRead
+pub mod NamesRead
+pub mod StatementsRead
+pub mod BlocksRead
+pub mod BareNames
+pub mod UnitsRead

@@ -1,1 +1,4 @@
 pub mod Units
+pub mod Answers
+pub mod Bare
+pub mod Complete

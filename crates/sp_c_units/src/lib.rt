@@ -11,11 +11,14 @@
 //! that of `if` and whose end that of the last `;`. In `if(a)if(b);else c;` the `else` is the inner
 //! one's: were it the outer one's, the inner `if` would end open before an `else`.
 //!
-//! Nothing uses it yet: that each levelled unit is read from its tokens is open.
+//! And each levelled statement, external declaration and unit is read from its tokens, before a
+//! token at which it may end (`unit_read`, proofs/UnitsRead.antt, by the steps of
+//! proofs/Steps.antt).
 #![tactic(auto)]
 
 ghost use Rattle.sp_c_units.specs.Units.{StatementsAreSpelled, ExternalsAreSpelled, UnitsAreSpelled};
 ghost use Rattle.sp_c_units.specs.Units.{StatementsAreLevelled, UnitsAreLevelled};
+ghost use Rattle.sp_c_units.specs.Complete.{InitsAreRead, DeclarationsAreRead, StatementsAreRead, ExternalsAreRead, UnitsAreRead};
 
 /// What is read of statements and units spells its tokens, with their places. The call does nothing.
 pub fn units_are_spelled()
@@ -28,4 +31,14 @@ pub fn units_are_spelled()
 pub fn units_are_levelled()
     ensures statements { StatementsAreLevelled }
     ensures units { UnitsAreLevelled }
+{}
+
+/// Each levelled initialiser, declaration, statement, external declaration and unit is read from
+/// its tokens, as itself but for its places. The call does nothing.
+pub fn units_are_read()
+    ensures initialisers { InitsAreRead }
+    ensures declarations { DeclarationsAreRead }
+    ensures statements { StatementsAreRead }
+    ensures externals { ExternalsAreRead }
+    ensures units { UnitsAreRead }
 {}
