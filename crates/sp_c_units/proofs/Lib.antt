@@ -13,3 +13,7 @@ pub mod StatementsRead
 pub mod BlocksRead
 pub mod BareNames
 pub mod UnitsRead
+pub mod BareUnits
+pub mod PlacingUnits
+pub mod WholeUnits
+pub mod UnitsAgain

@@ -1,23 +1,22 @@
 //! Laws of C90's statements, external declarations and units (C90 6.6, 6.7): laws alone.
 //!
-//! What the grammar reads of them spells its tokens, and each place in it is that of its token, as
-//! `sp_c_spelling` says of the parts. The fact is kept by each production of statements and units,
-//! where that of `sp_c_spelling` is known of their parts (`also_front`, proofs/Also.antt). It is
-//! levelled too, as `sp_c_grammar` says of the parts. That an `else` is at its nearest `if` hangs on
-//! the token behind a statement, so there a production knows the tokens before and after each part
-//! (`fact_of`, proofs/Between.antt).
+//! What the grammar reads of them spells its tokens, with their places (proofs/Also.antt), and is
+//! levelled. That an `else` is at its nearest `if` hangs on the token behind a statement, so there a
+//! production knows the tokens before and after each part (proofs/Between.antt). And each levelled
+//! one is read from its tokens, before a token at which it may end, step by step along the plans of
+//! the grammar (proofs/Steps.antt). So the grammar reads exactly the levelled units: what is read of
+//! a whole text is its one unit, and where it fails stands the failing token (specs/Answers.antt).
 //!
-//! For example what is read of `if(a);else b;` is a statement whose tokens are these, whose place is
-//! that of `if` and whose end that of the last `;`. In `if(a)if(b);else c;` the `else` is the inner
-//! one's: were it the outer one's, the inner `if` would end open before an `else`.
+//! For example `if(a)if(b);else c;` is read with the `else` at the inner `if`: were it the outer
+//! one's, the inner `if` would end open before an `else`. The text `int a;}` fails at its `}`: the
+//! text of some unit begins with `int a;`, that of none with `int a;}`. And `int a` fails at its end.
 //!
-//! And each levelled statement, external declaration and unit is read from its tokens, before a
-//! token at which it may end (`unit_read`, proofs/UnitsRead.antt, by the steps of
-//! proofs/Steps.antt).
+//! A parser of units uses `units_are_parsed`, from what the grammar reads to what it answers.
 #![tactic(auto)]
 
 ghost use Rattle.sp_c_units.specs.Units.{StatementsAreSpelled, ExternalsAreSpelled, UnitsAreSpelled};
 ghost use Rattle.sp_c_units.specs.Units.{StatementsAreLevelled, UnitsAreLevelled};
+ghost use Rattle.sp_c_units.specs.Answers.{UnitsAreParsed, UnitsAreReadAgain};
 ghost use Rattle.sp_c_units.specs.Complete.{InitsAreRead, DeclarationsAreRead, StatementsAreRead, ExternalsAreRead, UnitsAreRead};
 
 /// What is read of statements and units spells its tokens, with their places. The call does nothing.
@@ -41,4 +40,17 @@ pub fn units_are_read()
     ensures statements { StatementsAreRead }
     ensures externals { ExternalsAreRead }
     ensures units { UnitsAreRead }
+{}
+
+/// The grammar reads exactly the levelled units, where the text with its end fails stands the
+/// failing token, and where it nests the depth is passed: what a parser of units rests on. The call
+/// does nothing.
+pub fn units_are_parsed()
+    ensures { UnitsAreParsed }
+{}
+
+/// Levelled units of the same tokens are the same, and each is read again as itself: it is the one
+/// answer to its tokens. The call does nothing.
+pub fn units_are_read_again()
+    ensures { UnitsAreReadAgain }
 {}
