@@ -1,11 +1,9 @@
 -- Lists of locations and rows: what stands in them, and what is written at an ascending list's places.
-use Rattle.std.proofs.Common.{◌≡◌, ◌⊎◌, inl, inr, ℕ, zero, suc, ◌+◌, ◌<◌, ◌≤◌, Bool, true, false, cond, ◌||◌, nat_eq, List, [], ◌∷◌, ◌++◌, length, get_or, Vec, refl, ap, ◌∙◌, subst, arith}
-use Rattle.std.specs.declared.alloc.Global.{Global}
+use Rattle.std.proofs.Common.{◌≡◌, ◌⊎◌, ℕ, zero, suc, ◌+◌, ◌<◌, Bool, true, false, cond, ◌||◌, nat_eq, List, [], ◌∷◌, length, get_or, refl, ap, ◌∙◌, subst, arith}
 use Rattle.std.specs.List.Sorted.{IsStrictlyIncreasing}
 use Rattle.std.proofs.lemmas.Bool.Decides.{nat_tests}
 use Rattle.std.proofs.lemmas.List.Kept.{AllPairs-from_increasing}
 use Rattle.sp_lattice.specs.System.{has, written}
-use Rattle.sp_lattice.specs.Flat.{vector_at}
 
 pub below_next : (k n : ℕ) → k < n + 1 → (k < n) ⊎ (k ≡ n)
 below_next k n h = grind arith
@@ -29,15 +27,6 @@ rest_rises l ls rises k low =
     subst (λ j. get_or (l ∷ ls) (suc k) 0 < get_or (l ∷ ls) j 0) next (rises (suc k) (omega arith))
 
 module _ {V : Type 0} where
-  pub vector_at-push_last : (rows : List (Vec V Global)) (row : Vec V Global) → vector_at (rows ++ row ∷ []) (length rows) ≡ row.items
-  vector_at-push_last [] row = refl
-  vector_at-push_last (r ∷ rows) row = vector_at-push_last rows row
-
-  pub vector_at-push_other : (rows : List (Vec V Global)) (row : Vec V Global) (n : ℕ) → n < length rows → vector_at (rows ++ row ∷ []) n ≡ vector_at rows n
-  vector_at-push_other [] row n low = absurd (omega arith)
-  vector_at-push_other (r ∷ rows) row zero low = refl
-  vector_at-push_other (r ∷ rows) row (suc n) low = vector_at-push_other rows row n (omega arith)
-
   -- the value written at a place of an ascending list stands at its location
   pub written-at : (store : ℕ → V) (ls : List ℕ) (vs : List V) (p : ℕ) (d : V) → IsStrictlyIncreasing ls → p < length ls → p < length vs → written store ls vs (get_or ls p 0) ≡ get_or vs p d
   written-at store [] vs p d rises low v_low = absurd (omega arith)

@@ -1,15 +1,15 @@
 -- The systems that the rows tell, as they are made and evaluated.
-use Rattle.std.proofs.Common.{◌≡◌, ◌⊎◌, inl, inr, ℕ, ℤ, zero, suc, ◌+◌, ◌<◌, Bool, true, cond, List, [], ◌∷◌, ◌++◌, length, get_or, map, take, Vec, All, refl, sym, ap, ◌∙◌, subst, arith, length-append}
-use Rattle.std.specs.declared.alloc.Global.{Global}
+use Rattle.std.proofs.Common.{◌≡◌, ◌⊎◌, inl, inr, ℕ, ℤ, zero, suc, ◌+◌, ◌<◌, true, cond, List, [], ◌∷◌, ◌++◌, length, get_or, map, take, All, refl, sym, ap, ◌∙◌, subst, arith, length-append}
 use Rattle.std.specs.List.Sorted.{IsStrictlyIncreasing}
-use Rattle.sp_lattice.specs.System.{has, store_at, AllBelow, Below}
+use Rattle.sp_lattice.specs.System.{has, store_at, AllBelow}
 use Rattle.sp_interval.specs.declared.interval.Interval.{Interval}
 use Rattle.sp_interval.specs.declared.interval.Interval.TheVariants.{Empty}
 use Rattle.sp_interval.specs.Interval.{interval_le, whole, hull, IsFormed}
 use Rattle.sp_interval.proofs.Hulls.{hull-formed}
-use Rattle.sp_lattice.specs.Flat.{vector_at}
-use Rattle.engine_rows.specs.Intervals.{IsNode, AreNodes, made, union, uncrossed, uncrossed-formed}
-use Rattle.engine_rows.proofs.Listed.{below_next, has_first, has_later, vector_at-push_last, vector_at-push_other, written-at}
+use Rattle.sp_lattice.specs.Flat.{row_at}
+use Rattle.engine_rows.specs.declared.systems.Bounds.{Bounds}
+use Rattle.engine_rows.specs.Intervals.{interval_of, interval_at, IsNode, AreNodes, made, union, uncrossed, uncrossed-formed}
+use Rattle.engine_rows.proofs.Listed.{below_next, has_first, has_later, written-at}
 
 module _ {A : Type 0} where
   get_or-push_last : (xs : List A) (x d : A) → get_or (xs ++ x ∷ []) (length xs) d ≡ x
@@ -21,6 +21,15 @@ module _ {A : Type 0} where
   get_or-push_other (y ∷ xs) x d zero low = refl
   get_or-push_other (y ∷ xs) x d (suc n) low = get_or-push_other xs x d n (omega arith)
 
+interval_at-push_last : (all : List Bounds) (b : Bounds) → interval_at (all ++ b ∷ []) (length all) ≡ interval_of b
+interval_at-push_last [] b = refl
+interval_at-push_last (c ∷ all) b = interval_at-push_last all b
+
+interval_at-push_other : (all : List Bounds) (b : Bounds) (n : ℕ) → n < length all → interval_at (all ++ b ∷ []) n ≡ interval_at all n
+interval_at-push_other [] b n low = absurd (omega arith)
+interval_at-push_other (c ∷ all) b zero low = refl
+interval_at-push_other (c ∷ all) b (suc n) low = interval_at-push_other all b n (omega arith)
+
 -- a node is in order where its parts are equal to those of one that is
 same_node : (nodes locations : ℕ) (into into' defs defs' uses uses' : List ℕ) (begins begins' adds adds' : Interval) → into' ≡ into → defs' ≡ defs → uses' ≡ uses → begins' ≡ begins → adds' ≡ adds → IsNode nodes locations into defs uses begins adds → IsNode nodes locations into' defs' uses' begins' adds'
 same_node nodes locations into into' defs defs' uses uses' begins begins' adds adds' into_is defs_is uses_is begins_is adds_is node =
@@ -31,7 +40,7 @@ same_node nodes locations into into' defs defs' uses uses' begins begins' adds a
     (subst (λ x. IsNode nodes locations into defs uses begins x) (sym adds_is) node))))
 
 -- one more node behind the others
-nodes_more : (count nodes locations : ℕ) (into defs uses : List (Vec ℕ Global)) (begins adds : List Interval) (i d u : Vec ℕ Global) (b a : Interval) → AreNodes count nodes locations into defs uses begins adds → IsNode nodes locations i.items d.items u.items b a → AreNodes (count + 1) nodes locations (into ++ i ∷ []) (defs ++ d ∷ []) (uses ++ u ∷ []) (begins ++ b ∷ []) (adds ++ a ∷ [])
+nodes_more : (count nodes locations : ℕ) (into defs uses : List (List ℕ)) (begins adds : List Bounds) (i d u : List ℕ) (b a : Bounds) → AreNodes count nodes locations into defs uses begins adds → IsNode nodes locations i d u (interval_of b) (interval_of a) → AreNodes (count + 1) nodes locations (into ++ i ∷ []) (defs ++ d ∷ []) (uses ++ u ∷ []) (begins ++ b ∷ []) (adds ++ a ∷ [])
 nodes_more count nodes locations into defs uses begins adds i d u b a so_far node = record {
   into_long = omega (arith, length-append into (i ∷ []), so_far.into_long);
   defs_long = omega (arith, length-append defs (d ∷ []), so_far.defs_long);
@@ -41,26 +50,26 @@ nodes_more count nodes locations into defs uses begins adds i d u b a so_far nod
   fit = λ n low. at n (below_next n count low);
 }
   where
-    at : (n : ℕ) → (n < count) ⊎ (n ≡ count) → IsNode nodes locations (vector_at (into ++ i ∷ []) n) (vector_at (defs ++ d ∷ []) n) (vector_at (uses ++ u ∷ []) n) (get_or (begins ++ b ∷ []) n Empty) (get_or (adds ++ a ∷ []) n Empty)
+    at : (n : ℕ) → (n < count) ⊎ (n ≡ count) → IsNode nodes locations (row_at (into ++ i ∷ []) n) (row_at (defs ++ d ∷ []) n) (row_at (uses ++ u ∷ []) n) (interval_at (begins ++ b ∷ []) n) (interval_at (adds ++ a ∷ []) n)
     at n (inl low) =
-        same_node nodes locations (vector_at into n) (vector_at (into ++ i ∷ []) n) (vector_at defs n) (vector_at (defs ++ d ∷ []) n) (vector_at uses n) (vector_at (uses ++ u ∷ []) n) (get_or begins n Empty) (get_or (begins ++ b ∷ []) n Empty) (get_or adds n Empty) (get_or (adds ++ a ∷ []) n Empty)
-        (vector_at-push_other into i n (omega (arith, low, so_far.into_long)))
-        (vector_at-push_other defs d n (omega (arith, low, so_far.defs_long)))
-        (vector_at-push_other uses u n (omega (arith, low, so_far.uses_long)))
-        (get_or-push_other begins b Empty n (omega (arith, low, so_far.begins_long)))
-        (get_or-push_other adds a Empty n (omega (arith, low, so_far.adds_long)))
+        same_node nodes locations (row_at into n) (row_at (into ++ i ∷ []) n) (row_at defs n) (row_at (defs ++ d ∷ []) n) (row_at uses n) (row_at (uses ++ u ∷ []) n) (interval_at begins n) (interval_at (begins ++ b ∷ []) n) (interval_at adds n) (interval_at (adds ++ a ∷ []) n)
+        (get_or-push_other into i [] n (omega (arith, low, so_far.into_long)))
+        (get_or-push_other defs d [] n (omega (arith, low, so_far.defs_long)))
+        (get_or-push_other uses u [] n (omega (arith, low, so_far.uses_long)))
+        (interval_at-push_other begins b n (omega (arith, low, so_far.begins_long)))
+        (interval_at-push_other adds a n (omega (arith, low, so_far.adds_long)))
         (so_far.fit n low)
     at n (inr same) =
-        same_node nodes locations i.items (vector_at (into ++ i ∷ []) n) d.items (vector_at (defs ++ d ∷ []) n) u.items (vector_at (uses ++ u ∷ []) n) b (get_or (begins ++ b ∷ []) n Empty) a (get_or (adds ++ a ∷ []) n Empty)
-        (ap (λ k. vector_at (into ++ i ∷ []) k) (same ∙ sym so_far.into_long) ∙ vector_at-push_last into i)
-        (ap (λ k. vector_at (defs ++ d ∷ []) k) (same ∙ sym so_far.defs_long) ∙ vector_at-push_last defs d)
-        (ap (λ k. vector_at (uses ++ u ∷ []) k) (same ∙ sym so_far.uses_long) ∙ vector_at-push_last uses u)
-        (ap (λ k. get_or (begins ++ b ∷ []) k Empty) (same ∙ sym so_far.begins_long) ∙ get_or-push_last begins b Empty)
-        (ap (λ k. get_or (adds ++ a ∷ []) k Empty) (same ∙ sym so_far.adds_long) ∙ get_or-push_last adds a Empty)
+        same_node nodes locations i (row_at (into ++ i ∷ []) n) d (row_at (defs ++ d ∷ []) n) u (row_at (uses ++ u ∷ []) n) (interval_of b) (interval_at (begins ++ b ∷ []) n) (interval_of a) (interval_at (adds ++ a ∷ []) n)
+        (ap (λ k. row_at (into ++ i ∷ []) k) (same ∙ sym so_far.into_long) ∙ get_or-push_last into i [])
+        (ap (λ k. row_at (defs ++ d ∷ []) k) (same ∙ sym so_far.defs_long) ∙ get_or-push_last defs d [])
+        (ap (λ k. row_at (uses ++ u ∷ []) k) (same ∙ sym so_far.uses_long) ∙ get_or-push_last uses u [])
+        (ap (λ k. interval_at (begins ++ b ∷ []) k) (same ∙ sym so_far.begins_long) ∙ interval_at-push_last begins b)
+        (ap (λ k. interval_at (adds ++ a ∷ []) k) (same ∙ sym so_far.adds_long) ∙ interval_at-push_last adds a)
         node
 
 -- the same of lists that were pushed
-pub nodes_pushed : (nodes locations : ℕ) (into into' defs defs' uses uses' : List (Vec ℕ Global)) (begins begins' adds adds' : List Interval) (i d u : Vec ℕ Global) (b a : Interval) → AreNodes (length into) nodes locations into defs uses begins adds → IsNode nodes locations i.items d.items u.items b a
+pub nodes_pushed : (nodes locations : ℕ) (into into' defs defs' uses uses' : List (List ℕ)) (begins begins' adds adds' : List Bounds) (i d u : List ℕ) (b a : Bounds) → AreNodes (length into) nodes locations into defs uses begins adds → IsNode nodes locations i d u (interval_of b) (interval_of a)
     → into' ≡ into ++ i ∷ [] → defs' ≡ defs ++ d ∷ [] → uses' ≡ uses ++ u ∷ [] → begins' ≡ begins ++ b ∷ [] → adds' ≡ adds ++ a ∷ [] → AreNodes (length into') nodes locations into' defs' uses' begins' adds'
 nodes_pushed nodes locations into into' defs defs' uses uses' begins begins' adds adds' i d u b a so_far node into_is defs_is uses_is begins_is adds_is =
     subst (λ x. AreNodes (length into') nodes locations into' defs' uses' begins' x) (sym adds_is)

@@ -1,6 +1,5 @@
 -- The systems that the rows tell: over intervals, with nodes that begin values and add to those that reach them.
-use Rattle.std.specs.Prelude.{◌≡◌, ◌<◌, ◌≤ℤ◌, ◌^◌, ◌||◌, ◌&&◌, ◌+◌, ℕ, ℤ, Bool, true, false, not, cond, nat_eq, nat_lt, List, [], ◌∷◌, map, fold, length, slice_index_or, refl, Vec, int_le}
-use Rattle.std.specs.declared.alloc.Global.{Global}
+use Rattle.std.specs.Prelude.{◌≡◌, ◌<◌, ◌≤ℤ◌, ◌^◌, ◌||◌, ◌&&◌, ◌+◌, ℕ, ℤ, Bool, true, false, not, cond, nat_eq, nat_lt, List, [], ◌∷◌, map, fold, length, slice_index_or, refl, int_le}
 use Rattle.std.specs.List.{list_any}
 use Rattle.std.specs.List.Sorted.{IsStrictlyIncreasing}
 use Rattle.std.proofs.Common.{suc, ap, ◌∙◌, sym, subst, arith, eqb-true, rules}
@@ -11,7 +10,7 @@ use Rattle.sp_lattice.specs.declared.ranges.Range.{Range}
 use Rattle.sp_lattice.specs.Ladder.{IsLadder, lowest, highest}
 use Rattle.sp_lattice.specs.Range.{IsIntegerRange, signed_range}
 use Rattle.sp_lattice.specs.System.{Meaning, IsSystem, AllBelow, Below, Held, has}
-use Rattle.sp_lattice.proofs.Snaps.{int_le_true, le_from_int_le}
+use Rattle.sp_lattice.proofs.Snaps.{le_from_int_le}
 use Rattle.sp_interval.specs.declared.interval.Interval.{Interval}
 use Rattle.sp_interval.specs.declared.interval.Interval.TheVariants.{Empty, Of}
 use Rattle.sp_interval.specs.Interval.{interval_le, interval_order, hull, between, whole, IsFormed, IsHeld, added, snapped, rank_of}
@@ -20,7 +19,8 @@ use Rattle.sp_interval.proofs.Betweens.{between-monotone}
 use Rattle.sp_interval.proofs.Hulls.{hull-formed, whole-above}
 use Rattle.sp_interval.proofs.Sums.{added-formed, added-monotone}
 use Rattle.sp_interval.proofs.Snapping.{held-formed, hull-held, snapped-held, snapped-monotone, rank-rises, rank-bound}
-use Rattle.sp_lattice.specs.Flat.{vector_at}
+use Rattle.sp_lattice.specs.Flat.{row_at}
+use Rattle.engine_rows.specs.declared.systems.Bounds.{Bounds}
 
 abbrev pub int_range : Range
 int_range = signed_range 32
@@ -212,11 +212,19 @@ module _ (nodes locations passing : ℕ) (kept_back : List (ℕ × ℕ × ℕ)) 
           by true = made_held n (reached n s) n_low (reached-formed n s n_low under)
           by false = held l l_low
 
+-- the numbers from the lower bound to the upper one; none where they cross
+abbrev pub interval_of : Bounds → Interval
+interval_of b = between b.lo b.hi
+
+-- the interval of a node; none past the last
+abbrev pub interval_at : List Bounds → ℕ → Interval
+interval_at all n = slice_index_or (map interval_of all) n Empty
+
 -- lists for so many nodes, each in order
-pub record AreNodes (count nodes locations : ℕ) (into defs uses : List (Vec ℕ Global)) (begins adds : List Interval) : Type 0 where
+pub record AreNodes (count nodes locations : ℕ) (into defs uses : List (List ℕ)) (begins adds : List Bounds) : Type 0 where
   pub into_long : length into ≡ count
   pub defs_long : length defs ≡ count
   pub uses_long : length uses ≡ count
   pub begins_long : length begins ≡ count
   pub adds_long : length adds ≡ count
-  pub fit : (n : ℕ) → n < count → IsNode nodes locations (vector_at into n) (vector_at defs n) (vector_at uses n) (slice_index_or begins n Empty) (slice_index_or adds n Empty)
+  pub fit : (n : ℕ) → n < count → IsNode nodes locations (row_at into n) (row_at defs n) (row_at uses n) (interval_at begins n) (interval_at adds n)

@@ -1,8 +1,7 @@
 //! Random systems over intervals.
 ghost use Rattle.std.specs.Prelude.{◌<◌, length};
 
-use crate::systems::{IntervalSystem, Node, exactly};
-use sp_interval::Interval;
+use crate::systems::{Bounds, IntervalSystem, Node, exactly};
 use sp_sparse::Picker;
 use std::alloc::{AllocError, Global};
 
@@ -81,22 +80,22 @@ fn ascending(
 const CONSTANTS: [i128; 4] = [-3, 0, 5, 40];
 
 /// None, or one of the constants.
-fn begun(random: &mut Random) -> Interval {
+fn begun(random: &mut Random) -> Bounds {
     match random.below(8) {
         0 => exactly(-3),
         1 => exactly(0),
         2 => exactly(5),
         3 => exactly(40),
-        _ => Interval::Empty,
+        _ => Bounds::NONE,
     }
 }
 
 /// What is added to a value: mostly nothing.
-fn added(random: &mut Random) -> Interval {
+fn added(random: &mut Random) -> Bounds {
     match random.below(6) {
         0 => exactly(1),
         1 => exactly(-2),
-        2 => Interval::Of { lo: -1, hi: 1 },
+        2 => Bounds { lo: -1, hi: 1 },
         _ => exactly(0),
     }
 }
@@ -150,7 +149,7 @@ pub(crate) fn hub(alloc: Global, count: u32) -> Result<Option<IntervalSystem>, A
         into: spokes,
         defs: Vec::new(alloc),
         uses: Vec::new(alloc),
-        begins: Interval::Empty,
+        begins: Bounds::NONE,
         adds: exactly(0),
     })?;
     for _ in 1..count {
@@ -158,7 +157,7 @@ pub(crate) fn hub(alloc: Global, count: u32) -> Result<Option<IntervalSystem>, A
             into: vec![in alloc; 0u32]?,
             defs: vec![in alloc; 0u32]?,
             uses: vec![in alloc; 0u32]?,
-            begins: Interval::Empty,
+            begins: Bounds::NONE,
             adds: exactly(0),
         })?;
     }

@@ -1,6 +1,6 @@
 //! Reads the fields of a row.
 
-use crate::systems::{IntervalSystem, Node};
+use crate::systems::{Bounds, IntervalSystem, Node};
 use anyhow::Context;
 use sp_interval::Interval;
 use std::alloc::Global;
@@ -18,14 +18,14 @@ pub(crate) fn numbers(alloc: Global, text: &str) -> anyhow::Result<Vec<u32>> {
 }
 
 /// An interval, as two bounds with two dots between them.
-fn interval(text: &str) -> anyhow::Result<Interval> {
+fn bounds(text: &str) -> anyhow::Result<Bounds> {
     if text == "-" {
-        return Ok(Interval::Empty);
+        return Ok(Bounds::NONE);
     }
     let (lo, hi) = text.split_once("..").context("an interval without dots")?;
-    Ok(Interval::Of {
-        lo: i128::from(lo.parse::<i64>()?),
-        hi: i128::from(hi.parse::<i64>()?),
+    Ok(Bounds {
+        lo: lo.parse::<i64>()?,
+        hi: hi.parse::<i64>()?,
     })
 }
 
@@ -33,7 +33,7 @@ fn interval(text: &str) -> anyhow::Result<Interval> {
 pub(crate) fn intervals(alloc: Global, text: &str) -> anyhow::Result<Vec<Interval>> {
     let mut intervals = Vec::new(alloc);
     for word in text.split(";") {
-        intervals.push(interval(word)?)?;
+        intervals.push(bounds(word)?.interval())?;
     }
     Ok(intervals)
 }
@@ -80,8 +80,8 @@ fn node(alloc: Global, text: &str) -> anyhow::Result<Node> {
         into: numbers(alloc, into)?,
         defs: numbers(alloc, defs)?,
         uses: numbers(alloc, uses)?,
-        begins: interval(begins)?,
-        adds: interval(adds)?,
+        begins: bounds(begins)?,
+        adds: bounds(adds)?,
     })
 }
 

@@ -6,9 +6,10 @@ ghost use Rattle.sp_lattice.specs.Ladder.{IsLadder, IsLadder-prop};
 ghost use Rattle.sp_lattice.specs.System.{AllBelow};
 ghost use Rattle.sp_interval.specs.declared.interval.Interval.TheVariants.{Empty};
 ghost use Rattle.sp_interval.specs.Interval.{interval_le, IsFormed, whole};
-ghost use Rattle.engine_rows.specs.Intervals.{is_formed, uncrossed, union, made, same_triple, IsNode, AreNodes};
+ghost use Rattle.engine_rows.specs.Intervals.{is_formed, uncrossed, union, made, same_triple, interval_of, IsNode, AreNodes};
 
 use sp_interval::Interval;
+use sp_lattice::rows::Rows;
 use sp_lattice::{Ladder, Lattice, Range, Steps, System};
 use std::alloc::{AllocError, Global};
 use std::sync::ledger::Ledger;
@@ -20,15 +21,40 @@ pub(crate) struct IntervalSystem {
     locations: u32,
     passing: u32,
     kept_back: Vec<(u32, u32, u32)>,
-    into: Vec<Vec<u32>>,
-    defs: Vec<Vec<u32>>,
-    uses: Vec<Vec<u32>>,
-    begins: Vec<Interval>,
-    adds: Vec<Interval>,
+    into: Rows<u32>,
+    defs: Rows<u32>,
+    uses: Rows<u32>,
+    begins: Vec<Bounds>,
+    adds: Vec<Bounds>,
     ladder: Ladder,
     ghost is_ladder: { IsLadder ladder } by { IsLadder-prop ladder },
     ghost few: { length ladder < 2 ^ 16 },
-    ghost formed: { AreNodes nodes nodes locations into.items defs.items uses.items begins.items adds.items },
+    ghost formed: { AreNodes nodes nodes locations into defs uses begins.items adds.items },
+}
+
+/// An interval whose bounds have 64 bits: a third of the room of an [`Interval`].
+#[derive(Clone, Copy)]
+pub(crate) struct Bounds {
+    pub(crate) lo: i64,
+    pub(crate) hi: i64,
+}
+
+impl Bounds {
+    /// No number: the bounds cross.
+    pub(crate) const NONE: Bounds = Bounds { lo: 1, hi: 0 };
+
+    /// The numbers from the lower bound to the upper one.
+    pub(crate) fn interval(self) -> Interval
+        ensures { result ≡ interval_of self }
+    {
+        let lo = i128::from(self.lo);
+        let hi = i128::from(self.hi);
+        if lo <= hi {
+            Interval::Of { lo, hi }
+        } else {
+            Interval::Empty
+        }
+    }
 }
 
 /// What a node is: the nodes from which edges lead, its definitions and uses, the value that it begins, and what it adds to
@@ -38,14 +64,14 @@ pub(crate) struct Node {
     pub(crate) into: Vec<u32>,
     pub(crate) defs: Vec<u32>,
     pub(crate) uses: Vec<u32>,
-    pub(crate) begins: Interval,
-    pub(crate) adds: Interval,
+    pub(crate) begins: Bounds,
+    pub(crate) adds: Bounds,
 }
 
-/// The interval of one number.
-pub(crate) fn exactly(number: i32) -> Interval {
-    let bound = i128::from(number);
-    Interval::Of {
+/// The bounds of one number.
+pub(crate) fn exactly(number: i32) -> Bounds {
+    let bound = i64::from(number);
+    Bounds {
         lo: bound,
         hi: bound,
     }
@@ -66,18 +92,19 @@ impl IntervalSystem {
         let Ok(count) = u32::try_from(nodes.len()) else {
             return Ok(None);
         };
-        let mut into = Vec::new(alloc);
-        let mut defs = Vec::new(alloc);
-        let mut uses = Vec::new(alloc);
+        let room = nodes.len();
+        let mut into = Rows::with_capacity(alloc, room, room)?;
+        let mut defs = Rows::with_capacity(alloc, room, room)?;
+        let mut uses = Rows::with_capacity(alloc, room, room)?;
         let mut begins = Vec::new(alloc);
         let mut adds = Vec::new(alloc);
         for node in nodes {
             if !is_node(&node, count, locations) {
                 return Ok(None);
             }
-            into.push(node.into)?;
-            defs.push(node.defs)?;
-            uses.push(node.uses)?;
+            into.push_row(&node.into)?;
+            defs.push_row(&node.defs)?;
+            uses.push_row(&node.uses)?;
             begins.push(node.begins)?;
             adds.push(node.adds)?;
         }
@@ -116,15 +143,16 @@ impl IntervalSystem {
 
 /// Whether a node's lists and values are in order.
 fn is_node(node: &Node, nodes: u32, locations: u32) -> bool
-    ensures { result ≡ true → IsNode nodes locations node.now.into.items node.now.defs.items node.now.uses.items node.now.begins node.now.adds }
+    ensures { result ≡ true → IsNode nodes locations node.now.into.items node.now.defs.items node.now.uses.items
+        (interval_of node.now.begins) (interval_of node.now.adds) }
 {
     all_below(&node.into, nodes)
         && is_ascending(&node.defs)
         && all_below(&node.defs, locations)
         && is_ascending(&node.uses)
         && all_below(&node.uses, locations)
-        && is_formed(node.begins)
-        && is_formed(node.adds)
+        && is_formed(node.begins.interval())
+        && is_formed(node.adds.interval())
 }
 
 /// Whether the bounds are in order, and within those of all that is stored.
@@ -212,13 +240,11 @@ fn made_of(ladder: &Ladder, begins: Interval, adds: Interval, reached: Interval)
 impl System for IntervalSystem {
     type Value = Interval;
 
-    ghost use Rattle.std.specs.Prelude.{slice_index_or};
-    ghost use Rattle.sp_lattice.specs.Flat.{vector_at};
-    ghost use Rattle.engine_rows.specs.Intervals.{intervals_system, intervals_system_lawful};
+    ghost use Rattle.sp_lattice.specs.Flat.{row_at};
+    ghost use Rattle.engine_rows.specs.Intervals.{intervals_system, intervals_system_lawful, interval_at};
 
     ghost meaning = { λ s. intervals_system s.nodes s.locations s.passing s.kept_back.items s.ladder
-        (vector_at s.into.items) (vector_at s.defs.items) (vector_at s.uses.items)
-        (λ n. slice_index_or s.begins.items n Empty) (λ n. slice_index_or s.adds.items n Empty) };
+        (row_at s.into) (row_at s.defs) (row_at s.uses) (interval_at s.begins.items) (interval_at s.adds.items) };
 
     fn nodes(&self) -> u32 {
         self.nodes
@@ -229,7 +255,7 @@ impl System for IntervalSystem {
     }
 
     fn edges_into(&self, node: u32) -> &[u32] {
-        &self.into[node as usize]
+        self.into.row(node as usize)
     }
 
     fn passes(&self, from: u32, to: u32, location: u32) -> bool {
@@ -238,11 +264,11 @@ impl System for IntervalSystem {
     }
 
     fn defs(&self, node: u32) -> &[u32] {
-        &self.defs[node as usize]
+        self.defs.row(node as usize)
     }
 
     fn uses(&self, node: u32) -> &[u32] {
-        &self.uses[node as usize]
+        self.uses.row(node as usize)
     }
 
     fn evaluate<L: Ledger>(
@@ -254,8 +280,8 @@ impl System for IntervalSystem {
         steps: &mut Steps<L>,
     ) -> Result<(), AllocError> {
         steps.tick();
-        let begins = self.begins[node as usize];
-        let adds = self.adds[node as usize];
+        let begins = self.begins[node as usize].interval();
+        let adds = self.adds[node as usize].interval();
         let reached = union_of(alloc, input)?;
         let value = made_of(&self.ladder, begins, adds, reached);
         for interval in output.iter_mut() {
@@ -265,7 +291,6 @@ impl System for IntervalSystem {
     }
 
     ghost lawful = { λ s. intervals_system_lawful s.nodes s.locations s.passing s.kept_back.items s.ladder
-        (vector_at s.into.items) (vector_at s.defs.items) (vector_at s.uses.items)
-        (λ n. slice_index_or s.begins.items n Empty) (λ n. slice_index_or s.adds.items n Empty)
+        (row_at s.into) (row_at s.defs) (row_at s.uses) (interval_at s.begins.items) (interval_at s.adds.items)
         s.is_ladder s.few s.formed.fit };
 }

@@ -1,9 +1,10 @@
 mod Adding
 mod Bools
 mod Finding
+mod Grouping
+mod Growing
 pub mod Held
 mod Lists
 mod Searches
 mod Using
-mod Views
 mod Walks

@@ -25,9 +25,9 @@ is_before p q = nat_lt p.0 q.0 || nat_eq p.0 q.0 && nat_lt p.1 q.1
 abbrev pub Ascends : List (ℕ × ℕ) → Type 0
 Ascends pairs = AllPairs (λ p q. is_before p q ≡ true) pairs
 
--- the rows with one more pair at the end of a node's row
-abbrev pub added : List (List (ℕ × ℕ)) → ℕ → ℕ × ℕ → List (List (ℕ × ℕ))
-added rows from pair = slice_set rows from (leaving rows from ++ pair ∷ [])
+-- the rows with one more item at the end of one of them
+abbrev pub added : {A : Type 0} → List (List A) → ℕ → A → List (List A)
+added rows n item = slice_set rows n (slice_index_or rows n [] ++ item ∷ [])
 
 -- the most dependencies that are kept
 abbrev pub most_dependencies : ℕ

@@ -1,4 +1,5 @@
 -- What is kept while dependencies are found; no public contract cites it.
+pub mod Grouped
 pub mod Kept
 pub mod Users
 pub mod Walk

@@ -28,9 +28,9 @@ pub fn dependencies<S: System>(alloc: Global, system: &S) -> Result<Deps, DepErr
     let users = users(alloc, system)?;
     let mut walk = fresh_walk(alloc, system.nodes())?;
     let mut earlier = Earlier::none(alloc, system.nodes())?;
-    let mut deps = Growing::none(alloc, system.nodes())?;
+    let mut deps = Growing::none(alloc, system.nodes());
     'locations: for location in 0..system.locations() {
-        let targets = &users[location as usize];
+        let targets = users.row(location as usize);
         earlier.clear();
         add_location(
             alloc,

@@ -28,6 +28,7 @@
 
 mod collect;
 mod earlier;
+mod groups;
 mod triples;
 mod users;
 mod walk;

@@ -2,6 +2,7 @@
 ghost use Rattle.std.specs.Prelude.{◌≡◌, ◌≤◌, ◌<◌, ◌+◌, ℕ, true, length, All, replicate, [], nat_eq, IfOk, OnOk};
 ghost use Rattle.sp_deps.specs.Rows.{leaving, held, total, is_before, Ascends, added, most_dependencies};
 
+use crate::groups::grouped;
 use sp_lattice::rows::Rows;
 use std::alloc::{AllocError, Global};
 use std::marker::Model;
@@ -94,51 +95,54 @@ impl Deps {
         }
     }
 
-    /// Lays the rows of what was found one behind another.
+    /// What was found, with the pairs laid out by the nodes that they leave.
     pub(crate) fn laid(alloc: Global, found: &Growing) -> Result<Deps, AllocError>
         ensures { IfOk result (λ deps. deps ≡ found.now) }
     {
-        let mut rows = Rows::with_capacity(alloc, found.rows.len(), found.count as usize)?;
-        for row in &found.rows {
-            rows.push_row(row)?;
-        }
+        let count = found.pairs.len();
+        let froms = &found.froms[..count];
+        let rows = grouped(alloc, found.nodes, froms, &found.pairs)?;
         Ok(Deps {
             alloc,
             rows,
-            count: found.count,
+            count: count as u64,
         })
     }
 }
 
-/// Dependencies while they are found: a row for each node, each in a list of its own.
+/// Dependencies while they are found, in the order in which they are: for each the node that it leaves,
+/// and the pair of location and target.
+///
+/// Where memory ran out, a node may stand behind those of the pairs: it counts for nothing.
 #[derive(Drop)]
 pub(crate) struct Growing {
-    rows: Vec<Vec<(u32, u32)>>,
-    count: u64,
+    nodes: usize,
+    froms: Vec<u32>,
+    pairs: Vec<(u32, u32)>,
 }
 
 impl Model for Growing {
-    ghost use Rattle.std.specs.Prelude.{List, ℕ, map};
+    ghost use Rattle.std.specs.Prelude.{List, ℕ};
+    ghost use Rattle.sp_deps.specs.inner.Grouped.{grouped};
+    ghost use Rattle.sp_deps.specs.inner.Kept.{IsGrowing};
 
     ghost Value = { List (List (ℕ × ℕ)) };
 
-    ghost use Rattle.sp_deps.specs.inner.Kept.{IsKept};
+    ghost view = { λ d. grouped d.nodes d.froms.items d.pairs.items };
 
-    ghost view = { λ d. map (λ row. row.items) d.rows.items };
-
-    ghost invariant = { λ d. IsKept (map (λ row. row.items) d.rows.items) d.count };
+    ghost invariant = { λ d. IsGrowing d.nodes d.froms.items d.pairs.items };
 }
 
 impl Growing {
     /// No dependencies yet, of this many nodes.
-    pub(crate) fn none(alloc: Global, nodes: u32) -> Result<Growing, AllocError>
-        ensures { IfOk result (λ deps. deps ≡ replicate nodes []) }
+    pub(crate) fn none(alloc: Global, nodes: u32) -> Growing
+        ensures { result ≡ replicate nodes [] }
     {
-        let mut rows = Vec::new(alloc);
-        for _ in 0..nodes {
-            rows.push(Vec::new(alloc))?;
+        Growing {
+            nodes: nodes as usize,
+            froms: Vec::new(alloc),
+            pairs: Vec::new(alloc),
         }
-        Ok(Growing { rows, count: 0 })
     }
 
     /// Whether there is no room for one more.
@@ -146,7 +150,7 @@ impl Growing {
         ensures full { result ≡ nat_eq (total self.now) most_dependencies }
         ensures few { total self.now ≤ most_dependencies }
     {
-        self.count == MOST_DEPENDENCIES
+        self.pairs.len() as u64 == MOST_DEPENDENCIES
     }
 
     /// Adds a triple, behind those that leave the same node.
@@ -156,9 +160,9 @@ impl Growing {
         requires last { All (λ pair. is_before pair (location, to) ≡ true) (leaving self.old from) }
         ensures { OnOk result (self.new ≡ added self.old from (location, to)) }
     {
-        let row = &mut self.rows[from as usize];
-        row.push((location, to))?;
-        self.count += 1;
+        self.froms.truncate(self.pairs.len());
+        self.froms.push(from)?;
+        self.pairs.push((location, to))?;
         Ok(())
     }
 }

@@ -1,19 +1,15 @@
-use Rattle.std.proofs.Common.{◌≤◌, ◌<◌, ◌∙◌, length, sym, subst, arith}
+use Rattle.std.proofs.Common.{◌≤◌, ◌<◌, sym, subst, arith}
 use Rattle.sp_deps.specs.inner.Users.{AreUsers}
 use Rattle.sp_deps.specs.Answer.{AreDependencies}
-use Rattle.sp_deps.proofs.Views.{row_view}
 use Rattle.sp_deps.proofs.Finding.{upto_all}
 use Rattle.sp_deps.proofs.collect.dependencies.Goals as goal
 
 pub add_location-requires-clause-targets : goal.add_location-requires-clause-targets
 add_location-requires-clause-targets g c =
     let m = g.S.System.meaning c.args.system.now in
-    let lists = c.in_ok-users.users.items in
     let l = c.locations.location in
-    let list = c.index-targets.result.now in
     let l_low : l < m.locations = omega (arith, c.locations-test.true, c.locations-location-end.ensures) in
-    let low : l < length lists = omega (arith, l_low, c.in_ok-users.ensures.long) in
-    subst (λ xs. AreUsers m l xs) (row_view lists l list list low c.index-targets.ensures ∙ sym c.deref.ensures.value) (c.in_ok-users.ensures.each l l_low)
+    subst (AreUsers m l) (sym c.row-targets.ensures) (c.in_ok-users.ensures.each l l_low)
 
 pub returns-clause-exact : goal.returns-clause-exact
 returns-clause-exact g c =

@@ -1,6 +1,5 @@
 use Rattle.std.proofs.Common.{◌≡◌, [], length}
 use Rattle.sp_deps.specs.inner.Walk.{IsFresh}
-use Rattle.sp_deps.specs.inner.Users.{HasUsers}
 use Rattle.sp_deps.specs.inner.Progress.{AreUpTo, is_done}
 use Rattle.sp_deps.proofs.collect.dependencies.Given as goal
 
@@ -8,7 +7,6 @@ abbrev pub invariant-locations : goal.invariant-locations
 invariant-locations g l =
     let m = g.S.System.meaning l.system in
     record {
-      listed : HasUsers m l.users.items;
       fresh : IsFresh m.nodes l.walk;
       places : length l.earlier.place.items ≡ m.nodes;
       so_far : AreUpTo m l.deps (is_done l.location []);

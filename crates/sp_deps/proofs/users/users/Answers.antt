@@ -1,7 +1,11 @@
-use Rattle.std.proofs.Common.{◌<◌, sym, refl, get_or, subst, arith}
+use Rattle.std.proofs.Common.{◌+◌, ◌<◌, ◌++◌, ◌∷◌, ◌∙◌, [], length, take, ap, sym, refl, get_or, subst, arith}
+use Rattle.std.proofs.lemmas.List.{length_push}
+use Rattle.std.proofs.lemmas.List.Elements.{All-push}
 use Rattle.std.specs.List.Sorted.{IsStrictlyIncreasing}
 use Rattle.sp_lattice.specs.System.{AllBelow}
-use Rattle.sp_deps.proofs.Using.{using_more}
+use Rattle.sp_deps.specs.inner.Grouped.{grouped}
+use Rattle.sp_deps.proofs.Grouping.{grouped-push}
+use Rattle.sp_deps.proofs.Using.{Using, using_more}
 use Rattle.sp_deps.proofs.users.users.Goals as goal
 
 pub uses-preserved : goal.uses-preserved
@@ -15,5 +19,13 @@ uses-preserved g c =
     let low : node < m.nodes = omega (arith, c.nodes-test.true) in
     let rises = subst (λ xs. IsStrictlyIncreasing xs) (sym c.uses-uses.ensures) (laws.uses_ascend node low) in
     let below = subst (λ xs. AllBelow m.locations xs) (sym c.uses-uses.ensures) (laws.uses_below node low) in
-    using_more m c.uses.lists.items node (get_or uses i 0) uses i 0 c.index_mut-list.result.now c.push-in-uses.new.self c.uses-test.true rises refl (below i 0 c.uses-test.true) c.index_mut-list.ensures.value c.in_ok-push-2.ensures.items
-    c.uses.invariant
+    let at = c.uses.invariant in
+    let location = get_or uses i 0 in
+    let is = ap (λ xs. grouped m.locations xs c.push-in-uses.new.self.items) c.in_ok-push.ensures.items
+    ∙ ap (grouped m.locations (c.uses.locations.items ++ location ∷ [])) c.in_ok-push-2.ensures.items
+    ∙ grouped-push m.locations c.uses.locations.items c.uses.nodes.items location node at.paired in
+    record {
+      low = subst (AllBelow m.locations) (sym c.in_ok-push.ensures.items) (All-push (λ l. l < m.locations) c.uses.locations.items location at.low (below i 0 c.uses-test.true));
+      paired = omega (arith, ap length c.in_ok-push.ensures.items, ap length c.in_ok-push-2.ensures.items, length_push c.uses.locations.items location, length_push c.uses.nodes.items node, at.paired);
+      using = subst (λ rows. Using m rows node (take (i + 1) uses)) (sym is) (using_more m (grouped m.locations c.uses.locations.items c.uses.nodes.items) node location uses i 0 c.uses-test.true rises refl (below i 0 c.uses-test.true) at.using);
+    }

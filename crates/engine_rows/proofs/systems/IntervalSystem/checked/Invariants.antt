@@ -3,4 +3,4 @@ use Rattle.engine_rows.specs.Intervals.{AreNodes}
 use Rattle.engine_rows.proofs.systems.IntervalSystem.checked.Given as goal
 
 abbrev pub invariant-loop-node : goal.invariant-loop-node
-invariant-loop-node l = AreNodes (length l.into.items) l.count l.locations l.into.items l.defs.items l.uses.items l.begins.items l.adds.items
+invariant-loop-node l = AreNodes (length l.into) l.count l.locations l.into l.defs l.uses l.begins.items l.adds.items
