@@ -3,7 +3,7 @@ use Rattle.std.proofs.Common.{◌≡◌, ℕ, zero, suc, List, [], ◌∷◌, re
 use Rattle.std.specs.Prelude.{slice_get}
 use Rattle.sp_types.specs.Types.{CType, no_types}
 use Rattle.sp_types.specs.View.{types}
-use Rattle.sp_rules.specs.Conversions.{promoted_type}
+use Rattle.sp_operands.specs.Conversions.{promoted_type}
 use Rattle.sp_rules.specs.Rules.{behind_by, wanted, either}
 
 pub wanted_here : (n : ℕ) (ts : List CType) (t : CType) → wanted (behind_by n (types ts)) t ≡ either (slice_get ts n) t

@@ -15,10 +15,10 @@ use Rattle.sp_types.specs.Typed.{Typed, typed, TypedForm, TypedList, no_typed, n
 use Rattle.sp_types.specs.Typed as tree
 use Rattle.sp_types.specs.Compatible.{convertible}
 use Rattle.sp_types.specs.Layout.{layout}
-use Rattle.sp_rules.specs.Answers.{Checked, accepted, refused, and_then, where_met, where_given}
-use Rattle.sp_rules.specs.Constants.{is_null_constant, literal_kind}
-use Rattle.sp_rules.specs.Conversions.{is_complete, is_scalar, is_floating, is_void, is_array, is_function, is_lvalue, converted, promoted, promoted_type}
-use Rattle.sp_rules.specs.Operands.{Balance, int, binary_balance, are_moved_whole, choice_type, element_type, compound_type, can_move}
+use Rattle.sp_operands.specs.Answers.{Checked, accepted, refused, and_then, where_met, where_given}
+use Rattle.sp_constants.specs.Constants.{is_null_constant, literal_kind}
+use Rattle.sp_operands.specs.Conversions.{is_complete, is_scalar, is_floating, is_void, is_array, is_function, is_lvalue, converted, promoted, promoted_type}
+use Rattle.sp_operands.specs.Operands.{Balance, int, binary_balance, are_moved_whole, choice_type, element_type, compound_type, can_move}
 
 -- 6.3.2.1
 abbrev pub indexed : List Struct → Place → Place → Typed → Typed → Checked Typed

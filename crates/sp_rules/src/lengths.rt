@@ -2,15 +2,13 @@
 ghost use Rattle.std.specs.Prelude.{◌≡◌, IfOk, map, drop, Some, None, slice_get};
 ghost use Rattle.sp_types.specs.Types.{parameters_of};
 ghost use Rattle.sp_types.specs.View.{type_of, struct_of, signature_of, types};
-ghost use Rattle.sp_rules.specs.Answers.{Answers};
+ghost use Rattle.sp_operands.specs.Answers.{Answers};
 ghost use Rattle.sp_rules.specs.Lengths.{length_given, length_from, made_array, array_fits};
 ghost use Rattle.sp_rules.specs.Rules.{wanted, behind_by, told, either, argument_at};
 ghost use Rattle.sp_types.specs.TypedView.{typed_of};
 
-use crate::CheckError;
-use crate::conversions::promoted_type;
-use crate::error::fault;
 use crate::rules::argument;
+use sp_operands::{CheckError, fault, promoted_type};
 use sp_tree::{FaultKind, Place};
 use sp_types::{CType, MAX_SIZE, Signature, StructType, TypedExpr, layout};
 use std::alloc::{AllocError, Global};

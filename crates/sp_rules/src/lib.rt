@@ -1,32 +1,21 @@
-//! The rules of C90 on expressions: for each form, the typed tree of the whole from those of its parts, or the fault that is
-//! found there (C90 6.2 to 6.4).
+//! The rules of C90 on expressions: for each form, the typed tree of the whole from those of its
+//! parts, or the fault that is found there (C90 6.2 to 6.4).
 //!
-//! A *rule* is a constraint, a result type and the conversions of the operands. It takes parts that have their types, and
-//! nothing of the scopes: these are the layer above. What a rule answers is said by a definition of the same name in
-//! `specs/`, as `Checked`: `accepted` with the tree, or `refused` with a kind of fault and its place. Each call here
-//! [`Answers`](../specs/Answers.antt) exactly that, unless memory runs out.
+//! A *rule* is a constraint, a result type and the conversions of the operands. It takes parts that
+//! have their types, and nothing of the scopes: these are the layer above. What a rule answers is
+//! said by a definition of the same name in `specs/`, as `Checked`: `accepted` with the tree, or
+//! `refused` with a kind of fault and its place. Each call here `Answers` (`sp_operands`) exactly
+//! that, unless memory runs out.
 //!
-//! So `binary` on `p` and `1`, where `p` points to `int`, takes the balance of `+`: the pointer stays, the integer stays, and
-//! the whole is a pointer to `int` (6.3.6). On a pointer to `void` it is the fault F14 at the place of the whole.
+//! So `binary` on `p` and `1`, where `p` points to `int`, takes the balance of `+`: the pointer
+//! stays, the integer stays, and the whole is a pointer to `int` (6.3.6). On a pointer to `void` it
+//! is the fault F14 at the place of the whole.
 #![tactic(auto)]
 
-mod constants;
-mod conversions;
-mod error;
 mod lengths;
-mod operands;
 mod rules;
 
-pub use constants::{constant, is_null_constant};
-pub use conversions::{
-    converted, is_array, is_complete, is_floating, is_function, is_lvalue, is_object, is_scalar,
-    is_void, promoted_type, value,
-};
-pub use error::{CheckError, fault};
 pub use lengths::{argument_at, length_given, made_array};
-pub use operands::{
-    Balance, are_moved_whole, binary_balance, can_move, choice_type, compound_type, element_type,
-};
 pub use rules::{
     addressed, argument, arrow_taken, assign, binary, called, called_signature, callee_type,
     cast_to, choice, followed, indexed, is_modifiable, member_taken, not_floating, stepped_after,

@@ -13,7 +13,7 @@ ghost use Rattle.std.specs.Prelude.{
 ghost use Rattle.sp_types.specs.Typed.{of};
 ghost use Rattle.sp_types.specs.View.{type_of, struct_of, signature_of, types};
 ghost use Rattle.sp_types.specs.TypedView.{typed_of, typed_form_of, typed_list};
-ghost use Rattle.sp_rules.specs.Answers.{Answers};
+ghost use Rattle.sp_operands.specs.Answers.{Answers};
 ghost use Rattle.sp_rules.specs.Rules.{
   indexed,
   cast_to,
@@ -54,18 +54,14 @@ ghost use Rattle.sp_rules.specs.Rules.{
   behind_by,
   argument_at,
 };
-ghost use Rattle.sp_rules.specs.Balances.{members_seen};
-ghost use Rattle.sp_rules.specs.Constants.{is_null_constant};
+ghost use Rattle.sp_operands.specs.Balances.{members_seen};
+ghost use Rattle.sp_constants.specs.Constants.{is_null_constant};
 
-use crate::CheckError;
-use crate::constants::is_null_constant;
-use crate::conversions::{
-    converted, is_array, is_complete, is_floating, is_function, is_lvalue, is_scalar, is_void,
-    promoted_type,
-};
-use crate::error::fault;
-use crate::operands::{
-    are_moved_whole, binary_balance, can_move, choice_type, compound_type, element_type,
+use sp_constants::is_null_constant;
+use sp_operands::{
+    CheckError, are_moved_whole, binary_balance, can_move, choice_type, compound_type, converted,
+    element_type, fault, is_array, is_complete, is_floating, is_function, is_lvalue, is_scalar,
+    is_void, promoted_type,
 };
 use sp_tree::{FaultKind, Place, Punct};
 use sp_types::{CType, IntKind, Signature, StructType, TypedExpr, convertible};

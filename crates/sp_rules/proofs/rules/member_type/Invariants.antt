@@ -1,5 +1,5 @@
 use Rattle.std.proofs.Common.{◌≡◌, drop}
-use Rattle.sp_rules.specs.Balances.{members_seen}
+use Rattle.sp_operands.specs.Balances.{members_seen}
 use Rattle.sp_rules.specs.Rules.{member_type}
 use Rattle.sp_rules.proofs.rules.member_type.Given as goal
 

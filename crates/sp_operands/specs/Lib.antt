@@ -1,0 +1,4 @@
+pub mod Answers
+pub mod Balances
+pub mod Conversions
+pub mod Operands
