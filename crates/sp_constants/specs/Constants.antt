@@ -1,14 +1,14 @@
 -- Integer constant expressions (C90 6.4).
-use Rattle.std.specs.Prelude.{ℕ, ◌+◌, ◌-◌, ◌*◌, ◌^◌, ℤ, pos, neg_ℤ, ◌+ℤ◌, ◌-ℤ◌, ◌*ℤ◌, int_le, int_lt, int_div, int_rem, Bool, true, false, not, ◌&&◌, ◌||◌, Option, Some, None, if◌then◌else◌, nat_abs}
+use Rattle.std.specs.Prelude.{ℕ, ◌+◌, ◌-◌, ◌*◌, ◌^◌, ℤ, pos, neg_ℤ, ◌+ℤ◌, ◌-ℤ◌, ◌*ℤ◌, int_le, int_lt, int_div, int_rem, Bool, true, false, not, ◌&&◌, Option, Some, None, if◌then◌else◌, nat_abs}
 use Rattle.std.specs.Int.{int_rem_euclid, int_shr, int_bit_and, int_bit_or, int_bit_xor, w128}
 use Rattle.std.specs.Ordering.{int_eq}
 use Rattle.sp_tree.specs.declared.token.Number.{Number}
 use Rattle.sp_tree.specs.declared.token.Punct.{Punct}
 use Rattle.sp_tree.specs.declared.token.Punct.TheVariants.{Star, Slash, Percent, Plus, Minus, Tilde, Exclamation, ShiftLeft, ShiftRight, Less, Greater, LessEqual, GreaterEqual, EqualEqual, NotEqual, Caret, Ampersand, Bar, AndAnd, OrOr}
 use Rattle.sp_types.specs.declared.ctype.IntKind.{IntKind}
-use Rattle.sp_types.specs.declared.ctype.IntKind.TheVariants.{Char, SChar, UChar, Short, UShort, Int, UInt, Long, ULong}
-use Rattle.sp_types.specs.Types.{CType, void, integer, floating, pointer, array, structure, function}
-use Rattle.sp_types.specs.Typed.{Typed, typed, TypedForm, of}
+use Rattle.sp_types.specs.declared.ctype.IntKind.TheVariants.{UChar, UShort, Int, UInt, Long, ULong}
+use Rattle.sp_types.specs.Types.{CType, integer, pointer}
+use Rattle.sp_types.specs.Typed.{Typed, typed, TypedForm}
 use Rattle.sp_types.specs.Typed as tree
 use Rattle.sp_types.specs.Layout.{integer_size}
 use Rattle.sp_operands.specs.Conversions.{is_void}

@@ -47,6 +47,7 @@ ghost use Rattle.sp_constants.specs.Constants.{
   width,
 };
 
+use sp_operands::is_void;
 use sp_tree::Punct;
 use sp_types::{CType, IntKind, TypedExpr, TypedForm};
 
@@ -351,7 +352,7 @@ fn is_void_pointer(of: &CType) -> bool
     ensures { result ≡ is_void_pointer (type_of of.now) }
 {
     match of {
-        CType::Pointer(to) => crate::conversions::is_void(to),
+        CType::Pointer(to) => is_void(to),
         _ => false,
     }
 }

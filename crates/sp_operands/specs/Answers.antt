@@ -1,6 +1,5 @@
 -- What a check answers: what the rules give, or a fault and the place where it stands.
 use Rattle.std.specs.Prelude.{◌≡◌, Bool, true, false, Option, Some, None, Ok, Err, Result, ⊤}
-use Rattle.sp_tree.specs.declared.fault.Fault.{Fault}
 use Rattle.sp_tree.specs.declared.fault.FaultKind.{FaultKind}
 use Rattle.sp_tree.specs.declared.fault.Place.{Place}
 use Rattle.sp_operands.specs.declared.error.CheckError.{CheckError}

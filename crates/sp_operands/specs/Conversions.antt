@@ -1,18 +1,15 @@
 -- Lvalues and conversions (C90 6.2).
-use Rattle.std.specs.Prelude.{◌≡◌, ℕ, ℤ, Bool, true, false, not, ◌&&◌, ◌||◌, ◌==◌, List, Option, Some, None, if◌then◌else◌, is_some}
+use Rattle.std.specs.Prelude.{Bool, true, false, not, ◌&&◌, List, Option, Some, None, if◌then◌else◌, is_some}
 use Rattle.sp_tree.specs.declared.fault.Place.{Place}
 use Rattle.sp_tree.specs.declared.fault.FaultKind.TheVariants.{F13}
-use Rattle.sp_tree.specs.declared.token.Punct.{Punct}
 use Rattle.sp_tree.specs.declared.token.Punct.TheVariants.{Star}
-use Rattle.sp_types.specs.declared.ctype.IntKind.{IntKind}
-use Rattle.sp_types.specs.declared.ctype.IntKind.TheVariants.{Int}
-use Rattle.sp_types.specs.Types.{CType, void, integer, floating, pointer, array, structure, function, Signature, signature, Parameters, untold, listed, CTypes, no_types, next_type, Struct}
+use Rattle.sp_types.specs.Types.{CType, void, integer, floating, pointer, array, structure, function, Struct}
 use Rattle.sp_types.specs.Typed.{Typed, typed, TypedForm, of, place_of, mark_of}
 use Rattle.sp_types.specs.Typed as tree
 use Rattle.sp_types.specs.Compatible.{same_type}
 use Rattle.sp_types.specs.Arithmetic.{promoted_kind}
 use Rattle.sp_types.specs.Layout.{layout}
-use Rattle.sp_operands.specs.Answers.{Checked, accepted, refused, where_met}
+use Rattle.sp_operands.specs.Answers.{Checked, accepted, where_met}
 
 -- ---- kinds of types (6.1.2.5)
 

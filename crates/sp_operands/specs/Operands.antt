@@ -1,10 +1,9 @@
 -- What the operators take, and to which types they convert their operands (C90 6.3).
-use Rattle.std.specs.Prelude.{ℕ, Bool, true, false, not, ◌&&◌, ◌||◌, ◌==◌, List, Option, Some, None, if◌then◌else◌}
+use Rattle.std.specs.Prelude.{Bool, true, false, not, ◌&&◌, ◌||◌, ◌==◌, List, Option, Some, None, if◌then◌else◌}
 use Rattle.sp_tree.specs.declared.token.Punct.{Punct}
-use Rattle.sp_tree.specs.declared.token.Punct.TheVariants.{Star, Slash, Percent, Plus, Minus, Tilde, Exclamation, ShiftLeft, ShiftRight, Less, Greater, LessEqual, GreaterEqual, EqualEqual, NotEqual, Caret, Ampersand, Bar, AndAnd, OrOr, Assign, StarAssign, SlashAssign, PercentAssign, PlusAssign, MinusAssign, ShiftLeftAssign, ShiftRightAssign, AmpersandAssign, CaretAssign, BarAssign}
-use Rattle.sp_types.specs.declared.ctype.IntKind.{IntKind}
+use Rattle.sp_tree.specs.declared.token.Punct.TheVariants.{Plus, Minus, ShiftLeft, ShiftRight, Less, Greater, LessEqual, GreaterEqual, EqualEqual, NotEqual, AndAnd, OrOr, PlusAssign, MinusAssign, ShiftLeftAssign, ShiftRightAssign}
 use Rattle.sp_types.specs.declared.ctype.IntKind.TheVariants.{Int, Long}
-use Rattle.sp_types.specs.Types.{CType, void, integer, floating, pointer, array, structure, function, Struct}
+use Rattle.sp_types.specs.Types.{CType, void, integer, pointer, structure, Struct}
 use Rattle.sp_types.specs.Arithmetic.{promoted_kind, common_kind}
 use Rattle.sp_types.specs.Compatible.{compatible}
 use Rattle.sp_operands.specs.Conversions.{is_scalar, is_object, is_void, is_complete}

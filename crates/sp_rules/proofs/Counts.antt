@@ -1,8 +1,5 @@
 -- How many a list of types or of typed expressions has.
-use Rattle.std.proofs.Common.{◌≡◌, ℕ, suc, ◌+◌, List, [], ◌∷◌, length, map, refl, ap, arith, sym, ◌∙◌}
-use Rattle.std.proofs.lemmas.List.{length-map}
-use Rattle.sp_types.specs.Types.{CType}
-use Rattle.sp_types.specs.Typed.{Typed}
+use Rattle.std.proofs.Common.{◌≡◌, List, [], ◌∷◌, length, map, refl, arith}
 use Rattle.sp_types.specs.View.{type_of, types}
 use Rattle.sp_types.specs.TypedView.{typed_of, typed_list}
 use Rattle.sp_types.specs.declared.ctype.CType.{CType as CodeType}

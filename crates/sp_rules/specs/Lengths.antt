@@ -1,10 +1,10 @@
 -- Arrays (C90 6.5.4.2).
-use Rattle.std.specs.Prelude.{ℕ, ℤ, pos, negsuc, ◌-◌, ◌*◌, ◌^◌, Bool, true, false, ◌&&◌, List, Option, Some, None, if◌then◌else◌, nat_le}
+use Rattle.std.specs.Prelude.{ℕ, ℤ, pos, negsuc, ◌-◌, ◌*◌, ◌^◌, Bool, true, ◌&&◌, List, Option, Some, None, if◌then◌else◌, nat_le}
 use Rattle.sp_tree.specs.declared.fault.Place.{Place}
 use Rattle.sp_tree.specs.declared.fault.FaultKind.TheVariants.{F13, F19, F21}
 use Rattle.sp_types.specs.Types.{CType, array, Struct}
 use Rattle.sp_types.specs.Layout.{layout}
-use Rattle.sp_operands.specs.Answers.{Checked, accepted, refused, where_met, where_given}
+use Rattle.sp_operands.specs.Answers.{Checked, accepted, where_met, where_given}
 
 -- from 1 to 2^31 - 1
 abbrev pub length_from : ℤ → Option ℕ

@@ -1,24 +1,20 @@
 -- One rule for each form of expression, over parts that have their types (C90 6.3): the typed tree, or the fault that stands.
 --
 -- `p` is the place of the whole, `m` its mark.
-use Rattle.std.specs.Prelude.{◌≡◌, ℕ, zero, suc, ℤ, ◌+◌, ◌<◌, ◌==◌, pos, Bool, true, false, not, ◌&&◌, ◌||◌, List, [], ◌∷◌, length, map, Option, Some, None, if◌then◌else◌, nat_lt, is_some, slice_get, codes, bytes_eq}
+use Rattle.std.specs.Prelude.{ℕ, zero, suc, ℤ, ◌+◌, ◌==◌, pos, Bool, true, false, not, ◌&&◌, ◌||◌, List, [], ◌∷◌, Option, Some, None, if◌then◌else◌, nat_lt, slice_get, codes, bytes_eq}
 use Rattle.sp_tree.specs.declared.fault.Place.{Place}
-use Rattle.sp_tree.specs.declared.fault.FaultKind.TheVariants.{F8, F10, F13, F14, F15, F16, F17, F18, U1, U2}
-use Rattle.sp_tree.specs.declared.token.Number.{Number}
+use Rattle.sp_tree.specs.declared.fault.FaultKind.TheVariants.{F10, F13, F14, F15, F16, F17, F18, U1}
 use Rattle.sp_tree.specs.declared.token.Punct.{Punct}
 use Rattle.sp_tree.specs.declared.token.Punct.TheVariants as marks
-use Rattle.sp_types.specs.declared.ctype.IntKind.{IntKind}
-use Rattle.sp_types.specs.declared.ctype.IntKind.TheVariants.{Int, ULong}
 use Rattle.sp_types.specs.declared.extents.Extent.{Extent}
-use Rattle.sp_types.specs.Types.{CType, void, integer, floating, pointer, array, structure, function, Signature, signature, Parameters, untold, listed, CTypes, no_types, next_type, Struct, result_of, parameters_of, is_variadic}
-use Rattle.sp_types.specs.Typed.{Typed, typed, TypedForm, TypedList, no_typed, next_typed, of, place_of}
+use Rattle.sp_types.specs.Types.{CType, integer, pointer, structure, function, Signature, Parameters, untold, listed, CTypes, no_types, next_type, Struct, result_of, parameters_of, is_variadic}
+use Rattle.sp_types.specs.Typed.{Typed, typed, TypedList, no_typed, next_typed, of}
 use Rattle.sp_types.specs.Typed as tree
 use Rattle.sp_types.specs.Compatible.{convertible}
-use Rattle.sp_types.specs.Layout.{layout}
-use Rattle.sp_operands.specs.Answers.{Checked, accepted, refused, and_then, where_met, where_given}
-use Rattle.sp_constants.specs.Constants.{is_null_constant, literal_kind}
+use Rattle.sp_operands.specs.Answers.{Checked, accepted, and_then, where_met, where_given}
+use Rattle.sp_constants.specs.Constants.{is_null_constant}
 use Rattle.sp_operands.specs.Conversions.{is_complete, is_scalar, is_floating, is_void, is_array, is_function, is_lvalue, converted, promoted, promoted_type}
-use Rattle.sp_operands.specs.Operands.{Balance, int, binary_balance, are_moved_whole, choice_type, element_type, compound_type, can_move}
+use Rattle.sp_operands.specs.Operands.{int, binary_balance, are_moved_whole, choice_type, element_type, compound_type, can_move}
 
 -- 6.3.2.1
 abbrev pub indexed : List Struct → Place → Place → Typed → Typed → Checked Typed

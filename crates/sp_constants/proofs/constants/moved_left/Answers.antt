@@ -1,4 +1,4 @@
-use Rattle.std.proofs.Common.{◌≡◌, ◌∙◌, ap, sym, subst, ℤ, pos, ◌*ℤ◌, ◌^◌}
+use Rattle.std.proofs.Common.{◌∙◌, ap, sym, subst, ℤ, ◌*ℤ◌}
 use Rattle.std.specs.Int.{w128}
 use Rattle.std.specs.Int.RustNames.{FitsSigned}
 use Rattle.sp_constants.specs.Constants.{within}

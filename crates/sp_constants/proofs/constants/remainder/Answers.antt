@@ -1,7 +1,7 @@
-use Rattle.std.proofs.Common.{◌≡◌, ap, sym, ◌∙◌, refl, to_z, of_z}
+use Rattle.std.proofs.Common.{ap, ◌∙◌, refl, to_z, of_z}
 use Rattle.std.specs.Int.{w128}
 use Rattle.std.proofs.lemmas.Int.{rem_is}
-use Rattle.sp_constants.specs.Constants.{within, remainder, is_zero}
+use Rattle.sp_constants.specs.Constants.{within}
 use Rattle.sp_constants.proofs.Wrapping.{not_zero}
 use Rattle.sp_constants.proofs.constants.remainder.Goals as goal
 

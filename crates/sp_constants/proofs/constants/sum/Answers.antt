@@ -1,4 +1,4 @@
-use Rattle.std.proofs.Common.{◌≡◌, ◌∙◌, ◌+ℤ◌, to_z, of_z}
+use Rattle.std.proofs.Common.{◌∙◌, ◌+ℤ◌, to_z, of_z}
 use Rattle.std.specs.Int.{w128}
 use Rattle.std.proofs.lemmas.Int.{wrapping_add_is}
 use Rattle.sp_constants.proofs.Wrapping.{settled, same_bits}
