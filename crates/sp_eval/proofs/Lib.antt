@@ -1,0 +1,11 @@
+pub mod Among
+pub mod StepLaws
+pub mod RegionLaws
+pub mod SupportLaws
+pub mod Distances
+pub mod Wides
+pub mod Views
+pub mod FormLaws
+pub mod MonotoneLaws
+pub mod ProperLaws
+pub mod AllLaws

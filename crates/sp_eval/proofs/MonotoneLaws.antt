@@ -1,0 +1,427 @@
+-- Of two stores, one below the other and the lesser formed, the lesser has the lesser values.
+use Rattle.std.proofs.Common.{◌≡◌, ◌⊎◌, inl, inr, ℕ, ◌<◌, ◌/◌, ◌%◌, nat_eq, Bool, true, false, cond, not, ◌&&◌, ◌||◌, List, [], ◌∷◌, Option, Some, None, refl, sym, subst, arith, ℤ, pos, ◌≤ℤ◌, neg_ℤ}
+use Rattle.std.specs.Prelude.{int_le, int_lt, if◌then◌else◌}
+use Rattle.std.proofs.lemmas.Int.{ints}
+use Rattle.std.proofs.lemmas.Bool.{false≢true, or_cases}
+use Rattle.sp_tree.specs.declared.token.Punct.{Punct}
+use Rattle.sp_tree.specs.declared.token.Punct.TheVariants.{Star, Plus, Minus, Tilde, Slash, Percent, ShiftLeft, ShiftRight, Ampersand, Bar, Caret}
+use Rattle.sp_types.specs.Types.{CType, void, integer, floating, pointer, array, structure, function}
+use Rattle.sp_lattice.specs.Relation.{opposite}
+use Rattle.sp_lattice.specs.Range.{IsIntegerRange}
+use Rattle.sp_lattice.specs.declared.ranges.Range.{Range}
+use Rattle.sp_lattice.specs.declared.relations.Relation.{Relation}
+use Rattle.sp_lattice.specs.declared.relations.Relation.TheVariants.{Less, LessEqual, Greater, GreaterEqual, Equal, Different}
+use Rattle.sp_lattice.proofs.Snaps.{int_le_true, le_from_int_le, int_lt_true, lt_from_int_lt}
+use Rattle.sp_interval.specs.declared.interval.Interval.{Interval}
+use Rattle.sp_interval.specs.declared.interval.Interval.TheVariants.{Empty, Of}
+use Rattle.sp_interval.specs.Interval.{interval_le, hull, ranged, is_unsigned, IsFormed, IsOrdered, sum_of, difference_of}
+use Rattle.sp_interval.specs.Inclusion.{bounds_from_le, interval_le-refl, hull-monotone}
+use Rattle.sp_interval.proofs.Ranged.{ranged-monotone, ranged-within, ranged-same}
+use Rattle.sp_interval.proofs.Hulls.{ordered_from_formed}
+use Rattle.sp_interval.proofs.Sums.{sum_of-monotone, difference_of-monotone, added-monotone, subtracted-monotone}
+use Rattle.sp_interval.proofs.Products.{multiplied-monotone}
+use Rattle.sp_interval.proofs.Quotients.{divided-monotone}
+use Rattle.sp_interval.proofs.Remainders.{remaindered-monotone}
+use Rattle.sp_interval.proofs.ShiftLaws.{shifted_left-monotone, shifted_right-monotone}
+use Rattle.sp_interval.proofs.Bits.{anded-monotone, ored-monotone, xored-monotone}
+use Rattle.sp_ir.specs.Commands.{Expression, number, address, decay, read, convert, unary, binary, compare, move, distance, Lvalue, direct, through, field, lvalue_type}
+use Rattle.sp_ir.specs.Terrain.{Terrain, IsTerrain}
+use Rattle.sp_ir.specs.Denoted.{keeps_targets}
+use Rattle.sp_value.specs.Kinds.{range_of}
+use Rattle.sp_value.specs.declared.targets.Target.{Target}
+use Rattle.sp_value.specs.Targets.{extent_le, targets_le}
+use Rattle.sp_value.specs.Known.{Known, none, of_numbers, of_target, known_le, known_join, has_numbers, has_targets, is_none, gathered, every_offset}
+use Rattle.sp_value.specs.Tests.{both, first, second}
+use Rattle.sp_value.specs.TargetLaws.{offset_le, size_le, extent-made, le_match}
+use Rattle.sp_value.specs.KnownLaws.{numbers_le, the_targets_le, known_made, known-refl, known-trans, known_join-monotone, Rises, gathered-monotone}
+use Rattle.sp_value.specs.FormedLaws.{IsFormedKnown}
+use Rattle.sp_eval.specs.Numbers.{exactly, long_range, pointer_range, every, every_number, signed_by, operated, relation_of, all_hold, undecided, truth, times_size, shifted, outward}
+use Rattle.sp_eval.specs.Steps.{each_target, whole_of, moved_offset, member_target, members_of, element_target, elements_of, accepted_one, accepted, read_cell, read_at, converted_numbers, converted, moved_target, moved, pair_distance, distances, distance_of, compared, comparison_of}
+use Rattle.sp_eval.specs.Evaluation.{matched, address_of, value_of, is_proper, is_proper_lvalue}
+use Rattle.sp_eval.specs.Laws.{AreFormed, AreBelow}
+use Rattle.sp_eval.proofs.Among.{chosen}
+use Rattle.sp_eval.proofs.Distances.{outward-monotone, times_size-ordered, times_size-monotone, ratio}
+use Rattle.sp_eval.proofs.FormLaws.{range_is, pointer_is, long_is, numbers_of, shifted-ordered, negated-ordered, proper-left, proper-right, proper-operands, size-some, value-formed}
+
+-- ---- tests
+
+or_left : (a b : Bool) → a ≡ true → (a || b) ≡ true
+or_left true b h = refl
+or_left false b h = absurd (false≢true h)
+
+or_right : (a b : Bool) → b ≡ true → (a || b) ≡ true
+or_right true b h = refl
+or_right false b h = h
+
+abbrev pub Implies : Bool → Bool → Type 0
+Implies a b = a ≡ true → b ≡ true
+
+has_numbers-rises : (v w : Known) → known_le v w ≡ true → Implies (has_numbers v) (has_numbers w)
+has_numbers-rises v w h k = by v.numbers w.numbers (numbers_le v w h) k
+  where
+    by : (i j : Interval) → interval_le i j ≡ true → not (interval_le i Empty) ≡ true → not (interval_le j Empty) ≡ true
+    by Empty j h k = absurd (false≢true k)
+    by (Of a b) Empty h k = absurd (false≢true h)
+    by (Of a b) (Of c d) h k = refl
+
+has_targets-rises : (v w : Known) → known_le v w ≡ true → Implies (has_targets v) (has_targets w)
+has_targets-rises v w h k = by v.targets w.targets (the_targets_le v w h) k
+  where
+    by : (xs ys : List Target) → targets_le xs ys ≡ true → not (targets_le xs []) ≡ true → not (targets_le ys []) ≡ true
+    by [] ys h k = absurd (false≢true k)
+    by (x ∷ xs) [] h k = absurd (false≢true h)
+    by (x ∷ xs) (y ∷ ys) h k = refl
+
+none-falls : (v w : Known) → known_le v w ≡ true → Implies (is_none w) (is_none v)
+none-falls v w h k = known-trans v w none h k
+
+either-rises : (a b c d : Bool) → Implies a c → Implies b d → Implies (a || b) (c || d)
+either-rises true b c d h g k = rw (h refl) refl
+either-rises false b true d h g k = refl
+either-rises false b false d h g k = g k
+
+-- a choice rises where what is taken rises
+rising_choice : (b c : Bool) (v v' w w' : Known) → Implies b c → known_le v w ≡ true → known_le v' w' ≡ true → known_le v' w ≡ true → known_le (cond b v v') (cond c w w') ≡ true
+rising_choice true true v v' w w' h p q r = p
+rising_choice true false v v' w w' h p q r = absurd (false≢true (h refl))
+rising_choice false true v v' w w' h p q r = r
+rising_choice false false v v' w w' h p q r = q
+
+rising_numbers : (b c : Bool) (i i' j j' : Interval) → Implies b c → interval_le i j ≡ true → interval_le i' j' ≡ true → interval_le i' j ≡ true → interval_le (cond b i i') (cond c j j') ≡ true
+rising_numbers true true i i' j j' h p q r = p
+rising_numbers true false i i' j j' h p q r = absurd (false≢true (h refl))
+rising_numbers false true i i' j j' h p q r = r
+rising_numbers false false i i' j j' h p q r = q
+
+-- what is none in the lesser is no obstacle
+falling_numbers : (b c : Bool) (i j : Interval) → Implies c b → interval_le i j ≡ true → interval_le (cond b Empty i) (cond c Empty j) ≡ true
+falling_numbers true c i j h p = refl
+falling_numbers false true i j h p = absurd (false≢true (h refl))
+falling_numbers false false i j h p = p
+
+same_choice : (b : Bool) (v v' w w' : Known) → known_le v w ≡ true → known_le v' w' ≡ true → known_le (cond b v v') (cond b w w') ≡ true
+same_choice true v v' w w' h g = h
+same_choice false v v' w w' h g = g
+
+same_numbers : (b : Bool) (i i' j j' : Interval) → (b ≡ true → interval_le i j ≡ true) → interval_le i' j' ≡ true → interval_le (cond b i i') (cond b j j') ≡ true
+same_numbers true i i' j j' h g = h refl
+same_numbers false i i' j j' h g = g
+
+numbers-monotone : (i j : Interval) → interval_le i j ≡ true → known_le (of_numbers i) (of_numbers j) ≡ true
+numbers-monotone i j h = known_made (of_numbers i) (of_numbers j) h refl
+
+-- ---- targets
+
+abbrev at : ℕ → Interval → Interval → Target
+at r o s = record { region = r; offset = o; size = s }
+
+-- it is enough to look at two targets of one region
+rises-made : (f g : Target → Known) → ((r : ℕ) (o s o' s' : Interval) → interval_le o o' ≡ true → interval_le s s' ≡ true → known_le (f (at r o s)) (g (at r o' s')) ≡ true) → Rises f g
+rises-made f g each x y same h = subst (λ n. known_le (f x) (g (at n y.offset y.size)) ≡ true) same (each x.region x.offset x.size y.offset y.size (offset_le x y h) (size_le x y h))
+
+one-monotone : (r : ℕ) (o s o' s' : Interval) → interval_le o o' ≡ true → interval_le s s' ≡ true → known_le (of_target (at r o s)) (of_target (at r o' s')) ≡ true
+one-monotone r o s o' s' h g = known_made (of_target (at r o s)) (of_target (at r o' s')) refl (le_match (at r o s) [] (at r o' s') [] refl (extent-made (at r o s) (at r o' s') h g) refl)
+
+each-monotone : (f : Target → Target) → Rises (λ x. of_target (f x)) (λ x. of_target (f x)) → (v w : Known) → known_le v w ≡ true → known_le (each_target f v) (each_target f w) ≡ true
+each-monotone f rises v w h = known_join-monotone (of_numbers v.numbers) (gathered (λ x. of_target (f x)) v.targets) (of_numbers w.numbers) (gathered (λ x. of_target (f x)) w.targets)
+    (numbers-monotone v.numbers w.numbers (numbers_le v w h)) (gathered-monotone (λ x. of_target (f x)) (λ x. of_target (f x)) rises v.targets w.targets (the_targets_le v w h))
+
+-- the range rule of a signed type asks nothing of the lesser interval
+long-monotone : (i j : Interval) → interval_le i j ≡ true → interval_le (ranged long_range i) (ranged long_range j) ≡ true
+long-monotone Empty j h = refl
+long-monotone (Of a b) Empty h = absurd (false≢true h)
+long-monotone (Of a b) (Of c d) h = by (int_le long_range.lo c && int_le d long_range.hi) refl
+  where
+    stays : (int_le long_range.lo c && int_le d long_range.hi) ≡ true → ranged long_range (Of a b) ≡ Of a b
+    stays e =
+        let s = bounds_from_le a b c d h in
+        let low = le_from_int_le long_range.lo c (first (int_le long_range.lo c) (int_le d long_range.hi) e) in
+        let high = le_from_int_le d long_range.hi (second (int_le long_range.lo c) (int_le d long_range.hi) e) in
+        ranged-same long_range a b (omega (arith, ints, s.0, low)) (omega (arith, ints, s.1, high))
+
+    by : (u : Bool) → (int_le long_range.lo c && int_le d long_range.hi) ≡ u → interval_le (ranged long_range (Of a b)) (cond u (Of c d) (every long_range)) ≡ true
+    by false e = ranged-within long_range (Of a b) long_is
+    by true e = subst (λ i. interval_le i (Of c d) ≡ true) (sym (stays e)) h
+
+moved_offset-monotone : (bytes : ℕ) (i j : Interval) → interval_le i j ≡ true → interval_le (moved_offset bytes i) (moved_offset bytes j) ≡ true
+moved_offset-monotone bytes i j h = long-monotone (sum_of i (exactly (pos bytes))) (sum_of j (exactly (pos bytes))) (sum_of-monotone i (exactly (pos bytes)) j (exactly (pos bytes)) h (interval_le-refl (exactly (pos bytes))))
+
+shifted-monotone : (back : Bool) (i j i' j' : Interval) → interval_le i i' ≡ true → interval_le j j' ≡ true → interval_le (shifted back i j) (shifted back i' j') ≡ true
+shifted-monotone true i j i' j' p q = difference_of-monotone i j i' j' p q
+shifted-monotone false i j i' j' p q = sum_of-monotone i j i' j' p q
+
+-- ---- conversions
+
+module _ (t : CType) (v w : Known) (formed : IsFormedKnown v) (h : known_le v w ≡ true) where
+  converted_numbers-monotone : interval_le (converted_numbers t v) (converted_numbers t w) ≡ true
+  converted_numbers-monotone = by t
+    where
+      ordered : IsOrdered v.numbers
+      ordered = ordered_from_formed v.numbers (numbers_of v formed)
+
+      by : (t : CType) → interval_le (converted_numbers t v) (converted_numbers t w) ≡ true
+      by (integer k) = hull-monotone (ranged (range_of k) v.numbers) (cond (has_targets v) (every (range_of k)) Empty) (ranged (range_of k) w.numbers) (cond (has_targets w) (every (range_of k)) Empty)
+          (ranged-monotone (range_of k) v.numbers w.numbers (range_is k) ordered (numbers_le v w h))
+          (rising_numbers (has_targets v) (has_targets w) (every (range_of k)) Empty (every (range_of k)) Empty (has_targets-rises v w h) (interval_le-refl (every (range_of k))) refl refl)
+      by (pointer u) = ranged-monotone pointer_range v.numbers w.numbers pointer_is ordered (numbers_le v w h)
+      by void = refl
+      by (floating k) = refl
+      by (array u n) = refl
+      by (structure n) = refl
+      by (function s) = refl
+
+  converted-monotone : known_le (converted t v) (converted t w) ≡ true
+  unfolding converted
+  converted-monotone = known_made (converted t v) (converted t w) converted_numbers-monotone (by (keeps_targets t))
+    where
+      by : (b : Bool) → targets_le (cond b v.targets []) (cond b w.targets []) ≡ true
+      by true = the_targets_le v w h
+      by false = refl
+
+-- ---- operators
+
+subtracted_from-monotone : (r : Range) (z : ℤ) (i j : Interval) → IsIntegerRange r → IsFormed i → interval_le i j ≡ true → interval_le (ranged r (difference_of (exactly z) i)) (ranged r (difference_of (exactly z) j)) ≡ true
+subtracted_from-monotone r z i j is h p = ranged-monotone r (difference_of (exactly z) i) (difference_of (exactly z) j) is (negated-ordered z i h) (difference_of-monotone (exactly z) i (exactly z) j (interval_le-refl (exactly z)) p)
+
+signed_by-monotone : (op : Punct) (r : Range) (i j : Interval) → IsIntegerRange r → IsFormed i → interval_le i j ≡ true → interval_le (signed_by op r i) (signed_by op r j) ≡ true
+unfolding signed_by
+signed_by-monotone Plus r i j is h p = ranged-monotone r i j is (ordered_from_formed i h) p
+signed_by-monotone Minus r i j is h p = subtracted_from-monotone r (pos 0) i j is h p
+signed_by-monotone Tilde r i j is h p = subtracted_from-monotone r (if is_unsigned r then r.hi else neg_ℤ (pos 1)) i j is h p
+signed_by-monotone op r i j is h p = refl
+
+operated-monotone : (op : Punct) (r : Range) (i j i' j' : Interval) → IsIntegerRange r → IsFormed i → IsFormed j → interval_le i i' ≡ true → interval_le j j' ≡ true → interval_le (operated op r i j) (operated op r i' j') ≡ true
+unfolding operated
+operated-monotone Plus = added-monotone
+operated-monotone Minus = subtracted-monotone
+operated-monotone Star = multiplied-monotone
+operated-monotone Slash = divided-monotone
+operated-monotone Percent = remaindered-monotone
+operated-monotone ShiftLeft = shifted_left-monotone
+operated-monotone ShiftRight = shifted_right-monotone
+operated-monotone Ampersand = anded-monotone
+operated-monotone Bar = ored-monotone
+operated-monotone Caret = xored-monotone
+operated-monotone op = λ r i j i' j' is h k p q. refl
+
+-- ---- comparisons
+
+-- what all members of greater intervals agree on, those of lesser ones do
+all_hold-falls : (op : Relation) (a b c d a' b' c' d' : ℤ) → a' ≤ℤ a → b ≤ℤ b' → c' ≤ℤ c → d ≤ℤ d' → Implies (all_hold op a' b' c' d') (all_hold op a b c d)
+all_hold-falls Less a b c d a' b' c' d' h1 h2 h3 h4 k = int_lt_true b c (let l = lt_from_int_lt b' c' k in omega (arith, ints, h2, h3, l))
+all_hold-falls LessEqual a b c d a' b' c' d' h1 h2 h3 h4 k = int_le_true b c (let l = le_from_int_le b' c' k in omega (arith, ints, h2, h3, l))
+all_hold-falls Greater a b c d a' b' c' d' h1 h2 h3 h4 k = int_lt_true d a (let l = lt_from_int_lt d' a' k in omega (arith, ints, h1, h4, l))
+all_hold-falls GreaterEqual a b c d a' b' c' d' h1 h2 h3 h4 k = int_le_true d a (let l = le_from_int_le d' a' k in omega (arith, ints, h1, h4, l))
+all_hold-falls Equal a b c d a' b' c' d' h1 h2 h3 h4 k =
+    let l = le_from_int_le b' c' (first (int_le b' c') (int_le d' a') k) in
+    let m = le_from_int_le d' a' (second (int_le b' c') (int_le d' a') k) in
+    both (int_le b c) (int_le d a) (int_le_true b c (omega (arith, ints, h2, h3, l))) (int_le_true d a (omega (arith, ints, h1, h4, m)))
+all_hold-falls Different a b c d a' b' c' d' h1 h2 h3 h4 k = by (or_cases (int_lt b' c') (int_lt d' a') k)
+  where
+    by : (int_lt b' c' ≡ true) ⊎ (int_lt d' a' ≡ true) → (int_lt b c || int_lt d a) ≡ true
+    by (inl l) = let m = lt_from_int_lt b' c' l in or_left (int_lt b c) (int_lt d a) (int_lt_true b c (omega (arith, ints, h2, h3, m)))
+    by (inr l) = let m = lt_from_int_lt d' a' l in or_right (int_lt b c) (int_lt d a) (int_lt_true d a (omega (arith, ints, h1, h4, m)))
+
+-- all equal, and all different
+apart : (a b c d : ℤ) → a ≤ℤ b → c ≤ℤ d → (int_le b c && int_le d a) ≡ true → (int_lt b c || int_lt d a) ≡ true → ⊥
+apart a b c d o p h k =
+    let l = le_from_int_le b c (first (int_le b c) (int_le d a) h) in
+    let m = le_from_int_le d a (second (int_le b c) (int_le d a) h) in
+    by l m (or_cases (int_lt b c) (int_lt d a) k)
+  where
+    by : b ≤ℤ c → d ≤ℤ a → (int_lt b c ≡ true) ⊎ (int_lt d a ≡ true) → ⊥
+    by l m (inl n) = let q = lt_from_int_lt b c n in omega (arith, ints, o, p, l, m, q)
+    by l m (inr n) = let q = lt_from_int_lt d a n in omega (arith, ints, o, p, l, m, q)
+
+-- no relation holds of all members together with its opposite
+not_both : (op : Relation) (a b c d : ℤ) → a ≤ℤ b → c ≤ℤ d → all_hold op a b c d ≡ true → all_hold (opposite op) a b c d ≡ true → ⊥
+not_both Less a b c d o p h k = let l = lt_from_int_lt b c h in let m = le_from_int_le d a k in omega (arith, ints, o, p, l, m)
+not_both LessEqual a b c d o p h k = let l = le_from_int_le b c h in let m = lt_from_int_lt d a k in omega (arith, ints, o, p, l, m)
+not_both Greater a b c d o p h k = let l = lt_from_int_lt d a h in let m = le_from_int_le b c k in omega (arith, ints, o, p, l, m)
+not_both GreaterEqual a b c d o p h k = let l = le_from_int_le d a h in let m = lt_from_int_lt b c k in omega (arith, ints, o, p, l, m)
+not_both Equal a b c d o p h k = apart a b c d o p h k
+not_both Different a b c d o p h k = apart a b c d o p k h
+
+-- of two choices of 1, 0 or both, the one with more decided lies below
+truth_choice : (x y x' y' : Bool) → Implies x' x → Implies y' y → (x ≡ true → y ≡ true → ⊥)
+    → interval_le (cond x (exactly (pos 1)) (cond y (exactly (pos 0)) undecided)) (cond x' (exactly (pos 1)) (cond y' (exactly (pos 0)) undecided)) ≡ true
+truth_choice true y true y' f g n = refl
+truth_choice false y true y' f g n = absurd (false≢true (f refl))
+truth_choice true true false true f g n = absurd (n refl refl)
+truth_choice true false false true f g n = absurd (false≢true (g refl))
+truth_choice false true false true f g n = refl
+truth_choice false false false true f g n = absurd (false≢true (g refl))
+truth_choice true y false false f g n = refl
+truth_choice false true false false f g n = refl
+truth_choice false false false false f g n = refl
+
+truth-monotone : (op : Relation) (i j i' j' : Interval) → IsFormed i → IsFormed j → interval_le i i' ≡ true → interval_le j j' ≡ true → interval_le (truth op i j) (truth op i' j') ≡ true
+truth-monotone op Empty j i' j' h k p q = refl
+truth-monotone op (Of a b) Empty i' j' h k p q = refl
+truth-monotone op (Of a b) (Of c d) Empty j' h k p q = absurd (false≢true p)
+truth-monotone op (Of a b) (Of c d) (Of a' b') Empty h k p q = absurd (false≢true q)
+truth-monotone op (Of a b) (Of c d) (Of a' b') (Of c' d') h k p q =
+    let m = bounds_from_le a b a' b' p in
+    let n = bounds_from_le c d c' d' q in
+    truth_choice (all_hold op a b c d) (all_hold (opposite op) a b c d) (all_hold op a' b' c' d') (all_hold (opposite op) a' b' c' d')
+    (all_hold-falls op a b c d a' b' c' d' m.0 m.1 n.0 n.1)
+    (all_hold-falls (opposite op) a b c d a' b' c' d' m.0 m.1 n.0 n.1)
+    (not_both op a b c d h.0 k.0)
+
+truth-within : (op : Relation) (i j : Interval) → interval_le (truth op i j) undecided ≡ true
+truth-within op Empty j = refl
+truth-within op (Of a b) Empty = refl
+truth-within op (Of a b) (Of c d) = chosen (λ i. interval_le i undecided ≡ true) (all_hold op a b c d) (exactly (pos 1)) (cond (all_hold (opposite op) a b c d) (exactly (pos 0)) undecided) (λ e. refl)
+    (λ e. chosen (λ i. interval_le i undecided ≡ true) (all_hold (opposite op) a b c d) (exactly (pos 0)) undecided (λ e. refl) (λ e. refl))
+
+compared-monotone : (op : Relation) (v w v' w' : Known) → IsFormedKnown v → IsFormedKnown w → known_le v v' ≡ true → known_le w w' ≡ true → interval_le (compared op v w) (compared op v' w') ≡ true
+compared-monotone op v w v' w' h k p q = falling_numbers (is_none v || is_none w) (is_none v' || is_none w')
+    (cond (has_targets v || has_targets w) undecided (truth op v.numbers w.numbers))
+    (cond (has_targets v' || has_targets w') undecided (truth op v'.numbers w'.numbers))
+    (either-rises (is_none v') (is_none w') (is_none v) (is_none w) (none-falls v v' p) (none-falls w w' q))
+    (rising_numbers (has_targets v || has_targets w) (has_targets v' || has_targets w') undecided (truth op v.numbers w.numbers) undecided (truth op v'.numbers w'.numbers)
+    (either-rises (has_targets v) (has_targets w) (has_targets v') (has_targets w') (has_targets-rises v v' p) (has_targets-rises w w' q))
+    refl
+    (truth-monotone op v.numbers w.numbers v'.numbers w'.numbers (numbers_of v h) (numbers_of w k) (numbers_le v v' p) (numbers_le w w' q))
+    (truth-within op v.numbers w.numbers))
+
+comparison-monotone : (op : Option Relation) (v w v' w' : Known) → IsFormedKnown v → IsFormedKnown w → known_le v v' ≡ true → known_le w w' ≡ true → interval_le (comparison_of op v w) (comparison_of op v' w') ≡ true
+unfolding comparison_of
+comparison-monotone None v w v' w' h k p q = refl
+comparison-monotone (Some op) v w v' w' h k p q = compared-monotone op v w v' w' h k p q
+
+-- ---- steps
+
+module _ (g : Terrain) where
+  member-rises : (t : CType) (k : ℕ) → Rises (λ x. of_target (member_target g t k x)) (λ x. of_target (member_target g t k x))
+  member-rises t k = rises-made (λ x. of_target (member_target g t k x)) (λ x. of_target (member_target g t k x)) (λ r o s o' s' h k'. by (g.collapsed r) r o s o' s' h k')
+    where
+      by : (b : Bool) (r : ℕ) (o s o' s' : Interval) → interval_le o o' ≡ true → interval_le s s' ≡ true
+          → known_le (of_target (cond b (at r (moved_offset (g.member_offset t k) o) s) (whole_of g (g.member r k)))) (of_target (cond b (at r (moved_offset (g.member_offset t k) o') s') (whole_of g (g.member r k)))) ≡ true
+      by true r o s o' s' h k' = one-monotone r (moved_offset (g.member_offset t k) o) s (moved_offset (g.member_offset t k) o') s' (moved_offset-monotone (g.member_offset t k) o o' h) k'
+      by false r o s o' s' h k' = known-refl (of_target (whole_of g (g.member r k)))
+
+  element-rises : Rises (λ x. of_target (element_target g x)) (λ x. of_target (element_target g x))
+  element-rises = rises-made (λ x. of_target (element_target g x)) (λ x. of_target (element_target g x)) (λ r o s o' s' h k. by (g.collapsed r) r o s o' s' h k)
+    where
+      by : (b : Bool) (r : ℕ) (o s o' s' : Interval) → interval_le o o' ≡ true → interval_le s s' ≡ true → known_le (of_target (cond b (at r o s) (whole_of g (g.element r)))) (of_target (cond b (at r o' s') (whole_of g (g.element r)))) ≡ true
+      by true r o s o' s' h k = one-monotone r o s o' s' h k
+      by false r o s o' s' h k = known-refl (of_target (whole_of g (g.element r)))
+
+  members-monotone : (t : CType) (k : ℕ) (v w : Known) → known_le v w ≡ true → known_le (members_of g t k v) (members_of g t k w) ≡ true
+  unfolding members_of
+  members-monotone t k v w h = each-monotone (member_target g t k) (member-rises t k) v w h
+
+  elements-monotone : (v w : Known) → known_le v w ≡ true → known_le (elements_of g v) (elements_of g w) ≡ true
+  unfolding elements_of
+  elements-monotone v w h = each-monotone (element_target g) element-rises v w h
+
+  accepted-monotone : (t : CType) (v w : Known) → known_le v w ≡ true → known_le (accepted g t v) (accepted g t w) ≡ true
+  unfolding accepted
+  accepted-monotone t v w h = gathered-monotone (accepted_one g t) (accepted_one g t)
+      (rises-made (accepted_one g t) (accepted_one g t) (λ r o s o' s' p q. same_choice (g.accepts r t) (of_target (at r o s)) (of_numbers (every pointer_range)) (of_target (at r o' s')) (of_numbers (every pointer_range)) (one-monotone r o s o' s' p q) (known-refl (of_numbers (every pointer_range)))))
+      v.targets w.targets (the_targets_le v w h)
+
+  matched-monotone : (l : Lvalue) (v w : Known) → known_le v w ≡ true → known_le (matched g l v) (matched g l w) ≡ true
+  unfolding matched
+  matched-monotone (direct o t) v w h = h
+  matched-monotone (through e t p) v w h = accepted-monotone t v w h
+  matched-monotone (field l k t) v w h = h
+
+  read_cell-monotone : (s t : ℕ → Known) → AreBelow s t → (c : CType) (r : ℕ) → known_le (read_cell g s c r) (read_cell g t c r) ≡ true
+  read_cell-monotone s t below c r = known_made (read_cell g s c r) (read_cell g t c r)
+      (same_numbers (g.collapsed r) (every_number c) (s r).numbers (every_number c) (t r).numbers (λ e. interval_le-refl (every_number c)) (numbers_le (s r) (t r) (below r)))
+      (the_targets_le (s r) (t r) (below r))
+
+  read-monotone : (s t : ℕ → Known) → AreBelow s t → (c : CType) (v w : Known) → known_le v w ≡ true → known_le (read_at g s c v) (read_at g t c w) ≡ true
+  unfolding read_at
+  read-monotone s t below c v w h = known_join-monotone (of_numbers (cond (has_numbers v) (every_number c) Empty)) (gathered (λ x. read_cell g s c x.region) v.targets) (of_numbers (cond (has_numbers w) (every_number c) Empty)) (gathered (λ x. read_cell g t c x.region) w.targets)
+      (numbers-monotone (cond (has_numbers v) (every_number c) Empty) (cond (has_numbers w) (every_number c) Empty) (rising_numbers (has_numbers v) (has_numbers w) (every_number c) Empty (every_number c) Empty (has_numbers-rises v w h) (interval_le-refl (every_number c)) refl refl))
+      (gathered-monotone (λ x. read_cell g s c x.region) (λ x. read_cell g t c x.region)
+      (rises-made (λ x. read_cell g s c x.region) (λ x. read_cell g t c x.region) (λ r o a o' a' p q. read_cell-monotone s t below c r)) v.targets w.targets (the_targets_le v w h))
+
+  -- ---- pointers
+
+  moved_target-rises : (back : Bool) (size : ℕ) (i j : Interval) → interval_le i j ≡ true → Rises (λ x. of_target (moved_target g back size i x)) (λ x. of_target (moved_target g back size j x))
+  moved_target-rises back size i j p = rises-made (λ x. of_target (moved_target g back size i x)) (λ x. of_target (moved_target g back size j x))
+      (λ r o s o' s' u v. one-monotone r
+      (cond (nat_eq (size % g.element_size r) 0) (ranged long_range (shifted back o (times_size (size / g.element_size r) i))) every_offset) s
+      (cond (nat_eq (size % g.element_size r) 0) (ranged long_range (shifted back o' (times_size (size / g.element_size r) j))) every_offset) s'
+      (same_numbers (nat_eq (size % g.element_size r) 0) (ranged long_range (shifted back o (times_size (size / g.element_size r) i))) every_offset (ranged long_range (shifted back o' (times_size (size / g.element_size r) j))) every_offset
+      (λ e. long-monotone (shifted back o (times_size (size / g.element_size r) i)) (shifted back o' (times_size (size / g.element_size r) j))
+      (shifted-monotone back o (times_size (size / g.element_size r) i) o' (times_size (size / g.element_size r) j) u (times_size-monotone (size / g.element_size r) i j p)))
+      refl)
+      v)
+
+  moved_numbers-monotone : (back : Bool) (size : ℕ) (i j i' j' : Interval) → IsFormed i → IsFormed j → interval_le i i' ≡ true → interval_le j j' ≡ true
+      → interval_le (ranged pointer_range (shifted back i (times_size size j))) (ranged pointer_range (shifted back i' (times_size size j'))) ≡ true
+  moved_numbers-monotone back size i j i' j' h k p q = ranged-monotone pointer_range (shifted back i (times_size size j)) (shifted back i' (times_size size j')) pointer_is
+      (shifted-ordered back i (times_size size j) (ordered_from_formed i h) (times_size-ordered size j (ordered_from_formed j k)))
+      (shifted-monotone back i (times_size size j) i' (times_size size j') p (times_size-monotone size j j' q))
+
+  moved-monotone : (back : Bool) (size : ℕ) (p b p' b' : Known) → IsFormedKnown p → IsFormedKnown b → known_le p p' ≡ true → known_le b b' ≡ true → known_le (moved g back size p b) (moved g back size p' b') ≡ true
+  unfolding moved
+  moved-monotone back size p b p' b' f k h l = rising_choice (has_numbers b) (has_numbers b')
+      (known_join (of_numbers (ranged pointer_range (shifted back p.numbers (times_size size b.numbers)))) (gathered (λ x. of_target (moved_target g back size b.numbers x)) p.targets)) none
+      (known_join (of_numbers (ranged pointer_range (shifted back p'.numbers (times_size size b'.numbers)))) (gathered (λ x. of_target (moved_target g back size b'.numbers x)) p'.targets)) none
+      (has_numbers-rises b b' l)
+      (known_join-monotone (of_numbers (ranged pointer_range (shifted back p.numbers (times_size size b.numbers)))) (gathered (λ x. of_target (moved_target g back size b.numbers x)) p.targets)
+      (of_numbers (ranged pointer_range (shifted back p'.numbers (times_size size b'.numbers)))) (gathered (λ x. of_target (moved_target g back size b'.numbers x)) p'.targets)
+      (numbers-monotone (ranged pointer_range (shifted back p.numbers (times_size size b.numbers))) (ranged pointer_range (shifted back p'.numbers (times_size size b'.numbers)))
+      (moved_numbers-monotone back size p.numbers b.numbers p'.numbers b'.numbers (numbers_of p f) (numbers_of b k) (numbers_le p p' h) (numbers_le b b' l)))
+      (gathered-monotone (λ x. of_target (moved_target g back size b.numbers x)) (λ x. of_target (moved_target g back size b'.numbers x)) (moved_target-rises back size b.numbers b'.numbers (numbers_le b b' l)) p.targets p'.targets (the_targets_le p p' h)))
+      refl refl
+
+  pair-monotone : (size : ℕ) → 0 < size → (r : ℕ) (o s o' s' : Interval) (y y' : Target) → interval_le o o' ≡ true → y.region ≡ y'.region → extent_le y y' ≡ true → interval_le (pair_distance g size (at r o s) y) (pair_distance g size (at r o' s') y') ≡ true
+  pair-monotone size some r o s o' s' y y' h e k = subst (λ n. interval_le (pair_distance g size (at r o s) y) (pair_distance g size (at r o' s') (at n y'.offset y'.size)) ≡ true) e
+      (same_numbers (nat_eq r y.region && nat_eq (size % g.element_size r) 0) (ranged long_range (outward (size / g.element_size r) (difference_of o y.offset))) (every long_range) (ranged long_range (outward (size / g.element_size r) (difference_of o' y'.offset))) (every long_range)
+      (λ t. long-monotone (outward (size / g.element_size r) (difference_of o y.offset)) (outward (size / g.element_size r) (difference_of o' y'.offset))
+      (outward-monotone (size / g.element_size r) (ratio size (g.element_size r) some (second (nat_eq r y.region) (nat_eq (size % g.element_size r) 0) t)) (difference_of o y.offset) (difference_of o' y'.offset) (difference_of-monotone o y.offset o' y'.offset h (offset_le y y' k))))
+      (interval_le-refl (every long_range)))
+
+  distances-monotone : (size : ℕ) (v w v' w' : Known) → 0 < size → known_le v v' ≡ true → known_le w w' ≡ true → known_le (distances g size v w) (distances g size v' w') ≡ true
+  distances-monotone size v w v' w' some p q = gathered-monotone (λ x. gathered (λ y. of_numbers (pair_distance g size x y)) w.targets) (λ x. gathered (λ y. of_numbers (pair_distance g size x y)) w'.targets)
+      (rises-made (λ x. gathered (λ y. of_numbers (pair_distance g size x y)) w.targets) (λ x. gathered (λ y. of_numbers (pair_distance g size x y)) w'.targets)
+      (λ r o s o' s' h k. gathered-monotone (λ y. of_numbers (pair_distance g size (at r o s) y)) (λ y. of_numbers (pair_distance g size (at r o' s') y))
+      (λ y y' e l. numbers-monotone (pair_distance g size (at r o s) y) (pair_distance g size (at r o' s') y') (pair-monotone size some r o s o' s' y y' h e l)) w.targets w'.targets (the_targets_le w w' q)))
+      v.targets v'.targets (the_targets_le v v' p)
+
+  distance-monotone : (size : ℕ) (v w v' w' : Known) → 0 < size → known_le v v' ≡ true → known_le w w' ≡ true → interval_le (distance_of g size v w) (distance_of g size v' w') ≡ true
+  unfolding distance_of
+  distance-monotone size v w v' w' some p q = falling_numbers (is_none v || is_none w) (is_none v' || is_none w')
+      (hull (cond (has_numbers v || has_numbers w) (every long_range) Empty) (distances g size v w).numbers)
+      (hull (cond (has_numbers v' || has_numbers w') (every long_range) Empty) (distances g size v' w').numbers)
+      (either-rises (is_none v') (is_none w') (is_none v) (is_none w) (none-falls v v' p) (none-falls w w' q))
+      (hull-monotone (cond (has_numbers v || has_numbers w) (every long_range) Empty) (distances g size v w).numbers (cond (has_numbers v' || has_numbers w') (every long_range) Empty) (distances g size v' w').numbers
+      (rising_numbers (has_numbers v || has_numbers w) (has_numbers v' || has_numbers w') (every long_range) Empty (every long_range) Empty (either-rises (has_numbers v) (has_numbers w) (has_numbers v') (has_numbers w') (has_numbers-rises v v' p) (has_numbers-rises w w' q)) (interval_le-refl (every long_range)) refl refl)
+      (numbers_le (distances g size v w) (distances g size v' w') (distances-monotone size v w v' w' some p q)))
+
+-- ---- all forms
+
+module _ (g : Terrain) (is : IsTerrain g) (s t : ℕ → Known) (formed : AreFormed s) (below : AreBelow s t) where
+  mutual
+    pub address-monotone : (l : Lvalue) → is_proper_lvalue l ≡ true → known_le (address_of g s l) (address_of g t l) ≡ true
+    address-monotone (direct o c) h = known-refl (of_target (whole_of g (g.root o)))
+    address-monotone (through e c p) h = value-monotone e h
+    address-monotone (field l k c) h = members-monotone g (lvalue_type l) k (matched g l (address_of g s l)) (matched g l (address_of g t l)) (matched-monotone g l (address_of g s l) (address_of g t l) (address-monotone l h))
+
+    pub value-monotone : (e : Expression) → is_proper e ≡ true → known_le (value_of g s e) (value_of g t e) ≡ true
+    value-monotone (number z k) h = known-refl (of_numbers (exactly z))
+    value-monotone (address l) h = address-monotone l h
+    value-monotone (decay l) h = elements-monotone g (matched g l (address_of g s l)) (matched g l (address_of g t l)) (matched-monotone g l (address_of g s l) (address_of g t l) (address-monotone l h))
+    value-monotone (read l) h = read-monotone g s t below (lvalue_type l) (matched g l (address_of g s l)) (matched g l (address_of g t l)) (matched-monotone g l (address_of g s l) (address_of g t l) (address-monotone l h))
+    value-monotone (convert c e) h = converted-monotone c (value_of g s e) (value_of g t e) (value-formed g is s formed e h) (value-monotone e h)
+    value-monotone (unary op k e) h = numbers-monotone (signed_by op (range_of k) (value_of g s e).numbers) (signed_by op (range_of k) (value_of g t e).numbers)
+        (signed_by-monotone op (range_of k) (value_of g s e).numbers (value_of g t e).numbers (range_is k) (numbers_of (value_of g s e) (value-formed g is s formed e h)) (numbers_le (value_of g s e) (value_of g t e) (value-monotone e h)))
+    value-monotone (binary op k e f p) h = numbers-monotone (operated op (range_of k) (value_of g s e).numbers (value_of g s f).numbers) (operated op (range_of k) (value_of g t e).numbers (value_of g t f).numbers)
+        (operated-monotone op (range_of k) (value_of g s e).numbers (value_of g s f).numbers (value_of g t e).numbers (value_of g t f).numbers (range_is k)
+        (numbers_of (value_of g s e) (value-formed g is s formed e (proper-left e f h))) (numbers_of (value_of g s f) (value-formed g is s formed f (proper-right e f h)))
+        (numbers_le (value_of g s e) (value_of g t e) (value-monotone e (proper-left e f h))) (numbers_le (value_of g s f) (value_of g t f) (value-monotone f (proper-right e f h))))
+    value-monotone (compare op e f) h = numbers-monotone (comparison_of (relation_of op) (value_of g s e) (value_of g s f)) (comparison_of (relation_of op) (value_of g t e) (value_of g t f))
+        (comparison-monotone (relation_of op) (value_of g s e) (value_of g s f) (value_of g t e) (value_of g t f) (value-formed g is s formed e (proper-left e f h)) (value-formed g is s formed f (proper-right e f h)) (value-monotone e (proper-left e f h)) (value-monotone f (proper-right e f h)))
+    value-monotone (move e f back size) h = moved-monotone g back size (value_of g s e) (value_of g s f) (value_of g t e) (value_of g t f)
+        (value-formed g is s formed e (proper-left e f (proper-operands size e f h))) (value-formed g is s formed f (proper-right e f (proper-operands size e f h)))
+        (value-monotone e (proper-left e f (proper-operands size e f h))) (value-monotone f (proper-right e f (proper-operands size e f h)))
+    value-monotone (distance e f size) h = numbers-monotone (distance_of g size (value_of g s e) (value_of g s f)) (distance_of g size (value_of g t e) (value_of g t f))
+        (distance-monotone g size (value_of g s e) (value_of g s f) (value_of g t e) (value_of g t f) (size-some size e f h)
+        (value-monotone e (proper-left e f (proper-operands size e f h))) (value-monotone f (proper-right e f (proper-operands size e f h))))

@@ -1,0 +1,26 @@
+//! The value of an expression in a store.
+//!
+//! *Evaluation* takes an expression of a formed program and a store to the value that the
+//! expression may have: an interval of numbers and a list of targets, both exact until a store
+//! moves them to the ladder. The *address* of an lvalue is a pointer like any other: its targets
+//! are where the lvalue may stand. An access through a target *matches* where the region's elements
+//! are of the access's type, or bytes; else the target is *punned*, and stands for any number.
+//!
+//! So where `p` points to `a` at [0,1], `int a[3]` holds [4,7] in each element, and `i` is [1,2],
+//! the expression `p[i]` is worth [4,7], and the address of that lvalue is `a` at [1,3].
+//!
+//! The layers above use that [`evaluate`], [`address_of`] and [`resolve`] compute `value_of` and
+//! `address_of` of `specs.Evaluation`, over the `Terrain` of the program and what the view's store
+//! holds in each region (`cells_at`), and the laws of these (`EvaluationLaws` of `specs.Laws`, the
+//! as all of a formed program are.
+#![tactic(auto)]
+
+mod evaluation;
+mod lawful;
+mod numbers;
+mod pointers;
+mod steps;
+
+pub use evaluation::{address_of, evaluate, resolve};
+pub use lawful::evaluation_is_lawful;
+pub use numbers::{every_number, relation_of};
