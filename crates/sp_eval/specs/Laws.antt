@@ -29,9 +29,9 @@ AreBelow s t = (r : ℕ) → known_le (s r) (t r) ≡ true
 abbrev pub AgreeOn : List ℕ → (ℕ → Known) → (ℕ → Known) → Type 0
 AgreeOn rs s t = (r : ℕ) → Among rs r → s r ≡ t r
 
--- On this terrain: the value of a proper expression in formed cells is formed; in lesser cells it is
--- lesser; its targets are among the regions that the expression's form allows, by what each cell may
--- point to; and it hangs on the cells that the expression uses alone. The same of an lvalue's
+-- On this terrain: the value of a proper expression in formed cells is formed; in lesser cells it
+-- is lesser; its targets are among the regions that the expression's form allows, by what each cell
+-- may point to; and it hangs on the cells that the expression uses alone. The same of an lvalue's
 -- address, and of its targets that match.
 pub record IsEvaluationLawful (g : Terrain) : Type 0 where
   pub value_formed : (cells : ℕ → Known) → AreFormed cells → (e : Expression)

@@ -52,7 +52,8 @@ moved_target g back size by x = record {
 -- how many elements of a size lie between two targets: where they are of one region, whose
 -- elements make up these
 abbrev pub pair_distance : Terrain → ℕ → Target → Target → Interval
-pair_distance g size x y = cond (nat_eq x.region y.region && nat_eq (size % g.element_size x.region) 0)
+pair_distance g size x y = cond
+    (nat_eq x.region y.region && nat_eq (size % g.element_size x.region) 0)
     (ranged long_range
     (outward (size / g.element_size x.region) (difference_of x.offset y.offset)))
     (every long_range)
