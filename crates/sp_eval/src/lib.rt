@@ -11,8 +11,8 @@
 //!
 //! The layers above use that [`evaluate`], [`address_of`] and [`resolve`] compute `value_of` and
 //! `address_of` of `specs.Evaluation`, over the `Terrain` of the program and what the view's store
-//! holds in each region (`cells_at`), and the laws of these (`EvaluationLaws` of `specs.Laws`, the
-//! as all of a formed program are.
+//! holds in each region (`cells_at`). The laws of these are `EvaluationLaws` of `specs.Laws`, which
+//! [`evaluation_is_lawful`] ensures for proper expressions, as all of a formed program are.
 #![tactic(auto)]
 
 mod evaluation;
