@@ -17,3 +17,4 @@ pub mod BareUnits
 pub mod PlacingUnits
 pub mod WholeUnits
 pub mod UnitsAgain
+mod Rows

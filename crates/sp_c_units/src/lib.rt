@@ -11,7 +11,8 @@
 //! one's, the inner `if` would end open before an `else`. The text `int a;}` fails at its `}`: the
 //! text of some unit begins with `int a;`, that of none with `int a;}`. And `int a` fails at its end.
 //!
-//! A parser of units uses `units_are_parsed`, from what the grammar reads to what it answers.
+//! A parser of units uses `units_are_parsed`, from what the grammar reads to what it answers. Rows
+//! try the laws on small texts (proofs/Rows.antt).
 #![tactic(auto)]
 
 ghost use Rattle.sp_c_units.specs.Units.{StatementsAreSpelled, ExternalsAreSpelled, UnitsAreSpelled};
