@@ -1,0 +1,10 @@
+pub mod Swaps
+pub mod Swapping
+pub mod KnownBehind
+pub mod NameNotes
+pub mod Productions
+pub mod NamePeeks
+pub mod WantsOwn
+pub mod UnitNames
+pub mod NamesTold
+pub mod Rows

@@ -1,0 +1,23 @@
+//! What the kinds of faults at C90's failing tokens mean, said by trees (C90 6.5.6): laws alone.
+//!
+//! The grammar notes at each place whether a name could stand there, for the kind of a fault at the
+//! name of a type (`takes_name` of `sp_c_tokens`). Here the note is shown to be right: where a text
+//! that is no unit fails at the name of a type, a name that is none could be in its place exactly
+//! where the note says so (specs/Told.antt).
+//!
+//! Any table is asked what it does at another token in the failing one's place: a part that ended
+//! there may go on with it, and what failed there may take it (proofs/Swapping.antt). The notes tell
+//! both, since each production keeps them (proofs/Productions.antt), and so does each ask at the two
+//! tokens (proofs/NamePeeks.antt).
+//!
+//! For example `typedef int T;int f(){for(;T;);}` fails at the second `T`: behind the `;` an
+//! expression may be missing, so a name could go on there. In `int a T;` none could.
+#![tactic(auto)]
+
+ghost use Rattle.sp_c_faults.specs.Told.{TypeNamesAreTold};
+
+/// Where a text fails at the name of a type, the grammar's note tells whether a name could be in its
+/// place. The call does nothing.
+pub fn type_names_are_told()
+    ensures { TypeNamesAreTold }
+{}
