@@ -5,6 +5,7 @@ pub mod NameNotes
 pub mod Productions
 pub mod NamePeeks
 pub mod WantsOwn
+pub mod PartNames
 pub mod UnitNames
 pub mod NamesTold
 pub mod Rows

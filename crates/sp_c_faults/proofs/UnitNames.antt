@@ -15,47 +15,25 @@ use Rattle.sp_grammar.proofs.CEndings.{c90_checked}
 use Rattle.sp_c_tokens.specs.Sorts.{Terminal}
 use Rattle.sp_c_tokens.specs.SyntaxTrees.{syntax_trees, c_table}
 use Rattle.sp_c_tokens.specs.Faults.{Wanted, context_of}
-use Rattle.sp_c_tokens.specs.Depths.{Part}
-use Rattle.sp_c_faults.proofs.Swaps.{Noted, FailClaim, at_once, none_at_once, no_fail, completed_after, completed_ask}
-use Rattle.sp_c_faults.proofs.Swapping.{fails}
-use Rattle.sp_c_faults.proofs.KnownBehind.{known_behind}
-use Rattle.sp_c_faults.proofs.NameNotes.{name_notes, covers_names, names_at_token, tells_name, Fits, Within}
-use Rattle.sp_c_faults.proofs.NamePeeks.{names_before, names_peek, external_takes}
-use Rattle.sp_c_faults.proofs.WantsOwn.{external_own}
+use Rattle.sp_c_faults.proofs.Swaps.{FailClaim, at_once, none_at_once, no_fail, completed_after, completed_ask}
+use Rattle.sp_c_faults.proofs.NameNotes.{name_notes, tells_name}
+use Rattle.sp_c_faults.proofs.NamePeeks.{external_takes}
+use Rattle.sp_c_faults.proofs.WantsOwn.{part_own}
+use Rattle.sp_c_faults.proofs.PartNames.{PlaceClaim, Swapped, SwappedAt, part_fails}
 
 abbrev External : List ℕ → Ask syntax_trees
 External types = at (grammar.outside types) grammar.external
-
-fits_within : (i : Part) → Fits i → Within i
-fits_within (grammar.level k) h = h
-fits_within (grammar.after k l) h = h
-fits_within _ h = tt
-
-at_covered : (types : List ℕ) (n : Ask syntax_trees) → names_at_token types n → covers_names types n
-at_covered types (at g i) h = (h.0, fits_within i h.1)
-at_covered types (unit us) h = absurd h
-at_covered types whole h = absurd h
-
-noted_external : (types : List ℕ) (b x : Terminal) (us : List Terminal) → Noted c_table (name_notes types) b x us (ask (External types)) false
-noted_external types b x [] = ((refl, tt), (λ f. absurd cc), (λ f. absurd cc), (λ f. absurd cc))
-noted_external types b x (u ∷ us) = ((refl, tt), λ a k. (refl, tt))
 
 -- the plan of a unit that goes on
 abbrev unit_plan : (types : List ℕ) → Plan (c_symbols syntax_trees) (unit types)
 unit_plan types = call (External types) (λ e. call (unit (types ++ e.types)) (λ es. done (e.tree ∷ es)))
 
--- the token is a type name where these are, and the other one is a name that is none
-record Swapped (types : List ℕ) (b x : Terminal) (kind number : ℕ) : Type 0 where
-  type_b : viewed types b.sort ≡ tokens.named_type kind
-  name_x : viewed types x.sort ≡ tokens.name number
-
 module _ (b x : Terminal) (kind number : ℕ) (is_name_b : is_name b.sort ≡ true) (is_name_x : is_name x.sort ≡ true) where
   external_claim : (types : List ℕ) → Swapped types b x kind number → {xs bad : List Terminal} {w : Wanted} (h : Fails c_table (External types) (ask (External types)) xs w bad) → Heads bad b → FailClaim c_table (name_notes types) x (ask (External types)) (fault_front h) w (at_once (fault_front h) false)
-  external_claim types s h head =
-      let type_b = λ (g : Context) (e : g.types ≡ types). subst (λ v. viewed v b.sort ≡ tokens.named_type kind) (sym e) s.type_b in
-      let name_x = λ (g : Context) (e : g.types ≡ types). subst (λ v. viewed v x.sort ≡ tokens.name number) (sym e) s.name_x in
-      fails c_table (c90_checked syntax_trees) (name_notes types) b x (λ n xs ys a c r. known_behind n xs ys a r) (λ n y c. names_before types b x kind number is_name_b is_name_x type_b name_x n y c) (at_covered types) (λ n c. names_peek types b x kind number is_name_b is_name_x type_b name_x n c)
-      h head false (noted_external types b x (fault_front h))
+  external_claim types s h head = part_fails types grammar.external tt refl b x kind number is_name_b is_name_x s h head
+
+  external_own : (types : List ℕ) {xs bad : List Terminal} {w : Wanted} → Fails c_table (External types) (ask (External types)) xs w bad → (context_of w).types ≡ types
+  external_own types h = part_own types grammar.external tt h
 
   first_fails : (types : List ℕ) (q : Plan (c_symbols syntax_trees) (External types)) (y : Terminal) (rest bad : List Terminal) (w : Wanted) → c_table.predict (External types) y ≡ Some q → Opens c_table (External types) q y → Fails c_table (External types) (ask (External types)) (y ∷ rest) w bad → y ∷ rest ≡ bad → ⊥
   first_fails types q y rest bad w e opens (fail_ask f) alike = let apart : None ≡ Some q = sym f ∙ e in absurd cc
@@ -192,16 +170,10 @@ module _ (b x : Terminal) (kind number : ℕ) (is_name_b : is_name b.sort ≡ tr
 
   -- ---- the whole text
 
-  pub record WholeClaim (front : List Terminal) (w : Wanted) : Type 0 where
-    pub goes : Bool
-    pub told : tells_name w ≡ goes
-    pub stays : goes ≡ false → (zs : List Terminal) → Fails c_table whole (ask whole) (front ++ x ∷ zs) w (x ∷ zs)
-    pub goes_on : goes ≡ true → Completed c_table whole (ask whole) (front ++ x ∷ [])
-
   abbrev whole_plan : Plan (c_symbols syntax_trees) whole
   whole_plan = call (unit []) (λ es. take (grammar.only (grammar.outside []) grammar.for_external tokens.end) (λ z. done es))
 
-  of_unit : (y : Terminal) (rest bad front : List Terminal) (w : Wanted) → y ∷ rest ≡ front ++ bad → UnitClaim [] front w → WholeClaim front w
+  of_unit : (y : Terminal) (rest bad front : List Terminal) (w : Wanted) → y ∷ rest ≡ front ++ bad → UnitClaim [] front w → PlaceClaim whole x front w
   of_unit y rest bad [] w spelt s = absurd (s.some refl)
   of_unit y rest bad (v ∷ vs) w spelt s = record {
     goes = s.goes;
@@ -219,16 +191,16 @@ module _ (b x : Terminal) (kind number : ℕ) (is_name_b : is_name b.sort ≡ tr
   none_viewed (tokens.name m) e n v = absurd cc
   none_viewed _ e n v = absurd cc
 
-  plan_whole : (y : Terminal) (rest bad front : List Terminal) (w : Wanted) → Swaps w → y ∷ rest ≡ front ++ bad → Heads bad b → Fails c_table whole whole_plan (y ∷ rest) w bad → WholeClaim front w
+  plan_whole : (y : Terminal) (rest bad front : List Terminal) (w : Wanted) → Swaps w → y ∷ rest ≡ front ++ bad → Heads bad b → Fails c_table whole whole_plan (y ∷ rest) w bad → PlaceClaim whole x front w
   plan_whole y rest bad front w swaps spelt head (fail_ask e) = of_unit y rest bad front w spelt (unit_claim (length (y ∷ rest)) [] (y ∷ rest) bad front w swaps (omega arith) spelt head (fail_ask e))
   plan_whole y rest bad front w swaps spelt head (fail_inside e h) = of_unit y rest bad front w spelt (unit_claim (length (y ∷ rest)) [] (y ∷ rest) bad front w swaps (omega arith) spelt head (fail_inside e h))
   plan_whole y rest bad front w swaps spelt head (fail_behind {ys = mid} {a = a} e r h) = absurd (none_viewed b.sort is_name_b kind (swaps [] (end_wanted a mid bad w h)).type_b)
 
-  ask_whole : (xs bad front : List Terminal) (w : Wanted) → Swaps w → xs ≡ front ++ bad → Heads bad b → Fails c_table whole (ask whole) xs w bad → WholeClaim front w
+  ask_whole : (xs bad front : List Terminal) (w : Wanted) → Swaps w → xs ≡ front ++ bad → Heads bad b → Fails c_table whole (ask whole) xs w bad → PlaceClaim whole x front w
   ask_whole xs bad front w swaps spelt head (fail_ask e) = absurd cc
   ask_whole xs bad front w swaps spelt head (fail_inside {q = q} {x = y} {xs = rest} e h) = let same : q ≡ whole_plan = cc in plan_whole y rest bad front w swaps spelt head (subst (λ v. Fails c_table whole v (y ∷ rest) w bad) same h)
   ask_whole xs bad front w swaps spelt head (fail_behind e r h) = elim h [ ]
 
   -- Where a text fails at a type name, a name in its place goes on exactly where the note tells so.
-  pub whole_claim : (front rest : List Terminal) (w : Wanted) → viewed (context_of w).types b.sort ≡ tokens.named_type kind → viewed (context_of w).types x.sort ≡ tokens.name number → Fails c_table whole (ask whole) (front ++ b ∷ rest) w (b ∷ rest) → WholeClaim front w
-  whole_claim front rest w type_b name_x h = ask_whole (front ++ b ∷ rest) (b ∷ rest) front w (λ types own. record { type_b = ap (λ v. viewed v b.sort) (sym own) ∙ type_b; name_x = ap (λ v. viewed v x.sort) (sym own) ∙ name_x }) refl refl h
+  pub whole_claim : (front rest : List Terminal) (w : Wanted) → SwappedAt w b x kind number → Fails c_table whole (ask whole) (front ++ b ∷ rest) w (b ∷ rest) → PlaceClaim whole x front w
+  whole_claim front rest w s h = ask_whole (front ++ b ∷ rest) (b ∷ rest) front w (λ types own. subst (λ v. Swapped v b x kind number) own s) refl refl h

@@ -1,15 +1,16 @@
--- What is wanted inside an external declaration is wanted where the names of types are those of that declaration.
+-- What is wanted inside a part is wanted where the names of types are those of that part.
 use Rattle.std.proofs.Common.{◌≡◌, ℕ, false, List, ◌∷◌, Some, None, refl, subst}
 use Rattle.std.specs.Prelude.{Option, ⊤}
 use Rattle.sp_grammar.specs.CTokens.{view as viewed}
 use Rattle.sp_grammar.specs.CTable as grammar
 use Rattle.sp_grammar.specs.CTable.{Context, Ask, Answer, at, unit, whole, c_symbols, accepts, plan}
-use Rattle.sp_grammar.specs.Table.{Plan, done, take, call, read_done, read_call, Fails, fail_take, fail_later, fail_ask, fail_inside, fail_behind, wanted, asked}
+use Rattle.sp_grammar.specs.Table.{Plan, done, take, call, ask, read_done, read_call, Fails, fail_take, fail_later, fail_ask, fail_inside, fail_behind, wanted, asked}
 use Rattle.sp_c_tokens.specs.Sorts.{Terminal}
 use Rattle.sp_c_tokens.specs.SyntaxTrees.{syntax_trees, c_table}
 use Rattle.sp_c_tokens.specs.Faults.{Wanted, context_of}
 use Rattle.sp_c_faults.proofs.KnownBehind.{KnownAnswer, known_behind}
-use Rattle.sp_c_faults.proofs.NameNotes.{covers_names}
+use Rattle.sp_c_tokens.specs.Depths.{Part}
+use Rattle.sp_c_faults.proofs.NameNotes.{covers_names, Within}
 use Rattle.sp_c_faults.proofs.Productions.{Rules, StartsAt, item_starts}
 
 -- each want of the plan is wanted where these are the names of types
@@ -58,6 +59,6 @@ module _ (types : List ℕ) where
   wants_own (fail_inside {n = n} {q = q} {x = y} e h) owns = wants_own h (production_owns n y q owns.0 e)
   wants_own (fail_behind {n = n} {q = q} {x = y} {xs = rest} {ys = mid} {a = a} e r h) owns = wants_own h (owns.1 a (known_behind n (y ∷ rest) mid a (read_call e r read_done)))
 
-  -- What an external declaration wants is wanted where these are the names of types.
-  pub external_own : {xs bad : List Terminal} {w : Wanted} → Fails c_table (at (grammar.outside types) grammar.external) (call (at (grammar.outside types) grammar.external) (λ a. done a)) xs w bad → (context_of w).types ≡ types
-  external_own h = wants_own h ((refl, tt), λ a k. tt)
+  -- What a part wants is wanted where these are the names of types.
+  pub part_own : (i : Part) → Within i → {xs bad : List Terminal} {w : Wanted} → Fails c_table (at (grammar.outside types) i) (ask (at (grammar.outside types) i)) xs w bad → (context_of w).types ≡ types
+  part_own i within h = wants_own h ((refl, within), λ a k. tt)

@@ -1,9 +1,9 @@
 //! What the kinds of faults at C90's failing tokens mean, said by trees (C90 6.5.6): laws alone.
 //!
 //! The grammar notes at each place whether a name could stand there, for the kind of a fault at the
-//! name of a type (`takes_name` of `sp_c_tokens`). Here the note is shown to be right: where a text
-//! that is no unit fails at the name of a type, a name that is none could be in its place exactly
-//! where the note says so (specs/Told.antt).
+//! name of a type (`takes_name` of `sp_c_tokens`). Here the note is shown to be right: where a unit,
+//! an expression, a type name, a list of specifiers or a declarator fails at the name of a type, a
+//! name that is none could be in its place exactly where the note says so (specs/Told.antt).
 //!
 //! Any table is asked what it does at another token in the failing one's place: a part that ended
 //! there may go on with it, and what failed there may take it (proofs/Swapping.antt). The notes tell
