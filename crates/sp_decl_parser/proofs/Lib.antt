@@ -1,0 +1,3 @@
+pub mod ExternalSteps
+pub mod UnitSteps
+pub mod ParserSteps
