@@ -7,5 +7,6 @@ pub mod NamePeeks
 pub mod WantsOwn
 pub mod PartNames
 pub mod UnitNames
+pub mod TypeKinds
 pub mod NamesTold
 pub mod Rows

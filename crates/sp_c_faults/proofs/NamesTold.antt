@@ -1,4 +1,4 @@
--- The note on what was wanted, said by trees.
+-- The kind of a fault at a type name, said by trees.
 use Rattle.std.proofs.Common.{◌≡◌, ℕ, Bool, true, false, List, [], ◌∷◌, ◌++◌, refl, sym, ap, ◌∙◌, append_assoc, arith}
 use Rattle.std.specs.Prelude.{◌↔◌, if◌then◌else◌}
 use Rattle.std.proofs.lemmas.List.{map-append}
@@ -26,6 +26,7 @@ use Rattle.sp_c_faults.specs.Told.{CouldBeName, AreTold, TypeNamesAreTold}
 use Rattle.sp_c_faults.proofs.NameNotes.{tells_name, carried_item, Fits}
 use Rattle.sp_c_faults.proofs.PartNames.{PlaceClaim, SwappedAt, part_claim}
 use Rattle.sp_c_faults.proofs.UnitNames.{whole_claim}
+use Rattle.sp_c_faults.proofs.TypeKinds.{by_its_note}
 
 -- the notes of the faults are those of the swapping
 noted : (w : Wanted) → tells_name w ≡ takes_name w
@@ -90,8 +91,10 @@ module _ (L : Language) (types : List ℕ) (n : Ask syntax_trees) (r : Reader L 
       let t = type_name (sort_there want bad) is_type in
       let kind = at_sort (context_of want).types (terminal bad) (tokens.named_type t.0) t.1 in
       let there : c_tokens (front ++ bad ∷ more) ≡ c_tokens front ++ terminal bad ∷ c_tokens more = map-append terminal front (bad ∷ more) in
-      by_claim front want m (claims (terminal bad) (terminal (named m)) t.0 m (ap (λ k. is_name (sort_of k)) kind.0) refl (c_tokens front) (c_tokens more) want
-      (record { type_b = t.1; name_x = ap (λ b. if b then tokens.named_type m else tokens.name m) free }) (fault_at_tokens there h))
+      let note = by_its_note want front bad t.0 t.1 in
+      let told = by_claim front want m (claims (terminal bad) (terminal (named m)) t.0 m (ap (λ k. is_name (sort_of k)) kind.0) refl (c_tokens front) (c_tokens more) want
+      (record { type_b = t.1; name_x = ap (λ b. if b then tokens.named_type m else tokens.name m) free }) (fault_at_tokens there h)) in
+      (λ u. told.0 (note.0 u), λ could. note.1 (told.1 could))
 
 part_told : (L : Language) (types : List ℕ) (i : Part) → Reader L types (at (grammar.outside types) i) → Fits i → carried_item i ≡ false → AreTold L types (at (grammar.outside types) i)
 part_told L types i r fits plain = are_told L types (at (grammar.outside types) i) r (λ b x kind number name_b name_x front rest w s h. part_claim types i fits plain b x kind number name_b name_x front rest w s h)

@@ -1,9 +1,9 @@
 //! What the kinds of faults at C90's failing tokens mean, said by trees (C90 6.5.6): laws alone.
 //!
-//! The grammar notes at each place whether a name could stand there, for the kind of a fault at the
-//! name of a type (`takes_name` of `sp_c_tokens`). Here the note is shown to be right: where a unit,
-//! an expression, a type name, a list of specifiers or a declarator fails at the name of a type, a
-//! name that is none could be in its place exactly where the note says so (specs/Told.antt).
+//! The kind of a fault at the name of a type is U9 where the grammar notes that a name could stand
+//! there (`takes_name` of `sp_c_tokens`). Here that is said by trees: where a unit, an expression, a
+//! type name, a list of specifiers or a declarator fails at the name of a type, the fault is U9
+//! exactly where a name that is no type's could be in its place (specs/Told.antt).
 //!
 //! Any table is asked what it does at another token in the failing one's place: a part that ended
 //! there may go on with it, and what failed there may take it (proofs/Swapping.antt). The notes tell
@@ -16,7 +16,7 @@
 
 ghost use Rattle.sp_c_faults.specs.Told.{TypeNamesAreTold};
 
-/// Where a text fails at the name of a type, the grammar's note tells whether a name could be in its
+/// Where a text fails at the name of a type, its fault is U9 exactly where a name could be in its
 /// place. The call does nothing.
 pub fn type_names_are_told()
     ensures { TypeNamesAreTold }
