@@ -1,0 +1,6 @@
+pub mod Lists
+pub mod Leaving
+pub mod Views
+pub mod AgreeLaws
+pub mod ProperCommands
+mod Examples

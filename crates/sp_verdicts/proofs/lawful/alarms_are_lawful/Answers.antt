@@ -1,0 +1,12 @@
+use Rattle.sp_verdicts.proofs.AgreeLaws.{alarms-agree, access-agrees}
+use Rattle.sp_verdicts.proofs.ProperCommands.{command-proper}
+use Rattle.sp_verdicts.proofs.lawful.alarms_are_lawful.Goals as goal
+
+pub returns : goal.returns
+returns c = record {
+  laws = record {
+    expression_agrees = alarms-agree;
+    access_agrees = access-agrees;
+    proper = λ p rs n f k h. command-proper p f rs n k h;
+  };
+}

@@ -1,0 +1,87 @@
+-- The alarms of a node, by its command and what each region's cell holds before it.
+use Rattle.std.specs.Prelude.{ℕ, Bool, true, false, not, cond, ◌&&◌, List, [], ◌∷◌, ◌++◌, length, Option, Some, None, is_some}
+use Rattle.std.specs.List.{flat_map, list_all, list_any}
+use Rattle.sp_tree.specs.declared.fault.Place.{Place}
+use Rattle.sp_ir.specs.Commands.{Expression, Lvalue, Leaf, Command, start, entry, exit, skip, assign, copy, init, assume, eval, call, return, library, outside, Node}
+use Rattle.sp_ir.specs.Functions.{function_at}
+use Rattle.sp_ir.specs.Programs.{Lowered}
+use Rattle.sp_ir.specs.Terrain.{terrain_of}
+use Rattle.sp_value.specs.declared.targets.Target.{Target}
+use Rattle.sp_value.specs.Known.{Known}
+use Rattle.sp_eval.specs.Evaluation.{value_of, is_proper, is_proper_lvalue}
+use Rattle.sp_verdicts.specs.declared.alarm.Alarm.{Alarm}
+use Rattle.sp_verdicts.specs.declared.alarm.AlarmKind.TheVariants.{NoFunction}
+use Rattle.sp_verdicts.specs.Alarms.{alarm, number_alarms, access_alarms, expression_alarms}
+
+-- what is called may be no function of so many parameters, or a number (C90 6.3.2.2)
+abbrev pub calls_other : Lowered → ℕ → List Target → Bool
+calls_other p count targets = list_any (λ x. not (is_some (function_at p x.region count))) targets
+
+unfoldable pub callee_alarms : Lowered → ℕ → Place → Known → List Alarm
+callee_alarms p count at v = number_alarms at v
+    ++ cond (calls_other p count v.targets) (alarm at NoFunction ∷ []) []
+
+module _ (p : Lowered) (cells : ℕ → Known) where
+  abbrev pub alarms_of : Expression → List Alarm
+  alarms_of e = expression_alarms (terrain_of p) cells e
+
+  abbrev pub alarms_at : Lvalue → List Alarm
+  alarms_at l = access_alarms (terrain_of p) cells l
+
+  abbrev pub list_alarms : List Expression → List Alarm
+  list_alarms es = flat_map alarms_of es
+
+  abbrev pub leaf_alarms : List Leaf → List Alarm
+  leaf_alarms ls = flat_map (λ l. alarms_of l.value) ls
+
+  -- where a result goes
+  abbrev pub result_alarms : Option Lvalue → List Alarm
+  result_alarms None = []
+  result_alarms (Some l) = alarms_at l
+
+  -- at a place; what a library's routine checks itself isn't among them
+  abbrev pub command_alarms : Place → Command → List Alarm
+  command_alarms at start = []
+  command_alarms at (entry f) = []
+  command_alarms at (exit f) = []
+  command_alarms at skip = []
+  command_alarms at (assign to e) = alarms_at to ++ alarms_of e
+  command_alarms at (copy to from) = alarms_at to ++ alarms_at from
+  command_alarms at (init o values others) = leaf_alarms values
+  command_alarms at (assume e op f) = alarms_of e ++ alarms_of f
+  command_alarms at (eval e) = alarms_of e
+  command_alarms at (call callee args) = alarms_of callee ++ list_alarms args
+      ++ callee_alarms p (length args) at (value_of (terrain_of p) cells callee)
+  command_alarms at (return c to) = result_alarms to
+  command_alarms at (library r to args site) = result_alarms to ++ list_alarms args
+  command_alarms at (outside to args site) = result_alarms to ++ list_alarms args
+
+  abbrev pub node_alarms : Node → List Alarm
+  node_alarms n = command_alarms n.place n.command
+
+-- ---- what is asked of a command, as a test: all its expressions and lvalues are proper
+
+abbrev pub are_proper : List Expression → Bool
+are_proper es = list_all is_proper es
+
+abbrev pub are_proper_leaves : List Leaf → Bool
+are_proper_leaves ls = list_all (λ l. is_proper l.value) ls
+
+abbrev pub is_proper_result : Option Lvalue → Bool
+is_proper_result None = true
+is_proper_result (Some l) = is_proper_lvalue l
+
+abbrev pub is_proper_command : Command → Bool
+is_proper_command start = true
+is_proper_command (entry f) = true
+is_proper_command (exit f) = true
+is_proper_command skip = true
+is_proper_command (assign to e) = is_proper_lvalue to && is_proper e
+is_proper_command (copy to from) = is_proper_lvalue to && is_proper_lvalue from
+is_proper_command (init o values others) = are_proper_leaves values
+is_proper_command (assume e op f) = is_proper e && is_proper f
+is_proper_command (eval e) = is_proper e
+is_proper_command (call callee args) = is_proper callee && are_proper args
+is_proper_command (return c to) = is_proper_result to
+is_proper_command (library r to args site) = is_proper_result to && are_proper args
+is_proper_command (outside to args site) = is_proper_result to && are_proper args

@@ -1,0 +1,25 @@
+//! The alarms of a node: what may go wrong when its command is carried out.
+//!
+//! An *access* is a pointer that is followed: what it points to is read, written or stepped into;
+//! one whose address is taken at once is none. An access is an *overrun* where it may leave the
+//! region of a target, *punned* where the region has elements of another type, and goes through a
+//! *number* where the pointer may be one. A division may be by 0, and what is called may be no
+//! defined function of as many parameters.
+//!
+//! So for `int a[3];` and `a[i] = 5 / j;`, where `i` is [0,3] and `j` is [0,2], the alarms are an
+//! overrun with offset [0,3], count [1,1] and size [3,3], and a divisor [0,2].
+//!
+//! The layer above uses that [`verdicts`] lists exactly `node_alarms` of `specs.Commands`, over the
+//! program and what the view's store holds in each region, and the laws of alarms (`AlarmLaws` of
+//! `specs.Laws`, the contract of [`alarms_are_lawful`]). It asks that the node's command is proper
+//! (`is_proper_command`), as those of a formed program are.
+#![tactic(auto)]
+
+mod accesses;
+mod alarm;
+mod lawful;
+mod nodes;
+
+pub use alarm::{Alarm, AlarmKind};
+pub use lawful::alarms_are_lawful;
+pub use nodes::verdicts;
