@@ -1,6 +1,6 @@
 """Writes the texts that bench/parse.sh times: of each kind one, and one of twice the length.
 
-Usage: parse_texts.py FOLDER. A text is a list of trees of one sort, each behind a `;`.
+Usage: parse_texts.py FOLDER. A text is a list of trees of one sort, each behind a `;`, or a unit.
 """
 
 import random
@@ -38,6 +38,43 @@ def repeated(text, tokens, each):
     return (text + ";\n") * max(1, tokens // each)
 
 
+ORDINARY = """
+int f%d(int n, char *s)
+{
+    int i, total = 0;
+    struct pair p;
+    for (i = 0; i < n; i++) {
+        if (s[i] == 'a')
+            total += i * 2;
+        else if (s[i] == 'b')
+            total--;
+        else {
+            p.left = total;
+            g(&p, "text", n - 1);
+        }
+    }
+    while (total > 10 && n)
+        total = total / 2;
+    switch (n) {
+    case 1: return 0;
+    default: break;
+    }
+    return total;
+}
+"""
+
+
+def units(tokens):
+    """Units of C, of so many tokens about."""
+    begun = "struct pair { int left; char *right; };\nstatic int count;\n"
+    yield "ordinary", begun + "".join(ORDINARY % i for i in range(tokens // 128))
+    elses = "int f(void){" + "else ".join(["if(a)b;"] * 190) + "}\n"
+    yield "elses", elses * (tokens // 1336)
+    yield "blocks", ("int f(void)" + "{" * 195 + "}" * 195 + "\n") * (tokens // 395)
+    yield "inits", ("int a[]={" + ",".join(["1"] * 100000) + "};\n") * max(1, tokens // 200008)
+    yield "declarators", ("int " + ",".join(["*a"] * 50000) + ";\n") * max(1, tokens // 150001)
+
+
 def texts(tokens):
     rng = random.Random(1)
     yield "mixed", "expression", "".join(mixed(rng, 1 + i % 60) + ";\n" for i in range(tokens // 140))
@@ -57,6 +94,7 @@ def texts(tokens):
 
 
 for size in (1, 2):
-    for name, entry, text in texts(size * 1000000):
+    named = [(name, "unit", text) for name, text in units(size * 1000000)]
+    for name, entry, text in [*texts(size * 1000000), *named]:
         with open(f"{sys.argv[1]}/{name}-{size}-{entry}", "w", encoding="ascii") as file:
             file.write(text)

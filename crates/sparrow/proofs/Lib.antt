@@ -1,3 +1,4 @@
+pub mod EndedLaws
 pub mod LineLaws
 pub mod ReportLaws
 pub mod RunLaws
