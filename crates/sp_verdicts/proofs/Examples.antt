@@ -1,22 +1,21 @@
 -- Worked cases of values and alarms, each by computing.
 use Rattle.std.proofs.Common.{◌≡◌, ℕ, ◌+◌, nat_eq, true, false, cond, [], ◌∷◌, ◌^◌, ◌-◌, Some, refl, pos, neg_ℤ}
 use Rattle.sp_tree.specs.declared.fault.Place.{Place}
-use Rattle.sp_tree.specs.declared.token.Punct.TheVariants.{Plus, Minus, Slash, Less}
-use Rattle.sp_types.specs.declared.ctype.IntKind.TheVariants.{Char, Int, UInt, Long}
-use Rattle.sp_types.specs.Types.{CType, integer, pointer, array, structure}
+use Rattle.sp_tree.specs.declared.token.Punct.TheVariants.{Minus, Slash, Less}
+use Rattle.sp_types.specs.declared.ctype.IntKind.TheVariants.{Char, Int, UInt}
+use Rattle.sp_types.specs.Types.{CType, integer, pointer, array}
 use Rattle.sp_types.specs.Layout.{integer_size}
 use Rattle.sp_interval.specs.declared.interval.Interval.{Interval}
-use Rattle.sp_interval.specs.declared.interval.Interval.TheVariants.{Empty, Of}
-use Rattle.sp_ir.specs.Commands.{Expression, number, address, decay, read, convert, unary, binary, compare, move, distance, Lvalue, direct, through, field}
+use Rattle.sp_interval.specs.declared.interval.Interval.TheVariants.{Of}
+use Rattle.sp_ir.specs.Commands.{Expression, number, address, decay, read, convert, binary, compare, move, distance, direct, through}
 use Rattle.sp_ir.specs.Terrain.{Terrain, element_accepts}
 use Rattle.sp_value.specs.declared.targets.Target.{Target}
 use Rattle.sp_value.specs.Known.{Known, none, of_numbers, of_target}
-use Rattle.sp_eval.specs.Numbers.{exactly, signed_by, operated}
-use Rattle.sp_eval.specs.Steps.{members_of, elements_of, accepted, read_at, converted, moved, distance_of, comparison_of}
+use Rattle.sp_eval.specs.Numbers.{operated}
+use Rattle.sp_eval.specs.Steps.{elements_of, accepted, read_at, converted, moved, distance_of, comparison_of}
 use Rattle.sp_eval.specs.Evaluation.{matched, value_of}
-use Rattle.sp_verdicts.specs.declared.alarm.Alarm.{Alarm}
 use Rattle.sp_verdicts.specs.declared.alarm.AlarmKind.TheVariants.{Overrun, Zero, Pointer, Punned}
-use Rattle.sp_verdicts.specs.Alarms.{alarm, target_alarms, number_alarms, through_alarms, divisor_alarms, access_alarms, expression_alarms}
+use Rattle.sp_verdicts.specs.Alarms.{alarm, target_alarms, number_alarms, through_alarms, divisor_alarms, expression_alarms}
 
 -- int a[3]; int i; int *p; union { int x; char b[8]; } u; The objects 0 to 3 have the regions 0 for
 -- a, 1 for its elements, 2 for i, 3 for p, 4 for the bytes of u.

@@ -1,5 +1,5 @@
 -- Where an access may leave its region, on 128 bits.
-use Rattle.std.proofs.Common.{◌≡◌, Bool, true, false, ◌&&◌, ◌||◌, ℤ, pos, ◌+ℤ◌, FitsSigned, sym, ap, ◌∙◌, ◌^◌, ◌-◌, arith}
+use Rattle.std.proofs.Common.{◌≡◌, true, false, ℤ, pos, ◌+ℤ◌, FitsSigned, sym, ap, ◌∙◌, ◌^◌, ◌-◌, arith}
 use Rattle.std.specs.Prelude.{int_le, int_lt}
 use Rattle.std.specs.Int.{w128}
 use Rattle.std.proofs.lemmas.Int.{ints, to_z-of_z}

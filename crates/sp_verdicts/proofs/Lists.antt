@@ -1,7 +1,6 @@
 -- Lists that grow by one element of another list at a time.
-use Rattle.std.proofs.Common.{◌≡◌, ℕ, ◌<◌, zero, suc, Bool, true, ◌&&◌, List, [], ◌∷◌, ◌++◌, map, length, take, get_or, refl, ap, ◌∙◌, sym, arith}
-use Rattle.std.specs.List.{flat_map, list_all}
-use Rattle.std.proofs.lemmas.List.{flat_map_more}
+use Rattle.std.proofs.Common.{◌≡◌, ℕ, ◌<◌, zero, suc, Bool, true, List, [], ◌∷◌, map, length, get_or, arith}
+use Rattle.std.specs.List.{list_all}
 use Rattle.sp_value.specs.Tests.{first, second}
 
 -- of tests that all pass, the one at i passes

@@ -1,11 +1,11 @@
 -- The commands of formed programs are proper.
-use Rattle.std.proofs.Common.{◌≡◌, ℕ, Bool, true, ◌&&◌, List, [], ◌∷◌, Option, Some, None, refl}
-use Rattle.std.specs.List.{list_all, All}
+use Rattle.std.proofs.Common.{◌≡◌, ℕ, true, List, [], ◌∷◌, Option, Some, None, refl}
+use Rattle.std.specs.List.{All}
 use Rattle.std.proofs.lemmas.List.Elements.{All-head, All-tail}
 use Rattle.sp_ir.specs.Commands.{Expression, Lvalue, Leaf, Command, start, entry, exit, skip, assign, copy, init, assume, eval, call, return, library, outside}
 use Rattle.sp_ir.specs.Regions.{Region}
 use Rattle.sp_ir.specs.Shapes.{Shape}
-use Rattle.sp_ir.specs.Formed.{Table, IsExpression, IsLvalue, IsScalar, IsLeaf, IsResult, IsScalarResult, IsForeign, IsCommand}
+use Rattle.sp_ir.specs.Formed.{Table, IsExpression, IsScalar, IsLeaf, IsResult, IsScalarResult, IsForeign, IsCommand}
 use Rattle.sp_value.specs.Tests.{both}
 use Rattle.sp_eval.specs.Evaluation.{is_proper, is_proper_lvalue}
 use Rattle.sp_eval.proofs.ProperLaws.{expression-proper, lvalue-proper}

@@ -1,6 +1,6 @@
 -- The alarms of expressions and lvalues: accesses that may leave their region, are punned, or go
 -- through a number, and divisors that may be 0.
-use Rattle.std.specs.Prelude.{ℕ, Bool, true, false, not, cond, ◌&&◌, ◌||◌, List, [], ◌∷◌, ◌++◌, pos, ◌+ℤ◌, int_lt, int_le}
+use Rattle.std.specs.Prelude.{ℕ, Bool, true, false, cond, ◌&&◌, ◌||◌, List, [], ◌∷◌, ◌++◌, pos, ◌+ℤ◌, int_lt, int_le}
 use Rattle.std.specs.List.{flat_map}
 use Rattle.sp_tree.specs.declared.fault.Place.{Place}
 use Rattle.sp_tree.specs.declared.token.Punct.{Punct}

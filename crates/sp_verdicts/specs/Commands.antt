@@ -1,5 +1,5 @@
 -- The alarms of a node, by its command and what each region's cell holds before it.
-use Rattle.std.specs.Prelude.{ℕ, Bool, true, false, not, cond, ◌&&◌, List, [], ◌∷◌, ◌++◌, length, Option, Some, None, is_some}
+use Rattle.std.specs.Prelude.{ℕ, Bool, true, not, cond, ◌&&◌, List, [], ◌∷◌, ◌++◌, length, Option, Some, None, is_some}
 use Rattle.std.specs.List.{flat_map, list_all, list_any}
 use Rattle.sp_tree.specs.declared.fault.Place.{Place}
 use Rattle.sp_ir.specs.Commands.{Expression, Lvalue, Leaf, Command, start, entry, exit, skip, assign, copy, init, assume, eval, call, return, library, outside, Node}

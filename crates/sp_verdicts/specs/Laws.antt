@@ -7,7 +7,7 @@ use Rattle.sp_ir.specs.Denoted.{PointsTo, pointer_uses, uses_of}
 use Rattle.sp_ir.specs.Formed.{Table, IsCommand}
 use Rattle.sp_value.specs.Known.{Known}
 use Rattle.sp_eval.specs.Laws.{PointWithin, AgreeOn}
-use Rattle.sp_verdicts.specs.Alarms.{access_alarms, address_alarms, expression_alarms}
+use Rattle.sp_verdicts.specs.Alarms.{access_alarms, expression_alarms}
 use Rattle.sp_verdicts.specs.Commands.{is_proper_command}
 
 -- The alarms of an expression, and of an lvalue, hang on the cells that it uses alone; and the
