@@ -20,7 +20,7 @@ ln -s "$room/sparrow" "$room/link"
 
 run() { PATH=$room/bin:$PATH "$room/sparrow" "$@"; }
 run_failing() { PATH=$room/fails:$PATH "$room/sparrow" "$@"; }
-building='sparrow: proving and building the program; the first time takes some thirty minutes'
+building='sparrow: proving and building the program; the first time takes some forty minutes'
 
 check 'the program is up to date' 1 '' run 1
 check 'by a link' 1 '' "$room/link" 1
