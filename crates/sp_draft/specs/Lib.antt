@@ -1,0 +1,9 @@
+pub mod Context
+pub mod Draft
+pub mod Operators
+pub mod Steps
+pub mod Calls
+pub mod Adds
+pub mod Expressions
+pub mod View
+pub mod Outcome

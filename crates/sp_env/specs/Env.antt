@@ -1,0 +1,113 @@
+-- The environment of a unit: its scopes, its names with linkage, and its tables (C90 6.1.2.1 to 6.1.2.3).
+use Rattle.std.specs.Prelude.{ℕ, zero, suc, ℤ, Bool, false, ◌==◌, List, [], ◌∷◌, ◌++◌, Option, Some, None, if◌then◌else◌, nat_eq, slice_set}
+use Rattle.indexmap.specs.IndexMap.{insert_entry}
+use Rattle.sp_tree.specs.declared.fault.FaultKind.TheVariants.{F9}
+use Rattle.sp_tree.specs.declared.fault.Place.{Place}
+use Rattle.sp_types.specs.Types.{CType, Signature, Struct}
+use Rattle.sp_types.specs.Programs.{Object, Function}
+use Rattle.sp_types.specs.declared.program.Linkage.{Linkage}
+use Rattle.sp_operands.specs.Answers.{Checked, accepted, refused}
+use Rattle.sp_scopes.specs.declared.meaning.Tag.{Tag}
+use Rattle.sp_scopes.specs.Meanings.{Meaning, object, function}
+use Rattle.sp_scopes.specs.Scopes.{Scopes, file_scope, entry}
+use Rattle.sp_scopes.specs.Scopes as scopes
+use Rattle.sp_env.specs.declared.env.Entity.{Entity}
+
+-- what the unit has declared, in the order of the text: a number names an entry
+pub record Tables : Type 0 where
+  pub structs : List Struct
+  pub objects : List Object
+  pub functions : List Function
+  pub constants : List ℤ
+
+-- `links` has each name with linkage that is declared by now, whether it is visible here or not
+pub record Env : Type 0 where
+  pub scopes : Scopes
+  pub links : List (ℕ × Entity)
+  pub tables : Tables
+
+abbrev pub unit_start : Env
+unit_start = record { scopes = file_scope; links = []; tables = record { structs = []; objects = []; functions = []; constants = [] } }
+
+-- ---- scopes
+
+abbrev pub entered : Env → Env
+entered env = record env { scopes = scopes.entered env.scopes }
+
+abbrev pub left : Env → Env
+left env = record env { scopes = scopes.left env.scopes }
+
+abbrev pub with_tag : Env → ℕ → Tag → Env
+with_tag env n t = record env { scopes = scopes.with_tag env.scopes n t }
+
+-- 6.1.2.1, 6.5: a scope declares a name once, but for one object or one function
+abbrev pub is_same_entity : Meaning → Meaning → Bool
+is_same_entity (object j) (object k) = j == k
+is_same_entity (function j) (function k) = j == k
+is_same_entity _ _ = false
+
+abbrev pub declared_beside : Env → ℕ → Meaning → Place → Option Meaning → Checked Env
+declared_beside env n m p None = accepted (record env { scopes = scopes.with_name env.scopes n m })
+declared_beside env n m p (Some old) = if is_same_entity old m then accepted env else refused F9 p
+
+abbrev pub declared : Env → ℕ → Meaning → Place → Checked Env
+declared env n m p = declared_beside env n m p (entry env.scopes.inner.names n)
+
+-- ---- names with linkage (6.1.2.2)
+
+abbrev pub linked : Env → ℕ → Option Entity
+linked env n = entry env.links n
+
+abbrev pub with_link : Env → ℕ → Entity → Env
+with_link env n e = record env { links = insert_entry nat_eq env.links n e }
+
+-- ---- tables: a number that names no entry changes nothing
+
+abbrev pub object_type : Option Object → Option CType
+object_type None = None
+object_type (Some o) = Some o.of
+
+abbrev pub object_linkage : Option Object → Option Linkage
+object_linkage None = None
+object_linkage (Some o) = Some o.linkage
+
+abbrev pub function_type : Option Function → Option Signature
+function_type None = None
+function_type (Some f) = Some f.of
+
+abbrev pub function_linkage : Option Function → Option Linkage
+function_linkage None = None
+function_linkage (Some f) = Some f.linkage
+
+abbrev pub with_struct : Env → Struct → Env
+with_struct env s = record env { tables = record env.tables { structs = env.tables.structs ++ s ∷ [] } }
+
+abbrev pub set_struct : Env → ℕ → Struct → Env
+set_struct env k s = record env { tables = record env.tables { structs = slice_set env.tables.structs k s } }
+
+abbrev pub with_object : Env → Object → Env
+with_object env o = record env { tables = record env.tables { objects = env.tables.objects ++ o ∷ [] } }
+
+abbrev pub set_object : Env → ℕ → Object → Env
+set_object env k o = record env { tables = record env.tables { objects = slice_set env.tables.objects k o } }
+
+abbrev pub with_function : Env → Function → Env
+with_function env f = record env { tables = record env.tables { functions = env.tables.functions ++ f ∷ [] } }
+
+abbrev pub set_function : Env → ℕ → Function → Env
+set_function env k f = record env { tables = record env.tables { functions = slice_set env.tables.functions k f } }
+
+-- the entry of a number is changed
+abbrev pub changed : {A : Type 0} → (A → A) → List A → ℕ → List A
+changed f [] k = []
+changed f (x ∷ xs) zero = f x ∷ xs
+changed f (x ∷ xs) (suc k) = x ∷ changed f xs k
+
+abbrev pub typed_by : Signature → Function → Function
+typed_by s f = record f { of = s }
+
+abbrev pub with_function_type : Env → ℕ → Signature → Env
+with_function_type env k s = record env { tables = record env.tables { functions = changed (typed_by s) env.tables.functions k } }
+
+abbrev pub with_constant : Env → ℤ → Env
+with_constant env z = record env { tables = record env.tables { constants = env.tables.constants ++ z ∷ [] } }

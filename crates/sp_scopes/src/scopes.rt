@@ -1,0 +1,163 @@
+//! The scopes that are open at a place.
+#![tactic(auto, unfolding(crate::specs::Views::scopes_of), using(crate::proofs::Around::around))]
+
+ghost use Rattle.std.specs.Prelude.{◌≡◌, OnOk, OnErr, option_map, map, reverse};
+ghost use Rattle.std.specs.Option.{option_copied};
+ghost use Rattle.sp_scopes.specs.Meanings.{meaning_of};
+ghost use Rattle.sp_scopes.specs.Views.{scope_of};
+ghost use Rattle.sp_scopes.specs.Scopes.{
+  file_scope,
+  is_file_scope,
+  entry,
+  visible_meaning,
+  visible_tag,
+  entered,
+  left,
+  with_name,
+  with_tag,
+  meaning_in,
+  tag_in,
+};
+
+use crate::{Meaning, Scope, Tag};
+use std::alloc::{AllocError, Global};
+use std::mem;
+
+/// The scopes that are open at a place of the text: the innermost, and those around it.
+///
+/// Contracts see by `scopes_of` the innermost scope and the list of the others, the next one first.
+#[derive(Drop)]
+pub struct Scopes {
+    inner: Scope,
+    /// The outermost first.
+    around: Vec<Scope>,
+}
+
+impl Scopes {
+    ghost use Rattle.sp_scopes.specs.Views.{scopes_of};
+
+    /// The scope of the file alone, in which nothing is declared.
+    pub fn new(alloc: Global) -> Scopes
+        ensures { scopes_of result ≡ file_scope }
+    {
+        Scopes {
+            inner: Scope::new(alloc),
+            around: Vec::new(alloc),
+        }
+    }
+
+    /// Whether the innermost scope is that of the file.
+    pub fn is_file_scope(&self) -> bool
+        ensures { result ≡ is_file_scope (scopes_of self.now) }
+    {
+        self.around.is_empty()
+    }
+
+    /// Opens a scope inside the others.
+    pub fn enter(&mut self, alloc: Global) -> Result<(), AllocError>
+        ensures ok { OnOk result (scopes_of self.new ≡ entered (scopes_of self.old)) }
+        ensures err { OnErr result (scopes_of self.new ≡ scopes_of self.old) }
+    {
+        let outer = mem::replace(&mut self.inner, Scope::new(alloc));
+        if let Err(refused) = self.around.push(outer) {
+            self.inner = refused.value;
+            return Err(AllocError);
+        }
+        Ok(())
+    }
+
+    /// Closes the innermost scope. That of the file stays.
+    pub fn leave(&mut self)
+        ensures { scopes_of self.new ≡ left (scopes_of self.old) }
+    {
+        if let Some(outer) = self.around.pop() {
+            self.inner = outer;
+        }
+    }
+
+    /// What a name stands for here: its meaning in the innermost scope that has it.
+    pub fn visible(&self, name: u32) -> Option<&Meaning>
+        ensures { option_map meaning_of (option_copied result) ≡
+            visible_meaning (scopes_of self.now) name }
+    {
+        let here = self.inner.meaning(name);
+        if here.is_some() {
+            return here;
+        }
+        meaning_around(&self.around, name)
+    }
+
+    /// What a tag stands for here.
+    pub fn visible_tag(&self, name: u32) -> Option<Tag>
+        ensures { result ≡ visible_tag (scopes_of self.now) name }
+    {
+        let here = self.inner.tag(name);
+        if here.is_some() {
+            return here;
+        }
+        tag_around(&self.around, name)
+    }
+
+    /// What the innermost scope has for a name.
+    pub fn meaning_here(&self, name: u32) -> Option<&Meaning>
+        ensures { option_map meaning_of (option_copied result) ≡
+            entry (scopes_of self.now).inner.names name }
+    {
+        self.inner.meaning(name)
+    }
+
+    /// What the innermost scope has for a tag.
+    pub fn tag_here(&self, name: u32) -> Option<Tag>
+        ensures { result ≡ entry (scopes_of self.now).inner.tags name }
+    {
+        self.inner.tag(name)
+    }
+
+    /// Gives a name its meaning in the innermost scope.
+    pub fn add_name(&mut self, name: u32, meaning: Meaning) -> Result<(), AllocError>
+        ensures ok { OnOk result (scopes_of self.new ≡
+            with_name (scopes_of self.old) name (meaning_of meaning)) }
+        ensures err { OnErr result (scopes_of self.new ≡ scopes_of self.old) }
+    {
+        self.inner.add_name(name, meaning)
+    }
+
+    /// Gives a tag its meaning in the innermost scope.
+    pub fn add_tag(&mut self, name: u32, tag: Tag) -> Result<(), AllocError>
+        ensures ok { OnOk result (scopes_of self.new ≡ with_tag (scopes_of self.old) name tag) }
+        ensures err { OnErr result (scopes_of self.new ≡ scopes_of self.old) }
+    {
+        self.inner.add_tag(name, tag)
+    }
+}
+
+/// What a name stands for in the last of these scopes that has it.
+fn meaning_around(scopes: &[Scope], name: u32) -> Option<&Meaning>
+    ensures { option_map meaning_of (option_copied result) ≡
+        meaning_in (reverse (map scope_of scopes.now)) name }
+{
+    let mut left = scopes.len();
+    'scopes: while left > 0 {
+        left -= 1;
+        let found = scopes[left].meaning(name);
+        if found.is_some() {
+            return found;
+        }
+    }
+    None
+}
+
+/// What a tag stands for in the last of these scopes that has it.
+fn tag_around(scopes: &[Scope], name: u32) -> Option<Tag>
+    ensures { result ≡ tag_in (reverse (map scope_of scopes.now)) name }
+{
+    let mut left = scopes.len();
+    'scopes: while left > 0 {
+        left -= 1;
+        let found = scopes[left].tag(name);
+        if found.is_some() {
+            return found;
+        }
+    }
+    None
+}

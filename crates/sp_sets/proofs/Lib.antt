@@ -1,0 +1,5 @@
+pub mod Members
+pub mod Images
+pub mod Marking
+mod Walks
+mod Nowhere

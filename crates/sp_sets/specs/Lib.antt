@@ -1,0 +1,4 @@
+pub mod Sets
+pub mod Marks
+pub mod Reached
+pub mod Walking

@@ -1,0 +1,4 @@
+pub mod AssignLaws
+pub mod Places
+pub mod Hits
+pub mod Seen

@@ -1,0 +1,105 @@
+//! Where an lvalue is stored to.
+ghost use Rattle.std.specs.Prelude.{◌≡◌, ℕ, true, false, nat_eq, IfOk, IfSome, IfNone};
+ghost use Rattle.sp_ir.specs.Programs.{lowered_of};
+ghost use Rattle.sp_ir.specs.Terrain.{terrain_of};
+ghost use Rattle.sp_ir.specs.View.{lvalue_of};
+ghost use Rattle.sp_value.specs.Locations.{cells_at};
+ghost use Rattle.sp_value.specs.Slots.{known_of};
+ghost use Rattle.sp_eval.specs.Evaluation.{is_proper_lvalue};
+ghost use Rattle.sp_rows.specs.Setting.{cell_of};
+ghost use Rattle.sp_stores.specs.Destinations.{bottom_of, bottom_accepts, region_under};
+
+use crate::scene::Scenery;
+use sp_eval::{address_of, evaluate};
+use sp_ir::{Lowered, Lvalue};
+use sp_updates::Reach;
+use sp_value::{Locations, Value, View};
+use std::alloc::{AllocError, Global};
+
+/// The address at the bottom of an lvalue: of the object, or the pointer, that its members are steps
+/// from.
+pub fn bottom_of<V: View>(
+    alloc: Global,
+    lowered: &Lowered,
+    locations: &Locations,
+    lvalue: &Lvalue,
+    view: &V,
+) -> Result<Value, AllocError>
+    requires { is_proper_lvalue (lvalue_of lvalue.now) ≡ true }
+    ensures { IfOk result (λ value. known_of value ≡
+        bottom_of (terrain_of (lowered_of lowered.now))
+        (cells_at locations.now.cells.items (V.store view.now)) (lvalue_of lvalue.now)) }
+{
+    match lvalue {
+        Lvalue::Direct(_, _) => address_of(alloc, lowered, locations, lvalue, view),
+        Lvalue::Through(pointer, _, _) => evaluate(alloc, lowered, locations, pointer, view),
+        Lvalue::Field(of, _, _) => bottom_of(alloc, lowered, locations, of, view),
+    }
+}
+
+/// The region of an lvalue, where its bottom has this one.
+pub fn region_under(lowered: &Lowered, lvalue: &Lvalue, region: u32) -> u32
+    ensures { result ≡
+        region_under (terrain_of (lowered_of lowered.now)) (lvalue_of lvalue.now) region }
+{
+    match lvalue {
+        Lvalue::Direct(_, _) | Lvalue::Through(_, _, _) => region,
+        Lvalue::Field(of, number, _) => {
+            let region = region_under(lowered, of, region);
+            if lowered.is_collapsed(region) {
+                region
+            } else {
+                lowered.member_of(region, *number)
+            }
+        }
+    }
+}
+
+// Whether an access matches in a region at the bottom.
+fn bottom_accepts(lowered: &Lowered, lvalue: &Lvalue, region: u32) -> bool
+    ensures { result ≡
+        bottom_accepts (terrain_of (lowered_of lowered.now)) (lvalue_of lvalue.now) region }
+{
+    match lvalue {
+        Lvalue::Direct(_, _) => true,
+        Lvalue::Through(_, access, _) => lowered.accepts(region, access),
+        Lvalue::Field(of, _, _) => bottom_accepts(lowered, of, region),
+    }
+}
+
+// The location of a region; none exactly where it is no cell.
+fn location_at<S: Scenery>(scene: &S, region: u32) -> Option<u32>
+    ensures some { IfSome result (λ location. (l : ℕ) →
+        nat_eq region (cell_of (S.scene scene.now).setting l) ≡ nat_eq l location) }
+    ensures none { IfNone result ((l : ℕ) →
+        nat_eq region (cell_of (S.scene scene.now).setting l) ≡ false) }
+{
+    scene.locations().location(region)
+}
+
+/// The destination of a scalar lvalue.
+#[derive(Drop)]
+pub struct Into<'a, S: Scenery> {
+    pub scene: &'a S,
+    pub lvalue: &'a Lvalue,
+}
+
+impl<S: Scenery> Reach for Into<'_, S> {
+    ghost use Rattle.sp_ir.specs.View.{lvalue_of};
+    ghost use Rattle.sp_stores.specs.Destinations.{destination};
+
+    ghost reach = { λ to. destination (S.scene to.scene.now) (lvalue_of to.lvalue.now) };
+
+    fn location(&self, region: u32) -> Option<u32> {
+        let lowered = self.scene.lowered();
+        if bottom_accepts(lowered, self.lvalue, region) {
+            location_at(self.scene, region_under(lowered, self.lvalue, region))
+        } else {
+            None
+        }
+    }
+
+    fn is_summary(&self, location: u32) -> bool {
+        self.scene.is_summary(location)
+    }
+}
