@@ -140,6 +140,9 @@ module _ (a : Setting) (is : IsSetting a) where
   pub ceiling-knows : (l : ℕ) → known_in (ceiling a l) ≡ ceiling_known (a.points_to (cell_of a l))
   ceiling-knows l = slot_of-stores (ceiling_known (a.points_to (cell_of a l))) (ceiling_known-formed l)
 
+  pub ceiling-within : (l : ℕ) → Within (λ q. has q (a.points_to (cell_of a l)) ≡ true) (known_in (ceiling a l)).targets
+  ceiling-within l = subst (λ (v : Known). Within (λ q. has q (a.points_to (cell_of a l)) ≡ true) v.targets) (sym (ceiling-knows l)) (widest-within (a.points_to (cell_of a l)) (a.points_to (cell_of a l)) (λ q m. m))
+
   -- what is formed, with its targets where the location may point, is stored under the ceiling
   pub stored-under : (v : Known) (l : ℕ) → IsFormedKnown v → Within (λ q. has q (a.points_to (cell_of a l)) ≡ true) v.targets → slot_le (stored a.ladder v) (ceiling a l) ≡ true
   stored-under v l h w =

@@ -67,8 +67,8 @@ fn bottom_accepts(lowered: &Lowered, lvalue: &Lvalue, region: u32) -> bool
     }
 }
 
-// The location of a region; none exactly where it is no cell.
-fn location_at<S: Scenery>(scene: &S, region: u32) -> Option<u32>
+/// The location of a region; `None` exactly where the region is no cell.
+pub fn location_at<S: Scenery>(scene: &S, region: u32) -> Option<u32>
     ensures some { IfSome result (λ location. (l : ℕ) →
         nat_eq region (cell_of (S.scene scene.now).setting l) ≡ nat_eq l location) }
     ensures none { IfNone result ((l : ℕ) →

@@ -1,0 +1,4 @@
+pub mod DeclaratorView
+pub mod Enumerators
+pub mod Members
+pub mod Parameters

@@ -1,0 +1,4 @@
+pub mod Composite
+pub mod Functions
+pub mod Literals
+pub mod Names

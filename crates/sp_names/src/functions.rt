@@ -1,0 +1,161 @@
+//! Declarations of functions, and the linkage of names (C90 6.1.2.2, 6.5.4.3).
+ghost use Rattle.std.specs.Prelude.{◌≡◌, IfOk, option_map};
+ghost use Rattle.std.specs.Option.{option_copied};
+ghost use Rattle.sp_types.specs.Compatible.{compatible};
+ghost use Rattle.sp_types.specs.Types.{function};
+ghost use Rattle.sp_types.specs.View.{signature_of};
+ghost use Rattle.sp_operands.specs.Answers.{Answers, AnswersIn};
+ghost use Rattle.sp_scopes.specs.Meanings.{meaning_of};
+ghost use Rattle.sp_env.specs.Views.{env_of};
+ghost use Rattle.sp_names.specs.Functions.{
+  extern_linkage,
+  linkage_of,
+  is_same_linkage,
+  joined_type,
+  function_added,
+  function_joined,
+  function_declared,
+};
+
+use crate::composite_signature;
+use sp_env::{Entity, Env};
+use sp_operands::{CheckError, fault};
+use sp_scopes::Meaning;
+use sp_tree::{FaultKind, Place};
+use sp_types::{CType, FunctionDef, Linkage, Signature, compatible};
+use std::alloc::{AllocError, Global};
+
+/// The linkage that `extern` gives a name, and a function without a storage class: that of the
+/// visible declaration, where it has one, else external (C90 6.1.2.2).
+pub fn extern_linkage(env: &Env, name: u32) -> Linkage
+    ensures { result ≡ extern_linkage (env_of env.now) name }
+{
+    match linkage_of(env, env.find(name)) {
+        Some(Linkage::Internal) => Linkage::Internal,
+        _ => Linkage::External,
+    }
+}
+
+fn linkage_of(env: &Env, meaning: Option<&Meaning>) -> Option<Linkage>
+    ensures { result ≡
+        linkage_of (env_of env.now) (option_map meaning_of (option_copied meaning.entry)) }
+{
+    match meaning {
+        Some(Meaning::Object(number)) => env.object_linkage(*number),
+        Some(Meaning::Function(number)) => env.function_linkage(*number),
+        _ => None,
+    }
+}
+
+fn is_same_linkage(left: Linkage, right: Linkage) -> bool
+    ensures { result ≡ is_same_linkage left right }
+{
+    left == right
+}
+
+/// A declaration of a function in the innermost scope, and the number of its entry. `place` is that
+/// of the name. It is F9 where the unit has the name with another linkage, as an object, or with a
+/// type that isn't compatible, or where the scope has the name as something else.
+pub fn function_declared(
+    alloc: Global,
+    env: &mut Env,
+    name: u32,
+    linkage: Linkage,
+    of: Signature,
+    place: Place,
+) -> Result<u32, CheckError>
+    ensures { AnswersIn (λ k. k)
+        (function_declared (env_of env.old) name linkage (signature_of of) place)
+        (env_of env.new) result }
+{
+    match env.linked(name) {
+        None => function_added(alloc, env, name, linkage, of, place),
+        Some(Entity::Function(number)) => {
+            function_joined(alloc, env, name, linkage, &of, place, number)
+        }
+        Some(Entity::Object(_)) => fault(FaultKind::F9, place),
+    }
+}
+
+/// The first declaration of a function in its unit.
+fn function_added(
+    alloc: Global,
+    env: &mut Env,
+    name: u32,
+    linkage: Linkage,
+    of: Signature,
+    place: Place,
+) -> Result<u32, CheckError>
+    ensures { AnswersIn (λ k. k)
+        (function_added (env_of env.old) name linkage (signature_of of) place)
+        (env_of env.new) result }
+{
+    let number = env.add_function(FunctionDef {
+        name,
+        of,
+        linkage,
+        formals: Vec::new(alloc),
+        locals: Vec::new(alloc),
+        body: None,
+        place,
+        end: place,
+    })?;
+    env.link(name, Entity::Function(number))?;
+    env.declare(name, Meaning::Function(number), place)?;
+    Ok(number)
+}
+
+/// A further declaration of a function.
+fn function_joined(
+    alloc: Global,
+    env: &mut Env,
+    name: u32,
+    linkage: Linkage,
+    of: &Signature,
+    place: Place,
+    number: u32,
+) -> Result<u32, CheckError>
+    ensures { AnswersIn (λ k. k)
+        (function_joined (env_of env.old) name linkage (signature_of of.now) place number)
+        (env_of env.new) result }
+{
+    let of = joined_type(alloc, env, linkage, of, place, number)?;
+    env.set_function_type(number, of);
+    env.declare(name, Meaning::Function(number), place)?;
+    Ok(number)
+}
+
+/// The type of a function with a further declaration.
+fn joined_type(
+    alloc: Global,
+    env: &Env,
+    linkage: Linkage,
+    of: &Signature,
+    place: Place,
+    number: u32,
+) -> Result<Signature, CheckError>
+    ensures { Answers signature_of
+        (joined_type (env_of env.now) linkage (signature_of of.now) place number) result }
+{
+    let Some(old_linkage) = env.function_linkage(number) else {
+        return fault(FaultKind::F9, place);
+    };
+    let Some(old) = env.function_type(number) else {
+        return fault(FaultKind::F9, place);
+    };
+    let agree = are_compatible(alloc, old, of)?;
+    if !(is_same_linkage(old_linkage, linkage) && agree) {
+        return fault(FaultKind::F9, place);
+    }
+    Ok(composite_signature(alloc, old, of)?)
+}
+
+/// Whether two functions have compatible types.
+fn are_compatible(alloc: Global, left: &Signature, right: &Signature) -> Result<bool, AllocError>
+    ensures { IfOk result (λ agree. agree ≡
+        compatible (function (signature_of left.now)) (function (signature_of right.now))) }
+{
+    let left = CType::function(alloc, left.copy(alloc)?)?;
+    let right = CType::function(alloc, right.copy(alloc)?)?;
+    Ok(compatible(&left, &right))
+}

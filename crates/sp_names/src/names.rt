@@ -1,0 +1,110 @@
+//! Names in expressions (C90 6.3.1), and names that are called (6.3.2.2).
+ghost use Rattle.std.specs.Prelude.{◌≡◌, option_map};
+ghost use Rattle.std.specs.Option.{option_copied};
+ghost use Rattle.sp_types.specs.TypedView.{typed_of};
+ghost use Rattle.sp_operands.specs.Answers.{Answers};
+ghost use Rattle.sp_rules.specs.Rules.{is_jump};
+ghost use Rattle.sp_scopes.specs.Meanings.{meaning_of};
+ghost use Rattle.sp_env.specs.Declaring.{LeadsTo};
+ghost use Rattle.sp_env.specs.Views.{env_of};
+ghost use Rattle.sp_names.specs.Names.{bytes_of, designated, name_checked, implicit_name};
+
+use crate::{extern_linkage, function_declared};
+use sp_env::Env;
+use sp_operands::{CheckError, fault};
+use sp_scopes::Meaning;
+use sp_tree::{FaultKind, Names, Place};
+use sp_types::{CType, IntKind, Signature, TypedExpr, TypedForm};
+use std::alloc::Global;
+
+/// The bytes of a name.
+pub(crate) fn bytes_of(names: &Names, name: u32) -> &[u8]
+    ensures { result.now ≡ bytes_of names.now name }
+{
+    match names.get(name) {
+        Some(bytes) => bytes,
+        None => &[],
+    }
+}
+
+/// Whether the name is one of those that jump between functions.
+fn is_jump(names: &Names, name: u32) -> bool
+    ensures { result ≡ is_jump (bytes_of names.now name) }
+{
+    let bytes = bytes_of(names, name);
+    bytes == "setjmp".as_bytes() || bytes == "_setjmp".as_bytes() || bytes == "longjmp".as_bytes()
+}
+
+fn designated(
+    alloc: Global,
+    env: &Env,
+    place: Place,
+    meaning: Option<&Meaning>,
+) -> Result<TypedExpr, CheckError>
+    ensures { Answers typed_of (designated (env_of env.now) place
+        (option_map meaning_of (option_copied meaning.entry))) result }
+{
+    match meaning {
+        Some(Meaning::Object(number)) => {
+            let Some(of) = env.object_type(*number) else {
+                return fault(FaultKind::F8, place);
+            };
+            let of = of.copy(alloc)?;
+            Ok(TypedExpr::leaf(TypedForm::Object(*number), of, place, place))
+        }
+        Some(Meaning::Function(number)) => {
+            let Some(of) = env.function_type(*number) else {
+                return fault(FaultKind::F8, place);
+            };
+            let of = CType::function(alloc, of.copy(alloc)?)?;
+            Ok(TypedExpr::leaf(TypedForm::Function(*number), of, place, place))
+        }
+        Some(Meaning::Constant(value)) => {
+            let of = CType::Int(IntKind::Int);
+            Ok(TypedExpr::leaf(TypedForm::Constant(*value), of, place, place))
+        }
+        _ => fault(FaultKind::F8, place),
+    }
+}
+
+/// The expression that is a name: F8 where it is no object, function or constant here, and U2 for
+/// the functions that jump between functions.
+pub fn name_checked(
+    alloc: Global,
+    env: &Env,
+    names: &Names,
+    name: u32,
+    place: Place,
+) -> Result<TypedExpr, CheckError>
+    ensures { Answers typed_of (name_checked names.now (env_of env.now) name place) result }
+{
+    if is_jump(names, name) {
+        return fault(FaultKind::U2, place);
+    }
+    designated(alloc, env, place, env.find(name))
+}
+
+/// Declares a name that is called as `extern int f()` in the innermost scope, where nothing of that
+/// name is visible (C90 6.3.2.2).
+pub fn implicit_name(
+    alloc: Global,
+    env: &mut Env,
+    names: &Names,
+    name: u32,
+    place: Place,
+) -> Result<(), CheckError>
+    ensures { LeadsTo (implicit_name names.now (env_of env.old) name place)
+        (env_of env.new) result }
+{
+    if is_jump(names, name) || env.find(name).is_some() {
+        return Ok(());
+    }
+    let linkage = extern_linkage(env, name);
+    let of = Signature {
+        result: CType::Int(IntKind::Int),
+        params: None,
+        variadic: false,
+    };
+    function_declared(alloc, env, name, linkage, of, place)?;
+    Ok(())
+}

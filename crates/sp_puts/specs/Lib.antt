@@ -1,0 +1,7 @@
+pub mod Paths
+pub mod Sources
+pub mod SourceView
+pub mod Puts
+pub mod Gathered
+pub mod Copying
+pub mod Foreign

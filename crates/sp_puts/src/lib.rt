@@ -1,0 +1,36 @@
+//! What each command lets cells point to, by what each cell may point to so far.
+//!
+//! [`puts_of`] gathers the *puts* of a command: which regions go to which cells, by the rows (a set
+//! of regions for each cell). `Puts` of `specs.Puts` says what they are, one line for each command;
+//! it names each set by a `Source`: what an lvalue or an expression tells, the parameters or results
+//! of what is called, some of these, or what these may point to.
+//!
+//! ```text
+//! int x; int *p, *q; struct s { int *a; } s, t;
+//! p = &x;               x goes to p
+//! t = s;                where s.a points goes to t.a: one path leads from s and from t to them
+//! f(p);                 where p points goes to the first parameter of each f of one parameter
+//! q = realloc(p, 8);    what is allocated here goes to q, and where p points, if it is the whole of
+//!                       what was allocated
+//! ```
+//!
+//! Only inclusion is told, so more in the rows is no less in the puts (`proofs.Putting`), and all
+//! that the rows were looked at for is gathered too: a worklist needs just that. This is Andersen's
+//! analysis ("Program Analysis and Specialization for the C Programming Language", 1994, chapter 4),
+//! with a cell for each scalar member.
+#![tactic(auto)]
+
+mod commands;
+mod facts;
+mod gathered;
+mod library;
+mod paths;
+mod rules;
+mod sources;
+mod structs;
+
+pub use commands::{callees_of, puts_of};
+pub use facts::{Facts, groups_of};
+pub use gathered::Gathered;
+pub use library::{Given, Moved};
+pub use sources::{Only, Test};

@@ -1,0 +1,5 @@
+mod Waiting
+mod Growth
+pub mod Adding
+pub mod Serving
+pub mod Measure

@@ -1,0 +1,4 @@
+pub mod Derivations
+pub mod DerivationView
+pub mod Tags
+pub mod Words
