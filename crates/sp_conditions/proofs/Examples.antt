@@ -9,7 +9,7 @@ use Rattle.sp_types.specs.Types as ctype
 use Rattle.sp_lattice.specs.declared.relations.Relation.{Relation}
 use Rattle.sp_lattice.specs.declared.relations.Relation.TheVariants.{Less, Equal, Different}
 use Rattle.sp_interval.specs.declared.interval.Interval.TheVariants.{Empty, Of}
-use Rattle.sp_ir.specs.Commands.{Expression, number, read, convert, Lvalue, direct, through}
+use Rattle.sp_ir.specs.Commands.{Expression, number, read, convert, direct, through}
 use Rattle.sp_ir.specs.Terrain.{Terrain}
 use Rattle.sp_value.specs.declared.targets.Target.{Target}
 use Rattle.sp_value.specs.declared.slots.Slot.TheVariants.{Nothing}
@@ -18,7 +18,7 @@ use Rattle.sp_value.specs.Slots.{known_in, slot_of}
 use Rattle.sp_eval.specs.Numbers.{exactly}
 use Rattle.sp_eval.specs.Steps.{read_at, converted}
 use Rattle.sp_eval.specs.Evaluation.{matched}
-use Rattle.sp_rows.specs.Rows.{Store, Row, applied}
+use Rattle.sp_rows.specs.Rows.{Store, applied}
 use Rattle.sp_stores.specs.Scene.{Scene}
 use Rattle.sp_stores.specs.Destinations.{assigning}
 use Rattle.sp_conditions.specs.Conditions.{assuming}

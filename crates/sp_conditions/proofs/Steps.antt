@@ -1,5 +1,5 @@
 -- Steps of a condition on a row: what a location has after them.
-use Rattle.std.proofs.Common.{◌≡◌, ◌≢◌, ◌⊎◌, inl, inr, ℕ, Bool, true, false, cond, not, ◌||◌, nat_eq, List, ℤ, sym, ap, ◌∙◌, subst}
+use Rattle.std.proofs.Common.{◌≡◌, ◌≢◌, ◌⊎◌, inl, inr, ℕ, Bool, true, false, cond, not, ◌&&◌, ◌||◌, nat_eq, List, ℤ, refl, sym, ap, ◌∙◌, subst}
 use Rattle.std.proofs.lemmas.Bool.{false≢true}
 use Rattle.sp_value.specs.declared.slots.Slot.{Slot}
 use Rattle.sp_value.specs.declared.slots.Slot.TheVariants.{Nothing}
@@ -14,8 +14,9 @@ use Rattle.sp_eval.specs.Evaluation.{value_of}
 use Rattle.sp_rows.specs.Rows.{Store, kept_if, applied}
 use Rattle.sp_stores.specs.Scene.{Scene, known_in_regions}
 use Rattle.sp_stores.proofs.Seen.{value-seen}
-use Rattle.sp_conditions.specs.Sides.{names}
-use Rattle.sp_conditions.specs.Conditions.{changing, assuming, left_by, either_names, assume_defines}
+use Rattle.sp_rows.specs.Setting.{cell_of}
+use Rattle.sp_conditions.specs.Sides.{names, keeps_present}
+use Rattle.sp_conditions.specs.Conditions.{changing, assuming, left_by, either_names}
 use Rattle.sp_rows.proofs.Choices.{join-nothing}
 use Rattle.sp_updates.proofs.Numbers.{which, same_number, apart_numbers}
 
@@ -27,19 +28,25 @@ pub stays : (b : Bool) (new old slot : Slot) → b ≡ false → new ≡ old →
 stays true new old slot h g = absurd (false≢true (sym h))
 stays false new old slot h g = g ∙ sym (join-nothing old)
 
+-- only what a side names is changed
+pub named : (n a m b : Bool) → (n && a || m && b) ≡ true → (n || m) ≡ true
+named true a m b h = refl
+named false a true b h = refl
+named false a false b h = h
+
 -- a row that is changed where one test says so, and then where another does, by what replaces or stays
 pub changed-twice : (either n m : Bool) (old mid new slot : Slot)
     → mid ≡ cond n (slot_join (kept_if (not either) old) (cond either slot Nothing)) old
     → new ≡ cond m (slot_join (kept_if (not either) mid) (cond either slot Nothing)) mid
-    → (n || m) ≡ true → new ≡ slot_join (kept_if (not either) old) (cond either slot Nothing)
+    → (either ≡ true → (n || m) ≡ true) → new ≡ slot_join (kept_if (not either) old) (cond either slot Nothing)
 changed-twice true true true old mid new slot h g is = g
 changed-twice true true false old mid new slot h g is = g ∙ h
 changed-twice true false true old mid new slot h g is = g
 changed-twice false true true old mid new slot h g is = g ∙ join-nothing mid ∙ h
 changed-twice false true false old mid new slot h g is = g ∙ h
 changed-twice false false true old mid new slot h g is = g ∙ ap (λ x. slot_join x Nothing) h
-changed-twice true false false old mid new slot h g is = absurd (false≢true is)
-changed-twice false false false old mid new slot h g is = absurd (false≢true is)
+changed-twice true false false old mid new slot h g is = absurd (false≢true (is refl))
+changed-twice false false false old mid new slot h g is = g ∙ h ∙ sym (join-nothing old)
 
 -- what is changed at one location, which a test singles out
 pub at-one : (test : ℕ → Bool) (location : ℕ) (new changed old : ℕ → Slot) → ((l : ℕ) → test l ≡ nat_eq l location) → new location ≡ changed location → ((l : ℕ) → l ≢ location → new l ≡ old l)
@@ -63,8 +70,8 @@ module _ (c : Scene) (s : Store) (t : Terrain) (cells : List ℕ) (one : t ≡ c
   pub both-changed : (old mid new : Store) (l : ℕ)
       → mid l ≡ cond (names c e l) (applied (changing c e op f v w s) old l) (old l)
       → new l ≡ cond (names c f l) (applied (changing c e op f v w s) mid l) (mid l)
-      → assume_defines c e f l ≡ true → new l ≡ applied (assuming c e op f s) old l
-  both-changed old mid new l first second defined =
+      → new l ≡ applied (assuming c e op f s) old l
+  both-changed old mid new l first second =
       subst (λ (x : Known). new l ≡ applied (changing c e op f (value_of c.terrain (known_in_regions c s) e) x s) old l) (value-seen c s t cells one two f w right)
       (subst (λ (x : Known). new l ≡ applied (changing c e op f x w s) old l) (value-seen c s t cells one two e v left)
-      (changed-twice (either_names c e f l (known_in (s l))) (names c e l) (names c f l) (old l) (mid l) (new l) (stored c.setting.ladder (left_by c e op f l v w (known_in (s l)))) first second defined))
+      (changed-twice (either_names c e f l (known_in (s l))) (names c e l) (names c f l) (old l) (mid l) (new l) (stored c.setting.ladder (left_by c e op f l v w (known_in (s l)))) first second (named (names c e l) (keeps_present (c.is_integer (cell_of c.setting l)) (known_in (s l)) e) (names c f l) (keeps_present (c.is_integer (cell_of c.setting l)) (known_in (s l)) f))))

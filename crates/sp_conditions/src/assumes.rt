@@ -82,7 +82,7 @@ fn change_named<S: Scenery, V: View>(
 }
 
 /// Changes a row by the condition that `left` stands in the relation to `right`, in a store. The places
-/// are the locations that a side may name.
+/// have the locations that a side may name.
 pub fn assume<S: Scenery, V: View>(
     alloc: Global,
     scene: &S,
@@ -96,10 +96,10 @@ pub fn assume<S: Scenery, V: View>(
     requires left { is_proper (expression_of left.now) ≡ true }
     requires right { is_proper (expression_of right.now) ≡ true }
     requires ascend { IsStrictlyIncreasing places.now }
-    requires defs { (l : ℕ) → has l places.now ≡ assume_defines (S.scene scene.now)
-        (expression_of left.now) (expression_of right.now) l }
+    requires defs { (l : ℕ) → assume_defines (S.scene scene.now)
+        (expression_of left.now) (expression_of right.now) l ≡ true → has l places.now ≡ true }
     requires long { length row.old ≡ length places.now }
-    ensures { OnOk result ((l : ℕ) → has l places.now ≡ true → store_of places.now row.new l ≡
+    ensures { OnOk result ((l : ℕ) → store_of places.now row.new l ≡
         applied (assuming (S.scene scene.now) (expression_of left.now) op
         (expression_of right.now) (V.store view.now)) (store_of places.now row.old) l) }
 {

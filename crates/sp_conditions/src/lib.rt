@@ -3,8 +3,10 @@
 //! A side *names* a cell where it reads that cell directly, under conversions, and the cell is no
 //! summary. It *sees all* of the cell where each conversion keeps every number that the cell holds. Of
 //! an integer cell those numbers are left that stand in the relation to the other side's; beside a side
-//! with a target it stays. Of a pointer cell the constant 0 takes numbers, and where it equals 0 its
-//! targets. Both sides use the store as it comes in; where both name one cell, what they leave is met.
+//! with a target it stays, and beside a side without any value it is nothing. Of a pointer cell the
+//! constant 0 takes numbers; where it equals 0 its targets go too, unless its side converts it to an
+//! integer type. Both sides use the store as it comes in; where both name one cell, what they leave is
+//! met. Packs of variables aren't there yet.
 //!
 //! So `if (i < n)` with `i` in [0,20] and `n` in [5,10] leaves [0,9] of `i` and [5,10] of `n`, and
 //! `if (p != 0)` leaves a pointer its targets and no number 0.

@@ -27,6 +27,7 @@ impl Model for CallGraph {
 }
 
 impl CallGraph {
+    ghost use Rattle.sp_sets.specs.Sets.{Ascends};
     ghost use Rattle.sp_sets.specs.Reached.{row};
 
     /// From a set of functions for each node.
@@ -38,7 +39,8 @@ impl CallGraph {
 
     /// The functions that a node calls, ascending; none past the last node.
     pub fn callees(&self, node: u32) -> &[u32]
-        ensures { result.now ≡ row self.now node }
+        ensures functions { result.now ≡ row self.now node }
+        ensures ascending { Ascends result.now }
     {
         match self.callees.get(node as usize) {
             Some(functions) => functions.as_slice(),

@@ -8,9 +8,9 @@
 //!
 //! ```text
 //! int x;                             start -> entry of main
-//! int f(void){ x = 2; return 0; }    call  -> entry of f     passes what f accesses: x
-//! int main(void){                    exit of f -> return     passes what f accesses: x
-//!   int y; f(); return y; }          call  -> return         passes what f doesn't access: y
+//! int f(void){ x = 2; return 0; }    call  -> entry of f     passes what f accesses, as x
+//! int main(void){                    exit of f -> return     passes what f accesses, as x
+//!   int y; f(); return y; }          call  -> return         passes what f doesn't access, as y
 //! ```
 //!
 //! So is it once calls are *localised* ([`localise`]); before ([`supergraph`]) every location passes

@@ -1,5 +1,5 @@
 //! What points-to tells.
-ghost use Rattle.std.specs.Prelude.{◌≡◌, ◌↔◌, ◌<◌, ◌^◌, ℕ, length, true, false, slice_index_or, IfOk};
+ghost use Rattle.std.specs.Prelude.{◌≡◌, ◌↔◌, ℕ, true, false, slice_index_or, IfOk};
 ghost use Rattle.sp_ir.specs.Programs.{lowered_of};
 ghost use Rattle.sp_ir.specs.Formed.{IsFormed};
 ghost use Rattle.sp_sets.specs.Reached.{row};
@@ -67,15 +67,18 @@ impl PointsTo {
     }
 }
 
-/// What the commands of a program let its cells point to, and no more.
+/// What the commands of a program let its cells point to, and no more. More objects than 2^32 want
+/// memory.
 pub fn points_to(alloc: Global, lowered: &Lowered) -> Result<PointsTo, AllocError>
     requires formed { IsFormed (lowered_of lowered.now) }
-    requires few { length (lowered_of lowered.now).objects < 2 ^ 32 }
     ensures least { IfOk result (λ pre. IsLeastClosed (rules_of (lowered_of lowered.now)) (row pre.rows)) }
     ensures calls { IfOk result (λ pre. AreCalls (lowered_of lowered.now) (row pre.rows) pre.calls) }
     ensures callees { IfOk result (λ pre. AreCallees (lowered_of lowered.now) pre.calls) }
     ensures recursive { IfOk result (λ pre. (f : ℕ) → (slice_index_or pre.recursive f false ≡ true) ↔ IsRecursive (lowered_of lowered.now) pre.calls f) }
 {
+    if u32::try_from(lowered.objects.len()).is_err() {
+        return Err(AllocError);
+    }
     let groups = groups_of(alloc, lowered)?;
     let rows = least(alloc, lowered, &groups)?;
     let calls = calls_of(alloc, lowered, &groups, &rows)?;

@@ -31,7 +31,7 @@ fn add_to(groups: &mut Vec<NumberSet>, object: u32, region: u32) -> Result<(), A
     Ok(())
 }
 
-/// The regions of each object.
+/// For each object a set that has all its regions.
 pub fn groups_of(alloc: Global, lowered: &Lowered) -> Result<Vec<NumberSet>, AllocError>
     requires { IsFormed (lowered_of lowered.now) }
     ensures { IfOk result (λ groups. AreGroups (lowered_of lowered.now) groups.items) }

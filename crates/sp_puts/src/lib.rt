@@ -14,8 +14,9 @@
 //!                       what was allocated
 //! ```
 //!
-//! Only inclusion is told, so more in the rows is no less in the puts (`proofs.Putting`), and all
-//! that the rows were looked at for is gathered too: a worklist needs just that. This is Andersen's
+//! The rules ask only what the rows have, never what they lack. So more in the rows is no less in the
+//! puts (`proofs.Putting`). The cells that were looked at are gathered too: a worklist needs just
+//! that. This is Andersen's
 //! analysis ("Program Analysis and Specialization for the C Programming Language", 1994, chapter 4),
 //! with a cell for each scalar member.
 #![tactic(auto)]

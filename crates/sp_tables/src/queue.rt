@@ -9,7 +9,7 @@ use std::mem;
 
 /// Numbers below a count that wait, each at most once. They are taken in rounds: those that come
 /// while a round goes on wait for the next, which takes the last to come first. So a value goes
-/// along a chain of numbers, in whichever direction, in two rounds.
+/// along a chain of numbers, in whichever direction, in two rounds. No contract tells the order.
 #[derive(Drop)]
 pub struct Queue {
     now: Vec<u32>,

@@ -1,0 +1,820 @@
+//! The typing of expressions, type names and declarators: one walk from left to right.
+ghost use Rattle.std.specs.Prelude.{◌≡◌, [], map, true, pos, unwrap_or};
+ghost use Rattle.sp_syntax.specs.View.{
+  tree_of,
+  type_name_of,
+  declarator_of,
+  param_of,
+  specifier_of,
+  specifiers_of,
+  declaration_of,
+  optional,
+};
+ghost use Rattle.sp_types.specs.Types.{parameters_of};
+ghost use Rattle.sp_types.specs.View.{type_of, signature_of};
+ghost use Rattle.sp_types.specs.TypedView.{typed_of, typed_list};
+ghost use Rattle.sp_operands.specs.Answers.{AnswersIn};
+ghost use Rattle.sp_rules.specs.Rules.{told};
+ghost use Rattle.sp_env.specs.Declaring.{LeadsTo};
+ghost use Rattle.sp_env.specs.Views.{env_of};
+ghost use Rattle.sp_type_rules.specs.DerivationView.{derivation_of, parameters_seen};
+ghost use Rattle.sp_expr_check.specs.Parameters.{params_of, is_alone_in};
+ghost use Rattle.sp_expr_check.specs.SyntaxView.{
+  form_of,
+  declarator_form_of,
+  struct_spec_of,
+  enum_spec_of,
+  init_declarator_of,
+};
+ghost use Rattle.sp_operands.specs.Balances.{members_seen};
+ghost use Rattle.sp_expr_check.specs.Expressions.{
+  checked,
+  value_checked,
+  form_checked,
+  arguments_checked,
+  type_name_checked,
+  declared_type,
+  steps_checked,
+  derivations_checked,
+  length_checked,
+  params_checked,
+  param_checked,
+  list_checked,
+  list_read,
+  specifiers_checked,
+  specifier_checked,
+  struct_checked,
+  members_checked,
+  declaration_members,
+  items_checked,
+  item_checked,
+  enum_checked,
+  constants_checked,
+  constant_checked,
+  declarations_in,
+  constants_in,
+  items_in,
+  with_implicit,
+  arguments_of,
+  is_operation,
+  joins_operands,
+  one_checked,
+};
+
+use crate::specifiers::{
+    enumerator_told, is_alone_in, member_added, names_type, param_told, struct_opened, told_types,
+};
+use sp_constants::constant;
+use sp_env::Env;
+use sp_member_rules::{
+    completed, declared_name, enumerator, has_parameter_storage, is_lone_void, reserved,
+    with_enum_tag,
+};
+use sp_names::{
+    character_checked, implicit_name, name_checked, number_checked, size_checked, text_checked,
+};
+use sp_operands::{CheckError, fault, value};
+use sp_rules::{
+    argument_at, arrow_taken, assign, binary, called, called_signature, cast_to, choice, indexed,
+    length_given, member_taken, not_floating, stepped_after, takes_object, unary_object,
+    unary_value,
+};
+use sp_syntax::{
+    Declaration, Declarator, DeclaratorForm, EnumSpec, Expr, ExprForm, InitDeclarator, Param,
+    Specifier, StructSpec, TypeName,
+};
+use sp_tree::{FaultKind, Names, Place};
+use sp_type_rules::{
+    Derivation, derived, enum_referred, named_checked, struct_referred, words_type,
+};
+use sp_types::{CType, IntKind, Signature, TypedExpr};
+use std::alloc::Global;
+
+/// The typed tree of an expression's value, or its fault. `names` tells the bytes of each name.
+///
+/// Strings, constants and functions declared by a call go to the tables in the order of the text.
+/// After a refusal the environment isn't used again.
+pub fn check_expression(
+    alloc: Global,
+    env: &mut Env,
+    expr: &Expr,
+    names: &Names,
+) -> Result<TypedExpr, CheckError>
+    ensures { AnswersIn typed_of
+        (value_checked names.now (env_of env.old) (tree_of expr.now)) (env_of env.new) result }
+{
+    value_checked(alloc, env, names, expr)
+}
+
+/// The type that specifiers name, or their fault. `alone` says that no declarator follows, so that
+/// `struct s;` declares a tag of the innermost scope. `at` is the place of what they stand in, at which
+/// F8 stands where a name of a type is none here.
+///
+/// The tags, structs and enumeration constants that they declare go to the environment.
+pub fn check_specifiers(
+    alloc: Global,
+    env: &mut Env,
+    specifiers: &[Specifier],
+    alone: bool,
+    at: Place,
+    names: &Names,
+) -> Result<CType, CheckError>
+    ensures { AnswersIn type_of
+        (specifiers_checked names.now (env_of env.old) alone at (specifiers_of specifiers.now))
+        (env_of env.new) result }
+{
+    specifiers_checked(alloc, specifiers, env, names, alone, at)
+}
+
+/// The type of a declarator's name, or its fault; the base is the type that its specifiers name.
+pub fn check_declarator(
+    alloc: Global,
+    env: &mut Env,
+    base: CType,
+    declarator: &Declarator,
+    names: &Names,
+) -> Result<CType, CheckError>
+    ensures { AnswersIn type_of
+        (declared_type names.now (env_of env.old) (type_of base) (declarator_of declarator.now))
+        (env_of env.new) result }
+{
+    declared_type(alloc, declarator, env, names, base)
+}
+
+/// An expression as it stands.
+#[cycle(expression)]
+fn checked(
+    alloc: Global,
+    env: &mut Env,
+    names: &Names,
+    expr: &Expr,
+) -> Result<TypedExpr, CheckError>
+    ensures { AnswersIn typed_of
+        (checked names.now (env_of env.old) (tree_of expr.now)) (env_of env.new) result }
+{
+    let e = form(alloc, env, names, expr.place, expr.mark, &expr.form)?;
+    not_floating(expr.place, e)
+}
+
+/// An expression as a value (C90 6.2.2.1).
+#[cycle(expression)]
+fn value_checked(
+    alloc: Global,
+    env: &mut Env,
+    names: &Names,
+    expr: &Expr,
+) -> Result<TypedExpr, CheckError>
+    ensures { AnswersIn typed_of
+        (value_checked names.now (env_of env.old) (tree_of expr.now)) (env_of env.new) result }
+{
+    let e = form(alloc, env, names, expr.place, expr.mark, &expr.form)?;
+    let e = not_floating(expr.place, e)?;
+    value(alloc, env.structs(), expr.place, e)
+}
+
+/// Names, literals, indices and calls; the other forms are taken in two groups behind.
+#[tactic(auto, using(crate::proofs::Places::places))]
+#[cycle(expression)]
+fn form(
+    alloc: Global,
+    env: &mut Env,
+    names: &Names,
+    place: Place,
+    mark: Place,
+    form: &ExprForm,
+) -> Result<TypedExpr, CheckError>
+    ensures { AnswersIn typed_of
+        (form_checked names.now (env_of env.old) place mark (form_of form.now))
+        (env_of env.new) result }
+{
+    match form {
+        ExprForm::Name(name) => name_checked(alloc, env, names, *name, place),
+        ExprForm::Number(number) => number_checked(env, *number, place, mark),
+        ExprForm::Char(value) => character_checked(env, *value, place, mark),
+        ExprForm::Text(parts) => text_checked(alloc, env, names, parts, place, mark),
+        ExprForm::Paren(inner) => checked(alloc, env, names, inner),
+        ExprForm::Index(a, b) => {
+            let a = value_checked(alloc, env, names, a)?;
+            let b = value_checked(alloc, env, names, b)?;
+            indexed(alloc, env.structs(), place, mark, a, b)
+        }
+        ExprForm::Call(callee, _) => {
+            called_name(alloc, env, names, callee)?;
+            let at = callee.place;
+            let callee = value_checked(alloc, env, names, callee)?;
+            let signature = called_signature(alloc, at, callee.of())?;
+            let arguments = arguments_checked(alloc, form, env, names, &signature)?;
+            called(
+                alloc,
+                env.structs(),
+                place,
+                mark,
+                &signature,
+                callee,
+                arguments,
+            )
+        }
+        ExprForm::Binary(_, _, _)
+        | ExprForm::Choice(_, _, _)
+        | ExprForm::Assign(_, _, _)
+        | ExprForm::Comma(_, _) => joined(alloc, env, names, place, mark, form),
+        ExprForm::Member(_, _)
+        | ExprForm::Arrow(_, _)
+        | ExprForm::After(_, _)
+        | ExprForm::Unary(_, _)
+        | ExprForm::SizeofExpr(_)
+        | ExprForm::SizeofType(_)
+        | ExprForm::Cast(_, _) => operation(alloc, env, names, place, mark, form),
+    }
+}
+
+/// Operators on one operand.
+#[tactic(auto, using(crate::proofs::Places::places))]
+#[cycle(expression)]
+fn operation(
+    alloc: Global,
+    env: &mut Env,
+    names: &Names,
+    place: Place,
+    mark: Place,
+    form: &ExprForm,
+) -> Result<TypedExpr, CheckError>
+    requires { is_operation (form_of form.now) ≡ true }
+    ensures { AnswersIn typed_of
+        (form_checked names.now (env_of env.old) place mark (form_of form.now))
+        (env_of env.new) result }
+{
+    match form {
+        ExprForm::Member(e, name) => {
+            let e = checked(alloc, env, names, e)?;
+            member_taken(alloc, env.structs(), *name, place, mark, e)
+        }
+        ExprForm::Arrow(e, name) => {
+            let e = value_checked(alloc, env, names, e)?;
+            arrow_taken(alloc, env.structs(), *name, place, mark, e)
+        }
+        ExprForm::After(operator, e) => {
+            let at = e.place;
+            let e = checked(alloc, env, names, e)?;
+            stepped_after(alloc, env.structs(), *operator, place, mark, at, e)
+        }
+        ExprForm::Unary(operator, e) => {
+            if takes_object(*operator) {
+                let at = e.place;
+                let e = checked(alloc, env, names, e)?;
+                unary_object(alloc, env.structs(), *operator, place, mark, at, e)
+            } else {
+                let e = value_checked(alloc, env, names, e)?;
+                unary_value(alloc, *operator, place, mark, e)
+            }
+        }
+        ExprForm::SizeofExpr(e) => {
+            let e = checked(alloc, env, names, e)?;
+            size_checked(env, place, mark, e.of())
+        }
+        ExprForm::SizeofType(t) => {
+            let of = type_name_checked(alloc, env, names, t)?;
+            size_checked(env, place, mark, &of)
+        }
+        ExprForm::Cast(t, e) => {
+            let to = type_name_checked(alloc, env, names, t)?;
+            let at = e.place;
+            let e = value_checked(alloc, env, names, e)?;
+            cast_to(alloc, to, place, mark, at, e)
+        }
+        _ => fault(FaultKind::F14, place),
+    }
+}
+
+/// Operators between operands, `?:`, assignments and commas.
+#[tactic(auto, using(crate::proofs::Places::places))]
+#[cycle(expression)]
+fn joined(
+    alloc: Global,
+    env: &mut Env,
+    names: &Names,
+    place: Place,
+    mark: Place,
+    form: &ExprForm,
+) -> Result<TypedExpr, CheckError>
+    requires { joins_operands (form_of form.now) ≡ true }
+    ensures { AnswersIn typed_of
+        (form_checked names.now (env_of env.old) place mark (form_of form.now))
+        (env_of env.new) result }
+{
+    match form {
+        ExprForm::Binary(operator, a, b) => {
+            let a = value_checked(alloc, env, names, a)?;
+            let b = value_checked(alloc, env, names, b)?;
+            binary(alloc, env.structs(), *operator, place, mark, a, b)
+        }
+        ExprForm::Choice(c, a, b) => {
+            let c = value_checked(alloc, env, names, c)?;
+            let a = value_checked(alloc, env, names, a)?;
+            let b = value_checked(alloc, env, names, b)?;
+            choice(alloc, place, mark, c, a, b)
+        }
+        ExprForm::Assign(operator, a, b) => {
+            let (at, there) = (a.place, b.place);
+            let a = checked(alloc, env, names, a)?;
+            let b = value_checked(alloc, env, names, b)?;
+            assign(
+                alloc,
+                env.structs(),
+                *operator,
+                place,
+                mark,
+                at,
+                there,
+                a,
+                b,
+            )
+        }
+        ExprForm::Comma(a, b) => {
+            let a = value_checked(alloc, env, names, a)?;
+            let b = value_checked(alloc, env, names, b)?;
+            let of = b.of().copy(alloc)?;
+            Ok(TypedExpr::comma(alloc, a, b, of, place, mark)?)
+        }
+        _ => fault(FaultKind::F14, place),
+    }
+}
+
+/// Declares the callee where it is a name that isn't declared (C90 6.3.2.2).
+fn called_name(alloc: Global, env: &mut Env, names: &Names, callee: &Expr) -> Result<(), CheckError>
+    ensures { LeadsTo (with_implicit names.now (env_of env.old) (tree_of callee.now))
+        (env_of env.new) result }
+{
+    match &callee.form {
+        ExprForm::Name(name) => implicit_name(alloc, env, names, *name, callee.place),
+        _ => Ok(()),
+    }
+}
+
+/// The arguments, each converted to its parameter's type or promoted.
+#[cycle(expression)]
+fn arguments_checked(
+    alloc: Global,
+    form: &ExprForm,
+    env: &mut Env,
+    names: &Names,
+    signature: &Signature,
+) -> Result<Vec<TypedExpr>, CheckError>
+    ensures { AnswersIn (λ es. typed_list (map typed_of es.items))
+        (arguments_checked names.now (env_of env.old)
+        (told (parameters_of (signature_of signature.now))) (arguments_of (form_of form.now)))
+        (env_of env.new) result }
+{
+    let mut all = Vec::new(alloc);
+    let ExprForm::Call(_, arguments) = form else {
+        return Ok(all);
+    };
+    'arguments: for (i, e) in arguments.iter().enumerate() {
+        all.push(argument_checked(alloc, e, env, names, signature, i)?)?;
+    }
+    Ok(all)
+}
+
+/// The argument of this number.
+#[tactic(auto, using(crate::proofs::Places::places))]
+#[cycle(expression)]
+fn argument_checked(
+    alloc: Global,
+    e: &Expr,
+    env: &mut Env,
+    names: &Names,
+    signature: &Signature,
+    number: usize,
+) -> Result<TypedExpr, CheckError>
+    ensures { AnswersIn typed_of
+        (one_checked names.now (env_of env.old)
+        (told (parameters_of (signature_of signature.now))) number (tree_of e.now))
+        (env_of env.new) result }
+{
+    let value = value_checked(alloc, env, names, e)?;
+    argument_at(alloc, signature, number, e.place, value)
+}
+
+/// The type that a type name names (C90 6.5.5).
+#[cycle(expression)]
+fn type_name_checked(
+    alloc: Global,
+    env: &mut Env,
+    names: &Names,
+    name: &TypeName,
+) -> Result<CType, CheckError>
+    ensures { AnswersIn type_of
+        (type_name_checked names.now (env_of env.old) (type_name_of name.now))
+        (env_of env.new) result }
+{
+    let base = specifiers_checked(
+        alloc,
+        &name.specifiers,
+        env,
+        names,
+        false,
+        name.declarator.place,
+    )?;
+    declared_type(alloc, &name.declarator, env, names, base)
+}
+
+/// The type of a declarator's name (C90 6.5.4).
+#[cycle(expression)]
+fn declared_type(
+    alloc: Global,
+    declarator: &Declarator,
+    env: &mut Env,
+    names: &Names,
+    base: CType,
+) -> Result<CType, CheckError>
+    ensures { AnswersIn type_of
+        (declared_type names.now (env_of env.old) (type_of base) (declarator_of declarator.now))
+        (env_of env.new) result }
+{
+    let steps = derivations(alloc, &declarator.form, env, names, declarator.place)?;
+    derived(alloc, env.structs(), steps, base)
+}
+
+/// What a declarator derives, from the name outwards.
+#[cycle(expression)]
+fn steps(
+    alloc: Global,
+    declarator: &Declarator,
+    env: &mut Env,
+    names: &Names,
+) -> Result<Vec<Derivation>, CheckError>
+    ensures { AnswersIn (λ steps. map derivation_of steps.items)
+        (steps_checked names.now (env_of env.old) (declarator_of declarator.now))
+        (env_of env.new) result }
+{
+    derivations(alloc, &declarator.form, env, names, declarator.place)
+}
+
+/// What the form of a declarator at this place derives.
+#[cycle(expression)]
+fn derivations(
+    alloc: Global,
+    form: &DeclaratorForm,
+    env: &mut Env,
+    names: &Names,
+    place: Place,
+) -> Result<Vec<Derivation>, CheckError>
+    ensures { AnswersIn (λ steps. map derivation_of steps.items)
+        (derivations_checked names.now (env_of env.old) place (declarator_form_of form.now))
+        (env_of env.new) result }
+{
+    match form {
+        DeclaratorForm::Absent | DeclaratorForm::Name(_) => Ok(Vec::new(alloc)),
+        DeclaratorForm::Paren(inner) => steps(alloc, inner, env, names),
+        DeclaratorForm::Pointer(_, inner) => {
+            let mut all = steps(alloc, inner, env, names)?;
+            all.push(Derivation::Pointer)?;
+            Ok(all)
+        }
+        DeclaratorForm::Array(inner, None) => {
+            let mut all = steps(alloc, inner, env, names)?;
+            all.push(Derivation::Array(None, place))?;
+            Ok(all)
+        }
+        DeclaratorForm::Array(inner, Some(length)) => {
+            let mut all = steps(alloc, inner, env, names)?;
+            let length = length_checked(alloc, length, env, names)?;
+            all.push(Derivation::Array(Some(length), place))?;
+            Ok(all)
+        }
+        DeclaratorForm::Function(inner, _, variadic) => {
+            let mut all = steps(alloc, inner, env, names)?;
+            let params = list_checked(alloc, form, env, names)?;
+            all.push(Derivation::Function(params, *variadic, place))?;
+            Ok(all)
+        }
+    }
+}
+
+/// The length of an array (C90 6.5.4.2).
+#[tactic(auto, using(crate::proofs::Places::places))]
+#[cycle(expression)]
+fn length_checked(
+    alloc: Global,
+    length: &Expr,
+    env: &mut Env,
+    names: &Names,
+) -> Result<u64, CheckError>
+    ensures { AnswersIn (λ n. n)
+        (length_checked names.now (env_of env.old) (tree_of length.now)) (env_of env.new) result }
+{
+    let value = value_checked(alloc, env, names, length)?;
+    let number = length_given(constant(&value), length.place)?;
+    env.add_constant(number as i128)?;
+    Ok(number)
+}
+
+/// The parameters of a declarator of a function, where it tells them (C90 6.5.4.3).
+#[cycle(expression)]
+fn list_checked(
+    alloc: Global,
+    form: &DeclaratorForm,
+    env: &mut Env,
+    names: &Names,
+) -> Result<Option<Vec<CType>>, CheckError>
+    ensures { AnswersIn parameters_seen
+        (list_checked names.now (env_of env.old) (declarator_form_of form.now))
+        (env_of env.new) result }
+{
+    list_read(alloc, form, env, names)
+}
+
+/// The same, with a scope of its own around the list.
+#[cycle(expression)]
+fn list_read(
+    alloc: Global,
+    form: &DeclaratorForm,
+    env: &mut Env,
+    names: &Names,
+) -> Result<Option<Vec<CType>>, CheckError>
+    ensures { AnswersIn parameters_seen
+        (list_read names.now (env_of env.old) (declarator_form_of form.now))
+        (env_of env.new) result }
+{
+    env.enter(alloc)?;
+    let all = params_checked(alloc, form, env, names)?;
+    env.leave();
+    Ok(told_types(form, all))
+}
+
+/// The types of the parameters of a declarator of a function, in their scope.
+#[cycle(expression)]
+fn params_checked(
+    alloc: Global,
+    form: &DeclaratorForm,
+    env: &mut Env,
+    names: &Names,
+) -> Result<Vec<CType>, CheckError>
+    ensures { AnswersIn (λ all. map type_of all.items)
+        (params_checked names.now (env_of env.old) (is_alone_in (declarator_form_of form.now)) []
+        (params_of (declarator_form_of form.now)))
+        (env_of env.new) result }
+{
+    let mut all = Vec::new(alloc);
+    let alone = is_alone_in(form);
+    let DeclaratorForm::Function(_, params, _) = form else {
+        return Ok(all);
+    };
+    'params: for (i, param) in params.iter().enumerate() {
+        all = param_checked(alloc, param, env, names, alone, all)?;
+    }
+    Ok(all)
+}
+
+/// A parameter behind those that are read.
+#[tactic(auto, using(crate::proofs::Places::places))]
+#[cycle(expression)]
+fn param_checked(
+    alloc: Global,
+    param: &Param,
+    env: &mut Env,
+    names: &Names,
+    alone: bool,
+    all: Vec<CType>,
+) -> Result<Vec<CType>, CheckError>
+    ensures { AnswersIn (λ all. map type_of all.items)
+        (param_checked names.now (env_of env.old) alone (map type_of all.items)
+        (param_of param.now))
+        (env_of env.new) result }
+{
+    let at = param.declarator.place;
+    if !has_parameter_storage(&param.specifiers) {
+        return fault(FaultKind::F14, at);
+    }
+    let name = declared_name(&param.declarator);
+    let number = reserved(alloc, env, name)?;
+    let base = specifiers_checked(alloc, &param.specifiers, env, names, false, at)?;
+    if alone && is_lone_void(&base, &param.declarator) {
+        return Ok(all);
+    }
+    let of = declared_type(alloc, &param.declarator, env, names, base)?;
+    param_told(alloc, env, number, all, of, &param.declarator)
+}
+
+/// The type that specifiers name (C90 6.5.2): the first that is no storage class and no qualifier
+/// tells it.
+#[cycle(expression)]
+fn specifiers_checked(
+    alloc: Global,
+    specifiers: &[Specifier],
+    env: &mut Env,
+    names: &Names,
+    alone: bool,
+    at: Place,
+) -> Result<CType, CheckError>
+    ensures { AnswersIn type_of
+        (specifiers_checked names.now (env_of env.old) alone at (specifiers_of specifiers.now))
+        (env_of env.new) result }
+{
+    'specifiers: for (i, specifier) in specifiers.iter().enumerate() {
+        if names_type(specifier) {
+            return specifier_checked(alloc, specifier, env, names, alone, at, &specifiers[i..]);
+        }
+    }
+    Ok(CType::Int(IntKind::Int))
+}
+
+/// The type that a specifier names, where `words` are those from it on.
+#[cycle(expression)]
+fn specifier_checked(
+    alloc: Global,
+    specifier: &Specifier,
+    env: &mut Env,
+    names: &Names,
+    alone: bool,
+    at: Place,
+    words: &[Specifier],
+) -> Result<CType, CheckError>
+    ensures { AnswersIn type_of
+        (specifier_checked names.now (env_of env.old) alone at (specifiers_of words.now)
+        (specifier_of specifier.now))
+        (env_of env.new) result }
+{
+    match specifier {
+        Specifier::Named(name) => named_checked(alloc, env, *name, at),
+        Specifier::Struct(spec) => struct_checked(alloc, spec, env, names, alone),
+        Specifier::Enum(spec) => enum_checked(alloc, spec, env, names),
+        Specifier::Storage(_) | Specifier::Qualifier(_) | Specifier::Basic(_) => {
+            Ok(words_type(words))
+        }
+    }
+}
+
+/// The type of a specifier of a struct or a union (C90 6.5.2.1, 6.5.2.3).
+#[cycle(expression)]
+fn struct_checked(
+    alloc: Global,
+    spec: &StructSpec,
+    env: &mut Env,
+    names: &Names,
+    alone: bool,
+) -> Result<CType, CheckError>
+    ensures { AnswersIn type_of
+        (struct_checked names.now (env_of env.old) alone (struct_spec_of spec.now))
+        (env_of env.new) result }
+{
+    if spec.members.is_none() {
+        return struct_referred(env, alone, spec.union, spec.tag, spec.place);
+    }
+    let number = struct_opened(env, spec.union, spec.tag, spec.place)?;
+    let members = members_checked(alloc, spec, env, names)?;
+    completed(env, number, spec.union, spec.place, members)?;
+    Ok(CType::Struct(number))
+}
+
+/// The members of a struct or a union.
+#[cycle(expression)]
+fn members_checked(
+    alloc: Global,
+    spec: &StructSpec,
+    env: &mut Env,
+    names: &Names,
+) -> Result<Vec<(u32, CType)>, CheckError>
+    ensures { AnswersIn (λ all. members_seen all.items)
+        (members_checked names.now (env_of env.old) [] (declarations_in (struct_spec_of spec.now)))
+        (env_of env.new) result }
+{
+    let mut all = Vec::new(alloc);
+    let Some(members) = &spec.members else {
+        return Ok(all);
+    };
+    'members: for (i, declaration) in members.iter().enumerate() {
+        all = declaration_members(alloc, declaration, env, names, all)?;
+    }
+    Ok(all)
+}
+
+/// The members of a declaration, behind those that are read.
+#[cycle(expression)]
+fn declaration_members(
+    alloc: Global,
+    declaration: &Declaration,
+    env: &mut Env,
+    names: &Names,
+    all: Vec<(u32, CType)>,
+) -> Result<Vec<(u32, CType)>, CheckError>
+    ensures { AnswersIn (λ all. members_seen all.items)
+        (declaration_members names.now (env_of env.old) (members_seen all.items)
+        (declaration_of declaration.now))
+        (env_of env.new) result }
+{
+    let at = declaration.place;
+    let base = specifiers_checked(alloc, &declaration.specifiers, env, names, false, at)?;
+    items_checked(alloc, declaration, env, names, &base, all)
+}
+
+#[cycle(expression)]
+fn items_checked(
+    alloc: Global,
+    declaration: &Declaration,
+    env: &mut Env,
+    names: &Names,
+    base: &CType,
+    mut all: Vec<(u32, CType)>,
+) -> Result<Vec<(u32, CType)>, CheckError>
+    ensures { AnswersIn (λ all. members_seen all.items)
+        (items_checked names.now (env_of env.old) (type_of base.now) (members_seen all.items)
+        (items_in (declaration_of declaration.now)))
+        (env_of env.new) result }
+{
+    'items: for (i, item) in declaration.items.iter().enumerate() {
+        all = item_checked(alloc, item, env, names, base, all)?;
+    }
+    Ok(all)
+}
+
+/// A member, behind those that are read.
+#[cycle(expression)]
+fn item_checked(
+    alloc: Global,
+    item: &InitDeclarator,
+    env: &mut Env,
+    names: &Names,
+    base: &CType,
+    all: Vec<(u32, CType)>,
+) -> Result<Vec<(u32, CType)>, CheckError>
+    ensures { AnswersIn (λ all. members_seen all.items)
+        (item_checked names.now (env_of env.old) (type_of base.now) (members_seen all.items)
+        (init_declarator_of item.now))
+        (env_of env.new) result }
+{
+    let of = declared_type(alloc, &item.declarator, env, names, base.copy(alloc)?)?;
+    member_added(env.structs(), all, of, &item.declarator)
+}
+
+/// The type of a specifier of an enumeration (C90 6.5.2.2).
+#[cycle(expression)]
+fn enum_checked(
+    alloc: Global,
+    spec: &EnumSpec,
+    env: &mut Env,
+    names: &Names,
+) -> Result<CType, CheckError>
+    ensures { AnswersIn type_of
+        (enum_checked names.now (env_of env.old) (enum_spec_of spec.now)) (env_of env.new) result }
+{
+    if spec.constants.is_none() {
+        return enum_referred(env, spec.tag, spec.place);
+    }
+    with_enum_tag(env, spec.tag, spec.place)?;
+    constants_checked(alloc, spec, env, names)?;
+    Ok(CType::Int(IntKind::Int))
+}
+
+/// The constants of an enumeration, and the value behind the last: `None` is 0.
+#[cycle(expression)]
+fn constants_checked(
+    alloc: Global,
+    spec: &EnumSpec,
+    env: &mut Env,
+    names: &Names,
+) -> Result<Option<i128>, CheckError>
+    ensures { AnswersIn (λ z. unwrap_or z (pos 0))
+        (constants_checked names.now (env_of env.old) (pos 0)
+        (constants_in (enum_spec_of spec.now)))
+        (env_of env.new) result }
+{
+    let mut next = None;
+    let Some(constants) = &spec.constants else {
+        return Ok(next);
+    };
+    'constants: for (i, constant) in constants.iter().enumerate() {
+        next = constant_checked(alloc, constant, env, names, next)?;
+    }
+    Ok(next)
+}
+
+/// A constant of an enumeration, and the value of the next. Where none is given its own is `next`,
+/// where `None` is 0.
+#[tactic(auto, using(crate::proofs::Places::places))]
+#[cycle(expression)]
+fn constant_checked(
+    alloc: Global,
+    constant: &(u32, Place, Option<Expr>),
+    env: &mut Env,
+    names: &Names,
+    next: Option<i128>,
+) -> Result<Option<i128>, CheckError>
+    ensures { AnswersIn (λ z. unwrap_or z (pos 0))
+        (constant_checked names.now (env_of env.old) (unwrap_or next (pos 0)) constant.now.0
+        constant.now.1 (optional constant.now.2))
+        (env_of env.new) result }
+{
+    let (name, place) = (constant.0, constant.1);
+    match &constant.2 {
+        None => {
+            let value = next.unwrap_or(0);
+            Ok(Some(enumerator(env, name, place, value)?))
+        }
+        Some(value) => {
+            let at = value.place;
+            let value = value_checked(alloc, env, names, value)?;
+            Ok(Some(enumerator_told(env, &value, at, name, place)?))
+        }
+    }
+}

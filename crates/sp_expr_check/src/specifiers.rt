@@ -1,0 +1,187 @@
+//! What a struct, a member or an enumeration constant does once its parts are read (C90 6.5.2).
+ghost use Rattle.std.specs.Prelude.{◌≡◌, map};
+ghost use Rattle.sp_syntax.specs.View.{
+  specifier_of,
+  declarator_of,
+  param_of,
+  params as params_seen,
+};
+ghost use Rattle.sp_types.specs.TypedView.{typed_of};
+ghost use Rattle.sp_types.specs.View.{type_of, struct_of};
+ghost use Rattle.sp_operands.specs.Answers.{Answers, AnswersIn};
+ghost use Rattle.sp_operands.specs.Balances.{members_seen};
+ghost use Rattle.sp_env.specs.Views.{env_of};
+ghost use Rattle.sp_type_rules.specs.DerivationView.{parameters_seen};
+ghost use Rattle.sp_expr_check.specs.Parameters.{
+  params_of,
+  is_alone,
+  is_alone_in,
+  told_types,
+  param_told,
+};
+ghost use Rattle.sp_expr_check.specs.SyntaxView.{declarator_form_of};
+ghost use Rattle.sp_expr_check.specs.Specifiers.{
+  names_type,
+  struct_opened,
+  member_added,
+  enumerator_told,
+};
+
+use sp_constants::constant;
+use sp_env::Env;
+use sp_member_rules::{
+    adjusted, begun, declared_name, enumerator, has_member, is_open, named_parameter,
+};
+use sp_operands::{CheckError, fault, is_complete, is_void};
+use sp_syntax::{Declarator, DeclaratorForm, Param, Specifier};
+use sp_tree::{FaultKind, Place};
+use sp_type_rules::{struct_at, tag_found};
+use sp_types::{CType, StructType, TypedExpr};
+use std::alloc::Global;
+
+/// Whether a specifier names a type: it is no storage class and no qualifier.
+pub(crate) fn names_type(specifier: &Specifier) -> bool
+    ensures { result ≡ names_type (specifier_of specifier.now) }
+{
+    match specifier {
+        Specifier::Storage(_) | Specifier::Qualifier(_) => false,
+        Specifier::Basic(_) | Specifier::Named(_) | Specifier::Struct(_) | Specifier::Enum(_) =>
+            true,
+    }
+}
+
+/// The number of the struct or the union whose members are about to be read: F11 where its tag is of
+/// another kind, or where the innermost scope has its members already, or is reading them.
+pub(crate) fn struct_opened(
+    env: &mut Env,
+    union: bool,
+    tag: Option<u32>,
+    place: Place,
+) -> Result<u32, CheckError>
+    ensures { AnswersIn (λ k. k) (struct_opened (env_of env.old) union tag place)
+        (env_of env.new) result }
+{
+    let found = tag_found(env, true, tag);
+    let number = struct_at(env, union, tag, place, found)?;
+    if !is_open(env, number) {
+        return fault(FaultKind::F11, place);
+    }
+    begun(env, number, tag, union);
+    Ok(number)
+}
+
+/// A member of this type behind the others: F13 and F14 stand at its declarator where its type isn't
+/// complete, or it has no name, F9 at its name where another member has it.
+#[tactic(auto, using(crate::proofs::Places::places))]
+pub(crate) fn member_added(
+    structs: &[StructType],
+    mut all: Vec<(u32, CType)>,
+    of: CType,
+    declarator: &Declarator,
+) -> Result<Vec<(u32, CType)>, CheckError>
+    ensures { Answers (λ ms. members_seen ms.items)
+        (member_added (map struct_of structs.now) (members_seen all.items) (type_of of)
+        (declarator_of declarator.now)) result }
+{
+    if !is_complete(&of, structs) {
+        return fault(FaultKind::F13, declarator.place);
+    }
+    let Some((name, at)) = declared_name(declarator) else {
+        return fault(FaultKind::F14, declarator.place);
+    };
+    if has_member(&all, name) {
+        return fault(FaultKind::F9, at);
+    }
+    all.push((name, of))?;
+    Ok(all)
+}
+
+/// An enumeration constant whose value this expression gives; `at` is the place of the expression,
+/// `place` that of the name. F19 stands where it is no integer constant.
+pub(crate) fn enumerator_told(
+    env: &mut Env,
+    value: &TypedExpr,
+    at: Place,
+    name: u32,
+    place: Place,
+) -> Result<i128, CheckError>
+    ensures { AnswersIn (λ z. z)
+        (enumerator_told (env_of env.old) (typed_of value.now) at name place)
+        (env_of env.new) result }
+{
+    let Some(value) = constant(value) else {
+        return fault(FaultKind::F19, at);
+    };
+    enumerator(env, name, place, value)
+}
+
+/// Puts the type of a parameter behind the others; a named one is declared in the innermost scope.
+#[tactic(auto, using(crate::proofs::Places::places))]
+pub(crate) fn param_told(
+    alloc: Global,
+    env: &mut Env,
+    number: u32,
+    mut all: Vec<CType>,
+    of: CType,
+    declarator: &Declarator,
+) -> Result<Vec<CType>, CheckError>
+    ensures { AnswersIn (λ all. map type_of all.items)
+        (param_told (env_of env.old) number (map type_of all.items) (type_of of)
+        (declarator_of declarator.now))
+        (env_of env.new) result }
+{
+    let of = adjusted(alloc, of)?;
+    if is_void(&of) {
+        return fault(FaultKind::F13, declarator.place);
+    }
+    let name = declared_name(declarator);
+    named_parameter(alloc, env, number, name, of.copy(alloc)?)?;
+    all.push(of)?;
+    Ok(all)
+}
+
+/// Whether a list has one parameter, and no `...`.
+#[tactic(auto, using(crate::proofs::Lists::lists))]
+fn is_alone(params: &[Param], variadic: bool) -> bool
+    ensures { result ≡ is_alone (params_seen (map param_of params.now)) variadic }
+{
+    params.len() == 1 && !variadic
+}
+
+/// Whether the declarator of a function has one parameter, and no `...`.
+pub(crate) fn is_alone_in(form: &DeclaratorForm) -> bool
+    ensures { result ≡ is_alone_in (declarator_form_of form.now) }
+{
+    match form {
+        DeclaratorForm::Function(_, params, variadic) => is_alone(params, *variadic),
+        DeclaratorForm::Absent
+        | DeclaratorForm::Name(_)
+        | DeclaratorForm::Paren(_)
+        | DeclaratorForm::Pointer(_, _)
+        | DeclaratorForm::Array(_, _) => false,
+    }
+}
+
+/// The types of these parameters: a list without any tells nothing.
+#[tactic(auto, using(crate::proofs::Lists::lists))]
+fn told(params: &[Param], all: Vec<CType>) -> Option<Vec<CType>>
+    ensures { parameters_seen result ≡
+        told_types (params_seen (map param_of params.now)) (map type_of all.items) }
+{
+    if params.is_empty() { None } else { Some(all) }
+}
+
+/// The types of the parameters of a declarator of a function.
+pub(crate) fn told_types(form: &DeclaratorForm, all: Vec<CType>) -> Option<Vec<CType>>
+    ensures { parameters_seen result ≡
+        told_types (params_of (declarator_form_of form.now)) (map type_of all.items) }
+{
+    match form {
+        DeclaratorForm::Function(_, params, _) => told(params, all),
+        DeclaratorForm::Absent
+        | DeclaratorForm::Name(_)
+        | DeclaratorForm::Paren(_)
+        | DeclaratorForm::Pointer(_, _)
+        | DeclaratorForm::Array(_, _) => None,
+    }
+}

@@ -1,0 +1,6 @@
+pub mod Frames
+pub mod Bodies
+pub mod Cases
+pub mod Declarations
+pub mod Statements
+pub mod View

@@ -1,0 +1,2 @@
+pub mod LeafLists
+pub mod Headers
