@@ -18,8 +18,8 @@ use sp_updates::store;
 use sp_value::{Slot, View};
 use std::alloc::{AllocError, Global};
 
-/// Changes a row by the assignment of a value to a scalar lvalue, as a store gives them. The places are
-/// the locations that the lvalue may hit.
+/// Changes a row by the assignment of a value to a scalar lvalue, as a store gives them. `hit` are the
+/// locations that the lvalue may hit, all of them among the places.
 pub fn assign<S: Scenery, V: View>(
     alloc: Global,
     scene: &S,
@@ -28,13 +28,15 @@ pub fn assign<S: Scenery, V: View>(
     value: &Expr,
     row: &mut [Slot],
     places: &[u32],
+    hit: &[u32],
 ) -> Result<(), AllocError>
     requires lvalue { is_proper_lvalue (lvalue_of lvalue.now) ≡ true }
     requires value { is_proper (expression_of value.now) ≡ true }
     requires ascend { IsStrictlyIncreasing places.now }
     requires long { length row.old ≡ length places.now }
-    requires defs { (l : ℕ) → has l places.now ≡
+    requires defs { (l : ℕ) → has l hit.now ≡
         may_hit (destination (S.scene scene.now) (lvalue_of lvalue.now)) l }
+    requires among { (l : ℕ) → has l hit.now ≡ true → has l places.now ≡ true }
     requires below { UnderCeiling (S.scene scene.now).setting (V.store view.now) }
     ensures { OnOk result ((l : ℕ) → has l places.now ≡ true → store_of places.now row.new l ≡
         applied (assigning (S.scene scene.now) (lvalue_of lvalue.now) (expression_of value.now)
@@ -47,6 +49,6 @@ pub fn assign<S: Scenery, V: View>(
     let slot = value.stored(alloc, scene.ladder())?;
     let to = Into { scene, lvalue };
     let targets = bottom.targets.as_slice();
-    store(alloc, row, places, places, targets, &to, slot)?;
+    store(alloc, row, places, hit, targets, &to, slot)?;
     Ok(())
 }

@@ -1,4 +1,4 @@
-use Rattle.std.proofs.Common.{ℕ}
+use Rattle.std.proofs.Common.{ℕ, get_or}
 use Rattle.sp_ir.specs.Programs.{lowered_of}
 use Rattle.sp_ir.specs.Terrain.{terrain_of}
 use Rattle.sp_ir.specs.View.{expression_of, lvalue_of}
@@ -14,13 +14,13 @@ store-requires-clause-there g c =
     let scene = g.S.Scenery.scene c.args.scene.now in
     let s = λ (l : ℕ). g.V.View.store c.args.view.now l in
     let lvalue = lvalue_of c.args.lvalue.now in
-    hits-there (destination scene lvalue) c.args.places.now c.as_slice-targets.result.now c.requires.defs
+    λ k e low l h. c.requires.among l (hits-there (destination scene lvalue) c.args.hit.now c.as_slice-targets.result.now c.requires.defs
     (within-seen scene s lvalue c.as_slice-targets.result.now (known_of c.in_ok-bottom.bottom) c.as_slice-targets.ensures
     (bottom-seen scene s (terrain_of (lowered_of c.lowered-lowered.result.now)) c.locations-locations.result.now.cells.items c.lowered-lowered.ensures c.locations-locations.ensures lvalue (known_of c.in_ok-bottom.bottom) c.in_ok-bottom.ensures)
-    (g.met.S.Scenery.lawful c.args.scene.now) c.requires.below)
+    (g.met.S.Scenery.lawful c.args.scene.now) c.requires.below) k e low l h)
 
 pub store-requires-clause-hit_there : goal.store-requires-clause-hit_there
-store-requires-clause-hit_there g c = all-there c.args.places.now
+store-requires-clause-hit_there g c = λ k d low. c.requires.among (get_or c.args.hit.now k d) (all-there c.args.hit.now k d low)
 
 pub returns : goal.returns
 returns g c = λ l h.
