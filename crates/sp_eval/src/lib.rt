@@ -5,6 +5,7 @@
 //! moves them to the ladder. The *address* of an lvalue is a pointer like any other: its targets
 //! are where the lvalue may stand. An access through a target *matches* where the region's elements
 //! are of the access's type, or bytes; else the target is *punned*, and stands for any number.
+//! Integers of one size match one another, and so do all pointers.
 //!
 //! So where `p` points to `a` at [0,1], `int a[3]` holds [4,7] in each element, and `i` is [1,2],
 //! the expression `p[i]` is worth [4,7], and the address of that lvalue is `a` at [1,3].

@@ -66,8 +66,8 @@ impl Sum {
     }
 }
 
-/// The join of what is known at the targets of a value. What is given in ascending regions takes
-/// time linear in the targets.
+/// The join of what is known at the targets of a value. Single targets that are given in ascending
+/// regions take time linear in the targets; whole values that are given are joined one by one.
 pub fn gather<A: AtTarget>(alloc: Global, value: &Value, each: &A) -> Result<Value, AllocError>
     ensures { IfOk result (λ sum. known_of sum ≡ gathered (A.given each.now) value.now.targets) }
 {

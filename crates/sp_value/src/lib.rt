@@ -8,7 +8,7 @@
 //! points of a ladder, and is *held*.
 //!
 //! So after `p = c ? &a[1] : &b;` with `int a[3]; int b;` the location of `p` holds no number and
-//! the targets `a` at [1,1] of size [3,3] and `b` at [0,0] of size [1,1].
+//! the targets elements of `a` at [1,1] of size [3,3], and `b` at [0,0] of size [1,1].
 //!
 //! The layers above use that slots are a lattice (`slot_order` of `specs.Slots`): numbers by
 //! inclusion, targets region by region, an absent region below a present one. What is known of a

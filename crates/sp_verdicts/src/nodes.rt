@@ -20,7 +20,8 @@ use std::alloc::{AllocError, Global};
 
 /// The alarms of a node of a formed program whose input is the store of a view: of each access
 /// through a pointer in its command, of each divisor, and of what it calls. One that comes twice is
-/// listed twice.
+/// listed twice. Of a library call these are the alarms of its arguments and of where its result
+/// goes: what the routine itself accesses isn't told here.
 pub fn verdicts<V: View>(
     alloc: Global,
     lowered: &Lowered,
