@@ -90,57 +90,6 @@ use sp_type_rules::{
 use sp_types::{CType, IntKind, Signature, TypedExpr};
 use std::alloc::Global;
 
-/// The typed tree of an expression's value, or its fault. `names` tells the bytes of each name.
-///
-/// Strings, constants and functions declared by a call go to the tables in the order of the text.
-/// After a refusal the environment isn't used again.
-pub fn check_expression(
-    alloc: Global,
-    env: &mut Env,
-    expr: &Expr,
-    names: &Names,
-) -> Result<TypedExpr, CheckError>
-    ensures { AnswersIn typed_of
-        (value_checked names.now (env_of env.old) (tree_of expr.now)) (env_of env.new) result }
-{
-    value_checked(alloc, env, names, expr)
-}
-
-/// The type that specifiers name, or their fault. `alone` says that no declarator follows, so that
-/// `struct s;` declares a tag of the innermost scope. `at` is the place of what they stand in, at which
-/// F8 stands where a name of a type is none here.
-///
-/// The tags, structs and enumeration constants that they declare go to the environment.
-pub fn check_specifiers(
-    alloc: Global,
-    env: &mut Env,
-    specifiers: &[Specifier],
-    alone: bool,
-    at: Place,
-    names: &Names,
-) -> Result<CType, CheckError>
-    ensures { AnswersIn type_of
-        (specifiers_checked names.now (env_of env.old) alone at (specifiers_of specifiers.now))
-        (env_of env.new) result }
-{
-    specifiers_checked(alloc, specifiers, env, names, alone, at)
-}
-
-/// The type of a declarator's name, or its fault; the base is the type that its specifiers name.
-pub fn check_declarator(
-    alloc: Global,
-    env: &mut Env,
-    base: CType,
-    declarator: &Declarator,
-    names: &Names,
-) -> Result<CType, CheckError>
-    ensures { AnswersIn type_of
-        (declared_type names.now (env_of env.old) (type_of base) (declarator_of declarator.now))
-        (env_of env.new) result }
-{
-    declared_type(alloc, declarator, env, names, base)
-}
-
 /// An expression as it stands.
 #[cycle(expression)]
 fn checked(
@@ -158,7 +107,7 @@ fn checked(
 
 /// An expression as a value (C90 6.2.2.1).
 #[cycle(expression)]
-fn value_checked(
+pub(crate) fn value_checked(
     alloc: Global,
     env: &mut Env,
     names: &Names,
@@ -420,7 +369,7 @@ fn type_name_checked(
 
 /// The type of a declarator's name (C90 6.5.4).
 #[cycle(expression)]
-fn declared_type(
+pub(crate) fn declared_type(
     alloc: Global,
     declarator: &Declarator,
     env: &mut Env,
@@ -599,7 +548,7 @@ fn param_checked(
 /// The type that specifiers name (C90 6.5.2): the first that is no storage class and no qualifier
 /// tells it.
 #[cycle(expression)]
-fn specifiers_checked(
+pub(crate) fn specifiers_checked(
     alloc: Global,
     specifiers: &[Specifier],
     env: &mut Env,

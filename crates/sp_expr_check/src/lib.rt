@@ -15,7 +15,8 @@
 //! `specs/Expressions.antt` gives, or its fault at its place; where memory runs out it says nothing.
 #![tactic(auto)]
 
+mod checks;
 mod expressions;
 mod specifiers;
 
-pub use expressions::{check_declarator, check_expression, check_specifiers};
+pub use checks::{check_declarator, check_expression, check_specifiers};

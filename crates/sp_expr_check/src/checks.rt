@@ -1,0 +1,66 @@
+//! The calls from above, each outside the cycle of the walk.
+ghost use Rattle.sp_syntax.specs.View.{tree_of, declarator_of, specifiers_of};
+ghost use Rattle.sp_types.specs.View.{type_of};
+ghost use Rattle.sp_types.specs.TypedView.{typed_of};
+ghost use Rattle.sp_operands.specs.Answers.{AnswersIn};
+ghost use Rattle.sp_env.specs.Views.{env_of};
+ghost use Rattle.sp_expr_check.specs.Expressions.{value_checked, declared_type, specifiers_checked};
+
+use crate::expressions::{declared_type, specifiers_checked, value_checked};
+use sp_env::Env;
+use sp_operands::CheckError;
+use sp_syntax::{Declarator, Expr, Specifier};
+use sp_tree::{Names, Place};
+use sp_types::{CType, TypedExpr};
+use std::alloc::Global;
+
+/// The typed tree of an expression's value, or its fault. `names` tells the bytes of each name.
+///
+/// Strings, constants and functions declared by a call go to the tables in the order of the text.
+/// After a refusal the environment isn't used again.
+pub fn check_expression(
+    alloc: Global,
+    env: &mut Env,
+    expr: &Expr,
+    names: &Names,
+) -> Result<TypedExpr, CheckError>
+    ensures { AnswersIn typed_of
+        (value_checked names.now (env_of env.old) (tree_of expr.now)) (env_of env.new) result }
+{
+    value_checked(alloc, env, names, expr)
+}
+
+/// The type that specifiers name, or their fault. `alone` says that no declarator follows, so that
+/// `struct s;` declares a tag of the innermost scope. `at` is the place of what they stand in, at which
+/// F8 stands where a name of a type is none here.
+///
+/// The tags, structs and enumeration constants that they declare go to the environment.
+pub fn check_specifiers(
+    alloc: Global,
+    env: &mut Env,
+    specifiers: &[Specifier],
+    alone: bool,
+    at: Place,
+    names: &Names,
+) -> Result<CType, CheckError>
+    ensures { AnswersIn type_of
+        (specifiers_checked names.now (env_of env.old) alone at (specifiers_of specifiers.now))
+        (env_of env.new) result }
+{
+    specifiers_checked(alloc, specifiers, env, names, alone, at)
+}
+
+/// The type of a declarator's name, or its fault; the base is the type that its specifiers name.
+pub fn check_declarator(
+    alloc: Global,
+    env: &mut Env,
+    base: CType,
+    declarator: &Declarator,
+    names: &Names,
+) -> Result<CType, CheckError>
+    ensures { AnswersIn type_of
+        (declared_type names.now (env_of env.old) (type_of base) (declarator_of declarator.now))
+        (env_of env.new) result }
+{
+    declared_type(alloc, declarator, env, names, base)
+}
