@@ -34,7 +34,7 @@ pub struct Site {
 #[derive(Drop)]
 pub struct Draft {
     pub nodes: Vec<Node>,
-    /// By the node that they go to, as these are made.
+    /// In the order in which they are made; a loop's back edges come where the loop ends.
     pub edges: Vec<(u32, u32)>,
     pub loose: Vec<u32>,
     /// The types of the function's temporaries, by the first node that writes each.
@@ -52,7 +52,7 @@ fn add_edges(edges: &mut Vec<(u32, u32)>, froms: &[u32], to: u32) -> Result<(), 
     Ok(())
 }
 
-/// The number that is so far behind another.
+/// The number that is so far behind another. Past 2^32 it wants memory.
 pub fn number_behind(first: u32, count: usize) -> Result<u32, AllocError>
     ensures { IfOk result (λ n. n ≡ first + count) }
 {

@@ -3,8 +3,8 @@
 //! A *body* is a draft with the ends that jump: those that `break`, `continue` and `return` leave
 //! behind, those that `goto` sends to a label, the labels' nodes, and the nodes that assume the
 //! cases of the innermost `switch`. No edge is patched: a jump moves the loose ends into a list,
-//! and the loop or the function that they leave takes them up. The edges of `goto` come last,
-//! when all labels are known.
+//! and the loop or the function that they leave takes them up. The ends of `goto` are collected
+//! here; their edges are for the layer above, when all labels are known.
 //!
 //! So `while (a) { if (b) break; f(); }` is a `skip` as head, two nodes for each condition, and
 //! the call. The true ends of `b` go into `breaks` and are loose behind the loop, beside the
