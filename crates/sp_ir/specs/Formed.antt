@@ -4,7 +4,7 @@ use Rattle.sp_tree.specs.declared.token.Punct.{Punct}
 use Rattle.sp_tree.specs.declared.token.Punct.TheVariants.{Star, Plus, Minus, Tilde, Slash, Percent, ShiftLeft, ShiftRight, Less, LessEqual, Greater, GreaterEqual, EqualEqual, NotEqual, Ampersand, Caret, Bar}
 use Rattle.sp_types.specs.declared.ctype.IntKind.{IntKind}
 use Rattle.sp_types.specs.declared.ctype.IntKind.TheVariants.{Char, SChar, UChar, Short, UShort, Int, UInt, Long, ULong}
-use Rattle.sp_types.specs.Types.{CType, integer, floating, pointer, array, structure, function, Struct}
+use Rattle.sp_types.specs.Types.{CType, integer, floating, pointer, array, structure, function, Signature, Struct}
 use Rattle.sp_types.specs.Layout.{integer_size}
 use Rattle.sp_types.specs.Structs.{IsTable, IsFormed as IsFormedType}
 use Rattle.sp_ir.specs.declared.command.Routine.{Routine}
@@ -129,14 +129,15 @@ is_site (Heap n) = true
 is_site (Foreign n) = true
 is_site k = false
 
--- A direct lvalue names an object that is no site, by the object's own type, and a local one in its
--- own function alone.
+-- A direct lvalue names an object that is no site, by the object's own type, which isn't a floating
+-- one, and a local one in its own function alone.
 pub record IsDirect (p : Table) (f : Option ℕ) (n : ℕ) (t : CType) : Type 0 where
   pub object : Object
   pub there : slice_get p.objects n ≡ Some object
   pub of : object.of ≡ Some t
   pub no_site : is_site object.kind ≡ false
   pub own : is_local object.kind ≡ true → object.function ≡ f
+  pub no_floating : is_floating t ≡ false
 
 -- The member of this number of a struct or union.
 pub record IsMember (p : Table) (of : CType) (k : ℕ) (t : CType) : Type 0 where
@@ -260,7 +261,7 @@ allocates r = false
 abbrev mutual
   pub points : Shape → Bool
   points (scalar t size) = is_pointer t
-  points floating_shape = false
+  points (floating_shape t size) = false
   points (union_of size first) = points first
   points (array_of t size inner n) = points inner
   points (struct_of t size ms) = members_point ms
@@ -388,8 +389,8 @@ root_count k = Some 1
 -- The regions of the object n: a function is one region, of size 1. What has no type or no layout
 -- is kept as bytes.
 pub data HasRegions (p : Table) (n : ℕ) (o : Object) : List Region → Type 0 where
-  of_function : {k : ℕ} {t : CType} → o.kind ≡ Function k → o.of ≡ Some t
-      → HasRegions p n o (region n [] (Some t) 1 (Some 1) ∷ [])
+  of_function : {k : ℕ} {s : Signature} → o.kind ≡ Function k → o.of ≡ Some (function s)
+      → HasRegions p n o (region n [] (Some (function s)) 1 (Some 1) ∷ [])
   of_no_type : o.of ≡ None → HasRegions p n o (region n [] None 1 None ∷ [])
   of_no_layout : {t : CType} → ((k : ℕ) → o.kind ≢ Function k) → o.of ≡ Some t
       → size_of p.structs t ≡ 0 → HasRegions p n o (region n [] None 1 (Some 0) ∷ [])

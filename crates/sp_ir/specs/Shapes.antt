@@ -1,6 +1,6 @@
 -- Object types with their structs written out, and what regions, cells and leaves an object of such
 -- a type has (C90 6.1.2.5, 6.5.7).
-use Rattle.std.specs.Prelude.{◌≡◌, ℕ, ◌+◌, ◌*◌, ◌-◌, ◌%◌, nat_lt, true, false, List, [], ◌∷◌, ◌++◌, Option, Some, None, option_map, slice_get, if◌then◌else◌}
+use Rattle.std.specs.Prelude.{◌≡◌, ℕ, ◌+◌, ◌*◌, ◌-◌, ◌%◌, nat_lt, Bool, true, false, cond, List, [], ◌∷◌, ◌++◌, Option, Some, None, option_map, slice_get, if◌then◌else◌}
 use Rattle.sp_types.specs.Types.{CType, integer, floating, pointer, array, structure, Struct}
 use Rattle.sp_ir.specs.declared.region.Step.{Step}
 use Rattle.sp_ir.specs.declared.region.Step.TheVariants.{Field, Element}
@@ -10,7 +10,7 @@ use Rattle.sp_ir.specs.Regions.{Region}
 mutual
   pub data Shape : Type 0 where
     scalar : CType → ℕ → Shape
-    floating_shape : Shape
+    floating_shape : CType → ℕ → Shape
     union_of : ℕ → Shape → Shape
     array_of : CType → ℕ → Shape → ℕ → Shape
     struct_of : CType → ℕ → Shapes → Shape
@@ -28,12 +28,18 @@ region o path element size count = record {
   count = count;
 }
 
--- The regions of an object or of a part of it: each before its children, members in order. What is
--- of floating type has none. The elements of a union are its bytes.
+-- A member of floating type has no region. An object of such a type, and an array's element, has
+-- one, which is no cell.
+abbrev pub is_floating_shape : Shape → Bool
+is_floating_shape (floating_shape t size) = true
+is_floating_shape s = false
+
+-- The regions of an object or of a part of it: each before its children, members in order. The
+-- elements of a union are its bytes.
 abbrev mutual
   pub regions : ℕ → List Step → Option ℕ → Shape → List Region
   regions o path n (scalar t size) = region o path (Some t) size n ∷ []
-  regions o path n floating_shape = []
+  regions o path n (floating_shape t size) = region o path (Some t) size n ∷ []
   regions o path n (union_of size first) =
       region o path None 1 (option_map (λ k. k * size) n) ∷ []
   regions o path n (array_of t size inner k) =
@@ -44,26 +50,28 @@ abbrev mutual
   pub member_regions : ℕ → List Step → ℕ → Shapes → List Region
   member_regions o path k no_shapes = []
   member_regions o path k (next_shape m ms) =
-      regions o (path ++ Field k ∷ []) (Some 1) m ++ member_regions o path (k + 1) ms
+      cond (is_floating_shape m) [] (regions o (path ++ Field k ∷ []) (Some 1) m)
+      ++ member_regions o path (k + 1) ms
 
 abbrev mutual
   -- how many regions it has
   pub region_count : Shape → ℕ
   region_count (scalar t size) = 1
-  region_count floating_shape = 0
+  region_count (floating_shape t size) = 1
   region_count (union_of size first) = 1
   region_count (array_of t size inner k) = 1 + region_count inner
   region_count (struct_of t size ms) = 1 + member_region_count ms
 
   pub member_region_count : Shapes → ℕ
   member_region_count no_shapes = 0
-  member_region_count (next_shape m ms) = region_count m + member_region_count ms
+  member_region_count (next_shape m ms) =
+      cond (is_floating_shape m) 0 (region_count m) + member_region_count ms
 
 abbrev mutual
   -- how many scalar leaves it has
   pub leaf_count : Shape → ℕ
   leaf_count (scalar t size) = 1
-  leaf_count floating_shape = 1
+  leaf_count (floating_shape t size) = 1
   leaf_count (union_of size first) = leaf_count first
   leaf_count (array_of t size inner k) = k * leaf_count inner
   leaf_count (struct_of t size ms) = member_leaf_count ms
@@ -77,7 +85,7 @@ abbrev mutual
   -- floating type has none
   pub leaf_cell : Shape → ℕ → Option ℕ
   leaf_cell (scalar t size) k = Some 0
-  leaf_cell floating_shape k = None
+  leaf_cell (floating_shape t size) k = None
   leaf_cell (union_of size first) k = Some 0
   leaf_cell (array_of t size inner n) k =
       option_map (λ c. 1 + c) (leaf_cell inner (k % leaf_count inner))
@@ -87,7 +95,8 @@ abbrev mutual
   member_leaf_cell no_shapes k = None
   member_leaf_cell (next_shape m ms) k =
       if nat_lt k (leaf_count m) then leaf_cell m k
-      else option_map (λ c. region_count m + c) (member_leaf_cell ms (k - leaf_count m))
+      else option_map (λ c. cond (is_floating_shape m) 0 (region_count m) + c)
+      (member_leaf_cell ms (k - leaf_count m))
 
 -- The type has this shape, where these are the structs and these the sizes of types.
 module _ (structs : List Struct) (size : CType → ℕ) where
@@ -95,7 +104,8 @@ module _ (structs : List Struct) (size : CType → ℕ) where
     pub data HasShape : CType → Shape → Type 0 where
       has_integer : {k : _} → HasShape (integer k) (scalar (integer k) (size (integer k)))
       has_pointer : {t : CType} → HasShape (pointer t) (scalar (pointer t) (size (pointer t)))
-      has_floating : {k : _} → HasShape (floating k) floating_shape
+      has_floating : {k : _}
+          → HasShape (floating k) (floating_shape (floating k) (size (floating k)))
       has_array : {t : CType} {n : ℕ} {s : Shape} → HasShape t s
           → HasShape (array t (Some n)) (array_of (array t (Some n)) (size (array t (Some n))) s n)
       has_struct : {n : ℕ} {d : Struct} {members : List (ℕ × CType)} {ms : Shapes}

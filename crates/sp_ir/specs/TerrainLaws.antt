@@ -1,5 +1,5 @@
 -- What holds of the terrain of every program.
-use Rattle.std.proofs.Common.{◌<◌, ◌^◌, ◌-◌, Option, Some, None, slice_get, arith}
+use Rattle.std.proofs.Common.{◌<◌, ◌^◌, Option, Some, None, slice_get, arith}
 use Rattle.sp_ir.specs.Regions.{Region}
 use Rattle.sp_ir.specs.Programs.{Lowered}
 use Rattle.sp_ir.specs.Terrain.{IsTerrain, terrain_of, fixed_count, element_bytes}

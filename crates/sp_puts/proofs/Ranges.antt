@@ -11,7 +11,7 @@ use Rattle.sp_ir.specs.Paths.{same_path}
 use Rattle.sp_ir.specs.Regions.{Region, number_at, child_at, child_of, stands_at, is_cell_at, is_cell_region}
 use Rattle.sp_ir.specs.Programs.{Lowered, Object, Code}
 use Rattle.sp_ir.specs.Terrain.{terrain_of, is_bytes}
-use Rattle.sp_ir.specs.Shapes.{Shape, Shapes, scalar, floating_shape, union_of, array_of, struct_of, no_shapes, next_shape, regions, member_regions}
+use Rattle.sp_ir.specs.Shapes.{Shape, Shapes, scalar, floating_shape, union_of, array_of, struct_of, no_shapes, next_shape, is_floating_shape, regions, member_regions}
 use Rattle.sp_ir.specs.Formed.{root_count, Table as Around, table_of, IsFormed, HasRegions, of_function, of_no_type, of_no_layout, of_shape, HaveRegions, no_regions, next_regions}
 use Rattle.sp_sets.specs.Sets.{has}
 use Rattle.sp_sets.specs.Reached.{row}
@@ -60,14 +60,21 @@ each-there P (s ∷ rs) (suc i) r h e = each-there P rs i r h.1 e
 mutual
   shape_objects : (o : ℕ) (path : List Step) (n : Option ℕ) (s : Shape) → Each (λ r. r.object ≡ o) (regions o path n s)
   shape_objects o path n (scalar t size) = (refl, tt)
-  shape_objects o path n floating_shape = tt
+  shape_objects o path n (floating_shape t size) = (refl, tt)
   shape_objects o path n (union_of size first) = (refl, tt)
   shape_objects o path n (array_of t size inner k) = (refl, shape_objects o (path ++ Element ∷ []) (Some k) inner)
   shape_objects o path n (struct_of t size ms) = (refl, member_objects o path 0 ms)
 
   member_objects : (o : ℕ) (path : List Step) (k : ℕ) (ms : Shapes) → Each (λ r. r.object ≡ o) (member_regions o path k ms)
   member_objects o path k no_shapes = tt
-  member_objects o path k (next_shape m ms) = each-append (λ r. r.object ≡ o) (regions o (path ++ Field k ∷ []) (Some 1) m) (member_regions o path (k + 1) ms) (shape_objects o (path ++ Field k ∷ []) (Some 1) m) (member_objects o path (k + 1) ms)
+  member_objects o path k (next_shape m ms) =
+      let inside : List Region = regions o (path ++ Field k ∷ []) (Some 1) m in
+      each-append (λ r. r.object ≡ o) (cond (is_floating_shape m) [] inside) (member_regions o path (k + 1) ms)
+      (unless (is_floating_shape m) inside (shape_objects o (path ++ Field k ∷ []) (Some 1) m)) (member_objects o path (k + 1) ms)
+    where
+      unless : (b : Bool) (rs : List Region) → Each (λ r. r.object ≡ o) rs → Each (λ r. r.object ≡ o) (cond b [] rs)
+      unless true rs h = tt
+      unless false rs h = h
 
 module _ (p : Around) where
   its_regions : {n : ℕ} {o : Object} {rs : List Region} → HasRegions p n o rs → Each (λ r. r.object ≡ n) rs

@@ -1,4 +1,4 @@
-use Rattle.std.proofs.Common.{◌&&◌, true, false, sym, ap, ◌∙◌}
+use Rattle.std.proofs.Common.{◌&&◌, sym, ap, ◌∙◌}
 use Rattle.sp_ir.specs.Paths.{same_path}
 use Rattle.sp_ir.specs.PathLaws.{from-end}
 use Rattle.sp_ir.proofs.region.is_path.Goals as goal

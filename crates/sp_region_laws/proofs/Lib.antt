@@ -1,0 +1,5 @@
+pub mod Members
+pub mod Typing
+pub mod Children
+pub mod AllRegions
+pub mod Lvalues
