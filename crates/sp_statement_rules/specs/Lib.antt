@@ -1,0 +1,4 @@
+pub mod Blocks
+pub mod Rules
+pub mod Values
+pub mod View
