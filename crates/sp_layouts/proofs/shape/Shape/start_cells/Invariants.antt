@@ -1,0 +1,10 @@
+use Rattle.std.proofs.Common.{◌≡◌, ◌++◌, map, drop}
+use Rattle.sp_types.specs.TypedView.{typed_of}
+use Rattle.sp_layouts.specs.Leaves.{start_cells}
+use Rattle.sp_layouts.specs.View.{shape_of}
+use Rattle.sp_layouts.proofs.shape.Shape.start_cells.Given as goal
+
+abbrev pub invariant-loop-start : goal.invariant-loop-start
+invariant-loop-start l =
+    l.cells.items ++ start_cells (shape_of l.self) l.root (map (λ s. (s.0, typed_of s.1)) (drop l.start-index l.starts))
+    ≡ start_cells (shape_of l.self) l.root (map (λ s. (s.0, typed_of s.1)) l.starts)
