@@ -8,9 +8,9 @@
 //! So `int x; int main(void) { x++; return 0; }` has the objects `x`, `main` and `main.%ret`, and the
 //! nodes start, entry, `x := x + 1`, `main.%ret := 0` and exit.
 //!
-//! The number of a function's result stands on how many temporaries the functions before it have,
-//! and that of a site on all. So a lowering is one under a numbering: under the numbering that these
-//! counts of temporaries make, lowering gives as many (`IsLowering` of `specs.Programs`). The
+//! The number of a function's result stands on how many temporaries it and the functions before it
+//! have, and that of a site on all. So a lowering is one under a numbering: under the numbering that
+//! its own temporaries make, lowering gives just them (`IsLowering` of `specs.Programs`). The
 //! contract of `lower` says that its answer is such a lowering within the limits, or that there is
 //! one past a limit (`Lowers` of `specs.Answers`).
 #![tactic(auto)]

@@ -1,5 +1,5 @@
 -- How many regions there are.
-use Rattle.std.proofs.Common.{◌≡◌, ℕ, suc, ◌+◌, ◌==◌, ◌||◌, Bool, true, false, cond, if◌then◌else◌, List, [], ◌∷◌, ◌++◌, length, Option, Some, None, refl, ap, ◌∙◌, arith, length-append}
+use Rattle.std.proofs.Common.{◌≡◌, ℕ, ◌+◌, ◌==◌, ◌||◌, Bool, true, false, cond, if◌then◌else◌, List, [], ◌∷◌, ◌++◌, length, Option, Some, None, refl, arith, length-append}
 use Rattle.sp_types.specs.Types.{CType, Struct}
 use Rattle.sp_ir.specs.declared.region.Step.{Step}
 use Rattle.sp_ir.specs.declared.region.Step.TheVariants.{Field, Element}
@@ -8,7 +8,7 @@ use Rattle.sp_ir.specs.Regions.{Region}
 use Rattle.sp_ir.specs.Programs.{Object}
 use Rattle.sp_ir.specs.Terrain.{size_of}
 use Rattle.sp_ir.specs.Formed.{root_count}
-use Rattle.sp_ir.specs.Shapes.{Shape, Shapes, scalar, floating_shape, union_of, array_of, struct_of, no_shapes, next_shape, is_floating_shape, region, regions, member_regions, region_count, member_region_count}
+use Rattle.sp_ir.specs.Shapes.{Shape, Shapes, scalar, floating_shape, union_of, array_of, struct_of, no_shapes, next_shape, is_floating_shape, regions, member_regions, region_count, member_region_count}
 use Rattle.sp_layouts.specs.Layouts.{layout_of}
 use Rattle.sp_lower_objects.specs.Regions.{is_function, object_regions, all_regions, kind_count, all_counts}
 

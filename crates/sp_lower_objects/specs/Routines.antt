@@ -1,5 +1,5 @@
 -- The functions of the library that have an effect of their own, by name (C90 7.10, 7.11).
-use Rattle.std.specs.Prelude.{ℕ, List, [], ◌∷◌, Option, Some, None, map, if◌then◌else◌, codes, bytes_eq}
+use Rattle.std.specs.Prelude.{ℕ, List, Option, Some, None, map, if◌then◌else◌, codes, bytes_eq}
 use Rattle.sp_types.specs.Programs.{Function}
 use Rattle.sp_ir.specs.declared.command.Routine.{Routine}
 use Rattle.sp_ir.specs.declared.command.Routine.TheVariants.{Malloc, Calloc, Realloc, Free, Exit, Abort, Memset, Memcpy, Memmove, Strlen, Strcpy, Strncpy, Strcat}

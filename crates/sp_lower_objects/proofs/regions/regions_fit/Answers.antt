@@ -1,4 +1,4 @@
-use Rattle.std.proofs.Common.{map, nat_le, ap, sym, ◌∙◌}
+use Rattle.std.proofs.Common.{map}
 use Rattle.sp_types.specs.View.{struct_of}
 use Rattle.sp_ir.specs.Programs.{object_of}
 use Rattle.sp_lower_objects.proofs.Lengths.{length-all}
