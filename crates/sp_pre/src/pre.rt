@@ -49,15 +49,6 @@ impl PointsTo {
         }
     }
 
-    /// Where each cell may point ascends. The call changes nothing.
-    pub fn ascend(&self)
-        ensures { (cell : ℕ) → Ascends (row self.now.rows cell) }
-    {
-        for regions in &self.rows {
-            let _numbers = regions.as_slice();
-        }
-    }
-
     /// The functions that each node calls.
     pub fn calls(&self) -> &CallGraph
         ensures { result.now ≡ self.now.calls }
