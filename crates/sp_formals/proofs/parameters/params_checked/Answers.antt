@@ -1,0 +1,43 @@
+use Rattle.std.proofs.Common.{◌≡◌, [], List, ℕ, map, drop, suc, refl, sym, ap, ◌∙◌, add-one}
+use Rattle.std.specs.Prelude.{Err, Vec}
+use Rattle.std.specs.declared.alloc.Global.{Global}
+use Rattle.std.proofs.lemmas.Result.{err_from_is_err_and}
+use Rattle.sp_syntax.specs.View.{param_of, params}
+use Rattle.sp_operands.specs.Answers.{accepted, and_then, AnswersIn}
+use Rattle.sp_env.specs.Views.{env_of}
+use Rattle.sp_formals.proofs.Lists.{first_param, no_param_left, taken_in, ended_by, list_failed}
+use Rattle.sp_types.specs.Types.{CType}
+use Rattle.sp_types.specs.View.{type_of}
+use Rattle.sp_types.specs.declared.ctype.CType.{CType as CodeType}
+use Rattle.sp_expr_check.specs.Expressions.{params_checked, param_checked}
+use Rattle.sp_formals.proofs.parameters.params_checked.Goals as goal
+
+pub params-preserved : goal.params-preserved
+params-preserved c =
+    let items = c.args.params.now in
+    let names = c.args.names.now in
+    let whole = params_checked names (env_of c.args.env.now) c.args.alone [] (params (map param_of items)) in
+    let rest = params (map param_of (drop (suc c.params.i) items)) in
+    let part = param_checked names (env_of c.params.env) c.args.alone (map type_of c.params.all.items) (param_of c.index-params-i.result) in
+    let first = first_param items c.params.i c.index-params-i.result c.params-test.true c.index-params-i.is in
+    let h : and_then part (λ x. params_checked names x.1 c.args.alone x.0 rest) ≡ whole = sym (ap (params_checked names (env_of c.params.env) c.args.alone (map type_of c.params.all.items)) first) ∙ c.params.invariant in
+    rw add-one (taken_in part (λ x. params_checked names x.1 c.args.alone x.0 rest) (map type_of c.in_ok-all.all.items, env_of c.param_checked.new.env) whole h c.in_ok-all.ensures)
+
+pub returns : goal.returns
+returns c =
+    sym c.params.invariant ∙ ap (params_checked c.args.names.now (env_of c.params.env) c.args.alone (map type_of c.params.all.items)) (no_param_left c.args.params.now c.params.i c.params-test.false)
+
+pub returns-in_err-all : goal.returns-in_err-all
+returns-in_err-all c =
+    let items = c.args.params.now in
+    let names = c.args.names.now in
+    let whole = params_checked names (env_of c.args.env.now) c.args.alone [] (params (map param_of items)) in
+    let rest = params (map param_of (drop (suc c.params.i) items)) in
+    let part = param_checked names (env_of c.params.env) c.args.alone (map type_of c.params.all.items) (param_of c.index-params-i.result) in
+    let first = first_param items c.params.i c.index-params-i.result c.params-test.true c.index-params-i.is in
+    let h : and_then part (λ x. params_checked names x.1 c.args.alone x.0 rest) ≡ whole = sym (ap (params_checked names (env_of c.params.env) c.args.alone (map type_of c.params.all.items)) first) ∙ c.params.invariant in
+    let seen : Vec CodeType Global → List CType = λ ts. map type_of ts.items in
+    let made : AnswersIn seen whole (env_of c.param_checked.new.env) (Err c.in_err-all.field-0.0) =
+    list_failed seen seen whole part (env_of c.param_checked.new.env) (env_of c.param_checked.new.env) c.in_err-all.field-0.0 (ended_by part (λ x. params_checked names x.1 c.args.alone x.0 rest) whole h) c.in_err-all.ensures in
+    let p = err_from_is_err_and c.from_residual.result c.from_residual.ensures.1 in
+    rw (p.1, p.2) made

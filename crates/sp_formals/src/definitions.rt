@@ -1,0 +1,104 @@
+//! The declarator of a definition as a whole (C90 6.7.1).
+ghost use Rattle.std.specs.Prelude.{◌≡◌, map, option_map};
+ghost use Rattle.sp_syntax.specs.View.{declarator_of};
+ghost use Rattle.sp_types.specs.View.{type_of, signature_of, struct_of};
+ghost use Rattle.sp_operands.specs.Answers.{Answers, AnswersIn};
+ghost use Rattle.sp_env.specs.Views.{env_of};
+ghost use Rattle.sp_rules.specs.Rules.{function_type};
+ghost use Rattle.sp_formals.specs.FormalsView.{own_of};
+ghost use Rattle.sp_formals.specs.Formals.{is_floating_array, own_told, own_declared};
+
+use crate::steps::own_steps;
+use sp_env::Env;
+use sp_member_rules::declared_name;
+use sp_operands::{CheckError, fault, is_complete, is_void};
+use sp_syntax::Declarator;
+use sp_tree::{FaultKind, Names, Place};
+use sp_type_rules::derived;
+use sp_types::{CType, Signature, StructType};
+use std::alloc::Global;
+
+/// What the declarator of a definition declares: its name, with its place, the type of the function,
+/// and the numbers of its formals, in their order.
+#[derive(Drop)]
+pub struct Own {
+    pub name: u32,
+    pub place: Place,
+    pub of: Signature,
+    pub formals: Vec<u32>,
+}
+
+fn function_type(of: CType) -> Option<Signature>
+    ensures { option_map signature_of result ≡ function_type (type_of of) }
+{
+    match of {
+        CType::Function(signature) => Some(Box::into_inner(signature)),
+        _ => None,
+    }
+}
+
+/// Whether a type is a floating one, or an array of such.
+fn is_floating_array(of: &CType) -> bool
+    ensures { result ≡ is_floating_array (type_of of.now) }
+{
+    match of {
+        CType::Array(element, _) => is_floating_array(element),
+        CType::Float(_) => true,
+        CType::Void | CType::Int(_) | CType::Pointer(_) | CType::Struct(_) | CType::Function(_) =>
+            false,
+    }
+}
+
+/// What a declarator of this name declares, where its parts derive this type.
+fn own_told(
+    structs: &[StructType],
+    at: Place,
+    name: (u32, Place),
+    formals: Vec<u32>,
+    of: CType,
+) -> Result<Own, CheckError>
+    ensures { Answers own_of
+        (own_told (map struct_of structs.now) at name formals.items (type_of of)) result }
+{
+    let Some(of) = function_type(of) else {
+        return fault(FaultKind::F14, at);
+    };
+    if is_floating_array(of.result()) {
+        return fault(FaultKind::U1, name.1);
+    }
+    if !is_void(of.result()) && !is_complete(of.result(), structs) {
+        return fault(FaultKind::F13, at);
+    }
+    Ok(Own {
+        name: name.0,
+        place: name.1,
+        of,
+        formals,
+    })
+}
+
+/// The declarator of a definition, where the base is the type that its specifiers name. F14 stands at
+/// the declarator where it is no function's, and at a formal's where that has no name; U1 at the name
+/// of a function or a formal of floating type; F13 at the declarator of an incomplete one.
+///
+/// The scope of the formals is open behind it.
+#[tactic(auto, using(crate::proofs::Places::places))]
+pub fn check_own_declarator(
+    alloc: Global,
+    env: &mut Env,
+    base: CType,
+    declarator: &Declarator,
+    names: &Names,
+) -> Result<Own, CheckError>
+    ensures { AnswersIn own_of
+        (own_declared names.now (env_of env.old) (type_of base) (declarator_of declarator.now))
+        (env_of env.new) result }
+{
+    let at = declarator.place;
+    let Some(name) = declared_name(declarator) else {
+        return fault(FaultKind::F14, at);
+    };
+    let own = own_steps(alloc, declarator, env, names, at)?;
+    let of = derived(alloc, env.structs(), own.steps, base)?;
+    own_told(env.structs(), at, name, own.formals, of)
+}
