@@ -86,7 +86,7 @@ abbrev pub function_linkage : Env → ℕ → Option Keyword → Linkage
 function_linkage env n (Some words.Static) = Internal
 function_linkage env n class = extern_linkage env n
 
--- in a block only as `extern`
+-- in a block without a storage class, or as `extern`
 abbrev pub may_declare : Env → Option Keyword → Bool
 may_declare env None = true
 may_declare env (Some words.Extern) = true
