@@ -7,7 +7,7 @@
 //! the name.
 //!
 //! So in a block `static int a[] = {1, 2}, f(void), *p = a;` is the fault F14 at `static`, since a
-//! block declares functions as `extern` alone. Without `f` it lists two objects, of the types
+//! block declares no static function. Without `f` it lists two objects, of the types
 //! `int[2]` and `int*`.
 //!
 //! The layer above uses [`check_declaration`]. It answers exactly what `declaration_checked` in
