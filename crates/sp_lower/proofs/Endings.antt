@@ -1,5 +1,5 @@
 -- A program is lowered under the numbering that its own temporaries make.
-use Rattle.std.proofs.Common.{◌≡◌, ℕ, ◌+◌, Bool, List, Option, Result, Ok, Err, ap, sym, ◌∙◌}
+use Rattle.std.proofs.Common.{◌≡◌, ℕ, ◌+◌, Bool, List, [], Option, Result, Ok, Err, ap, sym, ◌∙◌}
 use Rattle.std.specs.Prelude.{IfOk}
 use Rattle.sp_types.specs.Programs.{Program}
 use Rattle.sp_ir.specs.declared.command.Routine.{Routine}
@@ -9,20 +9,24 @@ use Rattle.sp_draft.specs.Draft.{Left}
 use Rattle.sp_lower_bodies.specs.Frames.{Initial}
 use Rattle.sp_lower_functions.specs.Functions.{Part, lower_functions, temporary_counts}
 use Rattle.sp_lower_objects.specs.Initials.{initials_from}
-use Rattle.sp_lower.specs.Programs.{beginning, defined, first_local, local_count, context_with, program_context, start_due, site_count, first_site, objects_with, lowered_with, context_of_lowered, lowered_program, IsNumbered, IsNumberedBy}
+use Rattle.sp_lower.specs.Programs.{beginning, defined, first_local, context_with, program_context, start_due, first_site, lowering, counts_in, site_with, lowering_at, counts_with, objects_with, lowered_with, context_of_lowered, lowered_program, IsNumbered, IsNumberedBy}
 use Rattle.sp_lower.specs.Answers.{EndsAt, Ends}
 use Rattle.sp_lower.specs.declared.limits.Outcome.{Outcome}
 use Rattle.sp_lower.specs.declared.limits.Outcome.TheVariants.{Whole, Past}
 
--- the counts that were told are those that come out
-pub numbered-by : (p : Program) (rs : List (Option Routine)) (ps : List Bool) (is : List Initial) (due : Bool) (site : ℕ) (w : Left (List Part)) (counts : List ℕ)
-    → site ≡ first_local p + local_count 0 (defined p) counts + site_count due
-    → w ≡ lower_functions (context_with p rs ps site) is 0 (first_local p) (defined p) counts beginning
-    → counts ≡ temporary_counts w.pure → IsNumberedBy p rs ps is due site w
-numbered-by p rs ps is due site w counts first functions same = record {
-  first = first ∙ ap (λ ns. first_local p + local_count 0 (defined p) ns + site_count due) same;
-  functions = functions ∙ ap (λ ns. lower_functions (context_with p rs ps site) is 0 (first_local p) (defined p) ns beginning) same;
-}
+-- the counts of the first pass are those that come out of the second
+pub numbered-by : (p : Program) (rs : List (Option Routine)) (ps : List Bool) (is : List Initial) (due : Bool) (one two : ℕ) (v w : Left (List Part)) (counts again : List ℕ)
+    → one ≡ site_with p due [] → v ≡ lowering_at p rs ps is one [] → counts ≡ temporary_counts v.pure
+    → two ≡ site_with p due counts → w ≡ lowering_at p rs ps is two counts → again ≡ temporary_counts w.pure
+    → counts ≡ again → IsNumberedBy p rs ps is due two w
+numbered-by p rs ps is due one two v w counts again before first told after second came same =
+    let all : counts ≡ counts_with p rs ps is due =
+    told ∙ ap (λ (x : Left (List Part)). temporary_counts x.pure) (first ∙ ap (λ n. lowering_at p rs ps is n []) before) in
+    record {
+      first = after ∙ ap (λ ns. site_with p due ns) all;
+      functions = second ∙ ap (λ ns. lowering_at p rs ps is two ns) all;
+      counts = sym (same ∙ came) ∙ all;
+    }
 
 -- what was known before is what the program says
 abbrev pub Known : Program → List (List ℕ) → List (Option Routine) → List Bool → List Initial → Bool → Type 0
@@ -30,19 +34,39 @@ Known p names rs ps is due =
     ((n : ℕ) → context_with p rs ps n ≡ program_context p names n)
     × (is ≡ initials_from p.structs 0 p.objects) × (due ≡ start_due p names)
 
+-- so it is the lowering where sites begin there
+lowering-known : (p : Program) (names : List (List ℕ)) (rs : List (Option Routine)) (ps : List Bool) (is : List Initial) (due : Bool) (counts : List ℕ)
+    → Known p names rs ps is due → lowering_at p rs ps is (site_with p due counts) counts ≡ lowering p names counts
+lowering-known p names rs ps is due counts known =
+    ap (λ b. lowering_at p rs ps is (site_with p b counts) counts) known.2
+    ∙ ap (λ (c : Context). lower_functions c is 0 (first_local p) (defined p) counts beginning) (known.0 (first_site p names counts))
+    ∙ ap (λ (xs : List Initial). lower_functions (program_context p names (first_site p names counts)) xs 0 (first_local p) (defined p) counts beginning) known.1
+
+counts-known : (p : Program) (names : List (List ℕ)) (rs : List (Option Routine)) (ps : List Bool) (is : List Initial) (due : Bool)
+    → Known p names rs ps is due → counts_with p rs ps is due ≡ counts_in p names
+counts-known p names rs ps is due known =
+    ap (λ (x : Left (List Part)). temporary_counts x.pure) (lowering-known p names rs ps is due [] known)
+
 at-context : (p : Program) (names : List (List ℕ)) (rs : List (Option Routine)) (ps : List Bool) (is : List Initial) (due : Bool) (site : ℕ) (w : Left (List Part))
-    → Known p names rs ps is due → IsNumberedBy p rs ps is due site w → context_with p rs ps site ≡ context_of_lowered p names w
+    → Known p names rs ps is due → IsNumberedBy p rs ps is due site w → context_with p rs ps site ≡ context_of_lowered p names
 at-context p names rs ps is due site w known numbered =
-    let here : site ≡ first_site p names (temporary_counts w.pure) =
-    numbered.first ∙ ap (λ b. first_local p + local_count 0 (defined p) (temporary_counts w.pure) + site_count b) known.2 in
+    let here : site ≡ first_site p names (counts_in p names) =
+    numbered.first
+    ∙ ap (λ ns. site_with p due ns) (counts-known p names rs ps is due known)
+    ∙ ap (λ b. site_with p b (counts_in p names)) known.2 in
     known.0 site ∙ ap (λ n. program_context p names n) here
 
 is-numbered : (p : Program) (names : List (List ℕ)) (rs : List (Option Routine)) (ps : List Bool) (is : List Initial) (due : Bool) (site : ℕ) (w : Left (List Part))
     → Known p names rs ps is due → IsNumberedBy p rs ps is due site w → IsNumbered p names w
 is-numbered p names rs ps is due site w known numbered =
-    numbered.functions
-    ∙ ap (λ (c : Context). lower_functions c is 0 (first_local p) (defined p) (temporary_counts w.pure) beginning) (at-context p names rs ps is due site w known numbered)
-    ∙ ap (λ (xs : List Initial). lower_functions (context_of_lowered p names w) xs 0 (first_local p) (defined p) (temporary_counts w.pure) beginning) known.1
+    let same : counts_with p rs ps is due ≡ counts_in p names = counts-known p names rs ps is due known in
+    record {
+      functions = numbered.functions
+          ∙ ap (λ n. lowering_at p rs ps is n (counts_with p rs ps is due)) numbered.first
+          ∙ ap (λ ns. lowering_at p rs ps is (site_with p due ns) ns) same
+          ∙ lowering-known p names rs ps is due (counts_in p names) known;
+      counts = numbered.counts ∙ same;
+    }
 
 is-whole : (p : Program) (names : List (List ℕ)) (rs : List (Option Routine)) (ps : List Bool) (is : List Initial) (due : Bool) (site : ℕ) (w : Left (List Part)) (os : List Object)
     → Known p names rs ps is due → IsNumberedBy p rs ps is due site w → os ≡ objects_with p names (context_with p rs ps site) is due w
@@ -51,8 +75,8 @@ is-whole p names rs ps is due site w os known numbered made =
     ap (λ (xs : List Object). lowered_with p xs w)
     (made
     ∙ ap (λ (c : Context). objects_with p names c is due w) (at-context p names rs ps is due site w known numbered)
-    ∙ ap (λ (xs : List Initial). objects_with p names (context_of_lowered p names w) xs due w) known.1
-    ∙ ap (λ b. objects_with p names (context_of_lowered p names w) (initials_from p.structs 0 p.objects) b w) known.2)
+    ∙ ap (λ (xs : List Initial). objects_with p names (context_of_lowered p names) xs due w) known.1
+    ∙ ap (λ b. objects_with p names (context_of_lowered p names) (initials_from p.structs 0 p.objects) b w) known.2)
 
 pub ends : (p : Program) (names : List (List ℕ)) (rs : List (Option Routine)) (ps : List Bool) (is : List Initial) (due : Bool) (site : ℕ) (w : Left (List Part)) (os : List Object) (o : Outcome)
     → Known p names rs ps is due → IsNumberedBy p rs ps is due site w → os ≡ objects_with p names (context_with p rs ps site) is due w

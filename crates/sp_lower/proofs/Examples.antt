@@ -66,7 +66,7 @@ abbrev lowered : Left (List Part)
 lowered = lowering program names (0 ∷ [])
 
 is-numbered : IsNumbered program names lowered
-is-numbered = refl
+is-numbered = record { functions = refl; counts = refl }
 
 five-nodes : length lowered.after.nodes ≡ 5
 five-nodes = refl

@@ -114,28 +114,46 @@ lowered_with p os w = record {
   main = known_number (mark_at (codes_of p.functions p.definitions) p.main);
 }
 
--- sites are numbered by the temporaries that come out
-abbrev pub context_of_lowered : Program → List (List ℕ) → Left (List Part) → Context
-context_of_lowered p names w =
-    program_context p names (first_site p names (temporary_counts w.pure))
+-- how many temporaries each function has: their numbers don't matter to that
+abbrev pub counts_in : Program → List (List ℕ) → List ℕ
+counts_in p names = temporary_counts (lowering p names []).pure
+
+abbrev pub context_of_lowered : Program → List (List ℕ) → Context
+context_of_lowered p names = program_context p names (first_site p names (counts_in p names))
 
 abbrev pub lowered_program : Program → List (List ℕ) → Left (List Part) → Lowered
 lowered_program p names w =
     lowered_with p
-    (objects_with p names (context_of_lowered p names w) (initials_from p.structs 0 p.objects)
+    (objects_with p names (context_of_lowered p names) (initials_from p.structs 0 p.objects)
     (start_due p names) w) w
 
 -- ---- the lowering
 
--- The functions are lowered under the numbering that their own temporaries make.
-abbrev pub IsNumbered : Program → List (List ℕ) → Left (List Part) → Type 0
-IsNumbered p names w = w ≡ lowering p names (temporary_counts w.pure)
+-- The functions are lowered under the numbering that these counts make, and have so many
+-- temporaries themselves.
+pub record IsNumbered (p : Program) (names : List (List ℕ)) (w : Left (List Part)) : Type 0 where
+  pub functions : w ≡ lowering p names (counts_in p names)
+  pub counts : temporary_counts w.pure ≡ counts_in p names
 
--- the same where these are the routines, the structs with pointers, the cells of start values, and
--- whether a pointer may come to `main`
+-- where these are the routines, the structs with pointers, the cells of start values, and whether a
+-- pointer may come to `main`
+abbrev pub site_with : Program → Bool → List ℕ → ℕ
+site_with p due counts = first_local p + local_count 0 (defined p) counts + site_count due
+
+abbrev pub lowering_at : Program → List (Option Routine) → List Bool → List Initial → ℕ → List ℕ
+    → Left (List Part)
+lowering_at p routines pointers is site counts =
+    lower_functions (context_with p routines pointers site) is 0 (first_local p) (defined p) counts
+    beginning
+
+abbrev pub counts_with : Program → List (Option Routine) → List Bool → List Initial → Bool → List ℕ
+counts_with p routines pointers is due =
+    temporary_counts (lowering_at p routines pointers is (site_with p due []) []).pure
+
 pub record IsNumberedBy (p : Program) (routines : List (Option Routine)) (pointers : List Bool) (is : List Initial) (due : Bool) (site : ℕ) (w : Left (List Part)) : Type 0 where
-  pub first : site ≡ first_local p + local_count 0 (defined p) (temporary_counts w.pure) + site_count due
-  pub functions : w ≡ lower_functions (context_with p routines pointers site) is 0 (first_local p) (defined p) (temporary_counts w.pure) beginning
+  pub first : site ≡ site_with p due (counts_with p routines pointers is due)
+  pub functions : w ≡ lowering_at p routines pointers is site (counts_with p routines pointers is due)
+  pub counts : temporary_counts w.pure ≡ counts_with p routines pointers is due
 
 pub record IsLowering (p : Program) (names : List (List ℕ)) (l : Lowered) : Type 0 where
   pub functions : Left (List Part)

@@ -1,3 +1,4 @@
+pub mod One
 pub mod Pointers
 pub mod Regions
 pub mod Typed

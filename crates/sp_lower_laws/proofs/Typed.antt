@@ -114,7 +114,7 @@ whole-holds : (p : Program) (names : List (List ℕ)) (w : Left (List Part)) →
 whole-holds p names w table some =
     let os : List Object = (lowered_program p names w).objects in
     all-have (table_with p.structs os) table some 0 os
-    (typed-at os (objects-typed p names (context_of_lowered p names w) (initials_from p.structs 0 p.objects) (start_due p names) w))
+    (typed-at os (objects-typed p names (context_of_lowered p names) (initials_from p.structs 0 p.objects) (start_due p names) w))
 
 pub lowered-holds : (p : Program) (names : List (List ℕ)) (l : Lowered) → LoweredRegionsHold p names l
 lowered-holds p names l lowering table some =

@@ -33,6 +33,10 @@ abbrev pub PointersHold : List Struct → CType → Type 0
 PointersHold ss t = (os : List Object) → IsTable ss → HaveMembers ss → (e : Extent) → layout ss t ≡ Some e
     → HasPointer (table_with ss os) t (has_pointer (pointers_of ss) t)
 
+-- a program has one lowering
+abbrev pub LoweringsEqual : Program → List (List ℕ) → Lowered → Lowered → Type 0
+LoweringsEqual p names l m = IsLowering p names l → IsLowering p names m → l ≡ m
+
 -- those of a lowered program are those that a formed one has
 abbrev pub LoweredRegionsHold : Program → List (List ℕ) → Lowered → Type 0
 LoweredRegionsHold p names l = IsLowering p names l → IsTable p.structs → HaveMembers p.structs

@@ -3,13 +3,19 @@
 //! They begin the law that what is lowered is formed (`IsFormed` of `sp_ir`). The regions that
 //! `sp_lower_objects` gives the objects are those that a formed program has; and a struct has a leaf
 //! of pointer type just where lowering is told so, by which the sites of unknown functions are made.
+//! A program has one lowering: its functions have as many temporaries under each numbering.
 #![tactic(auto)]
 
 ghost use Rattle.std.specs.Prelude.{map};
 ghost use Rattle.sp_types.specs.View.{type_of, struct_of};
 ghost use Rattle.sp_ir.specs.Programs.{object_of, lowered_of};
 ghost use Rattle.sp_types.specs.Programs.{program_of};
-ghost use Rattle.sp_lower_laws.specs.Laws.{RegionsHold, PointersHold, LoweredRegionsHold};
+ghost use Rattle.sp_lower_laws.specs.Laws.{
+  RegionsHold,
+  PointersHold,
+  LoweringsEqual,
+  LoweredRegionsHold,
+};
 
 use sp_ir::{Lowered, Object};
 use sp_tree::Names;
@@ -38,4 +44,15 @@ pub fn lowered_regions_law(program: &Program, names: &Names, lowered: &Lowered)
     let _program = program;
     let _names = names;
     let _lowered = lowered;
+}
+
+/// A program has one lowering.
+pub fn lowerings_law(program: &Program, names: &Names, lowered: &Lowered, other: &Lowered)
+    ensures { LoweringsEqual (program_of program.now) names.now (lowered_of lowered.now)
+        (lowered_of other.now) }
+{
+    let _program = program;
+    let _names = names;
+    let _lowered = lowered;
+    let _other = other;
 }
