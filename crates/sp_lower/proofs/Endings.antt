@@ -14,20 +14,6 @@ use Rattle.sp_lower.specs.Answers.{EndsAt, Ends}
 use Rattle.sp_lower.specs.declared.limits.Outcome.{Outcome}
 use Rattle.sp_lower.specs.declared.limits.Outcome.TheVariants.{Whole, Past}
 
--- the counts of the first pass are those that come out of the second
-pub numbered-by : (p : Program) (rs : List (Option Routine)) (ps : List Bool) (is : List Initial) (due : Bool) (one two : ℕ) (v w : Left (List Part)) (counts again : List ℕ)
-    → one ≡ site_with p due [] → v ≡ lowering_at p rs ps is one [] → counts ≡ temporary_counts v.pure
-    → two ≡ site_with p due counts → w ≡ lowering_at p rs ps is two counts → again ≡ temporary_counts w.pure
-    → counts ≡ again → IsNumberedBy p rs ps is due two w
-numbered-by p rs ps is due one two v w counts again before first told after second came same =
-    let all : counts ≡ counts_with p rs ps is due =
-    told ∙ ap (λ (x : Left (List Part)). temporary_counts x.pure) (first ∙ ap (λ n. lowering_at p rs ps is n []) before) in
-    record {
-      first = after ∙ ap (λ ns. site_with p due ns) all;
-      functions = second ∙ ap (λ ns. lowering_at p rs ps is two ns) all;
-      counts = sym (same ∙ came) ∙ all;
-    }
-
 -- what was known before is what the program says
 abbrev pub Known : Program → List (List ℕ) → List (Option Routine) → List Bool → List Initial → Bool → Type 0
 Known p names rs ps is due =

@@ -71,18 +71,28 @@ abbrev pub site_count : Bool → ℕ
 site_count false = 0
 site_count true = 1
 
--- where sites of nodes begin, where functions have so many temporaries
+-- where sites of nodes begin, where a pointer may come to `main` or not, and functions have so many
+-- temporaries
+abbrev pub site_with : Program → Bool → List ℕ → ℕ
+site_with p due counts = first_local p + local_count 0 (defined p) counts + site_count due
+
 abbrev pub first_site : Program → List (List ℕ) → List ℕ → ℕ
-first_site p names counts =
-    first_local p + local_count 0 (defined p) counts + site_count (start_due p names)
+first_site p names counts = site_with p (start_due p names) counts
 
 -- ---- the lowering under a numbering
 
--- the functions' nodes and edges, where they have so many temporaries
+-- the functions' nodes and edges, where they have so many temporaries and sites begin at `site`;
+-- `is` are the cells of start values
+abbrev pub lowering_at : Program → List (Option Routine) → List Bool → List Initial → ℕ → List ℕ
+    → Left (List Part)
+lowering_at p routines pointers is site counts =
+    lower_functions (context_with p routines pointers site) is 0 (first_local p) (defined p) counts
+    beginning
+
 abbrev pub lowering : Program → List (List ℕ) → List ℕ → Left (List Part)
 lowering p names counts =
-    lower_functions (program_context p names (first_site p names counts))
-    (initials_from p.structs 0 p.objects) 0 (first_local p) (defined p) counts beginning
+    lowering_at p (routines_of names p.functions) (pointers_of p.structs)
+    (initials_from p.structs 0 p.objects) (first_site p names counts) counts
 
 -- the objects of the units, and the functions
 abbrev pub declared_with : Program → List (List ℕ) → Context → List Initial → List Object
@@ -114,7 +124,7 @@ lowered_with p os w = record {
   main = known_number (mark_at (codes_of p.functions p.definitions) p.main);
 }
 
--- how many temporaries each function has: their numbers don't matter to that
+-- how many temporaries each function has by a first pass, in which none were counted
 abbrev pub counts_in : Program → List (List ℕ) → List ℕ
 counts_in p names = temporary_counts (lowering p names []).pure
 
@@ -135,17 +145,8 @@ pub record IsNumbered (p : Program) (names : List (List ℕ)) (w : Left (List Pa
   pub functions : w ≡ lowering p names (counts_in p names)
   pub counts : temporary_counts w.pure ≡ counts_in p names
 
--- where these are the routines, the structs with pointers, the cells of start values, and whether a
--- pointer may come to `main`
-abbrev pub site_with : Program → Bool → List ℕ → ℕ
-site_with p due counts = first_local p + local_count 0 (defined p) counts + site_count due
-
-abbrev pub lowering_at : Program → List (Option Routine) → List Bool → List Initial → ℕ → List ℕ
-    → Left (List Part)
-lowering_at p routines pointers is site counts =
-    lower_functions (context_with p routines pointers site) is 0 (first_local p) (defined p) counts
-    beginning
-
+-- the same where these are the routines, the structs with pointers, the cells of start values, and
+-- whether a pointer may come to `main`
 abbrev pub counts_with : Program → List (Option Routine) → List Bool → List Initial → Bool → List ℕ
 counts_with p routines pointers is due =
     temporary_counts (lowering_at p routines pointers is (site_with p due []) []).pure

@@ -1,4 +1,4 @@
--- A program has one lowering.
+-- A program has no two lowerings.
 use Rattle.std.proofs.Common.{◌≡◌, ℕ, List, ap, sym, ◌∙◌}
 use Rattle.sp_types.specs.Programs.{Program}
 use Rattle.sp_ir.specs.Programs.{Lowered}

@@ -33,7 +33,7 @@ abbrev pub PointersHold : List Struct → CType → Type 0
 PointersHold ss t = (os : List Object) → IsTable ss → HaveMembers ss → (e : Extent) → layout ss t ≡ Some e
     → HasPointer (table_with ss os) t (has_pointer (pointers_of ss) t)
 
--- a program has one lowering
+-- a program has no two lowerings
 abbrev pub LoweringsEqual : Program → List (List ℕ) → Lowered → Lowered → Type 0
 LoweringsEqual p names l m = IsLowering p names l → IsLowering p names m → l ≡ m
 

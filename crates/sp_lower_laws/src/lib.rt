@@ -3,7 +3,7 @@
 //! They begin the law that what is lowered is formed (`IsFormed` of `sp_ir`). The regions that
 //! `sp_lower_objects` gives the objects are those that a formed program has; and a struct has a leaf
 //! of pointer type just where lowering is told so, by which the sites of unknown functions are made.
-//! A program has one lowering: its functions have as many temporaries under each numbering.
+//! And a program has no two lowerings.
 #![tactic(auto)]
 
 ghost use Rattle.std.specs.Prelude.{map};
@@ -46,7 +46,7 @@ pub fn lowered_regions_law(program: &Program, names: &Names, lowered: &Lowered)
     let _lowered = lowered;
 }
 
-/// A program has one lowering.
+/// A program has no two lowerings.
 pub fn lowerings_law(program: &Program, names: &Names, lowered: &Lowered, other: &Lowered)
     ensures { LoweringsEqual (program_of program.now) names.now (lowered_of lowered.now)
         (lowered_of other.now) }
