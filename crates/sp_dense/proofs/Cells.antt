@@ -8,7 +8,7 @@ use Rattle.std.proofs.lemmas.Bool.Decides.{nat_tests}
 use Rattle.sp_lattice.specs.Lattice.{Order}
 use Rattle.sp_lattice.specs.System.{Meaning}
 use Rattle.sp_lattice.specs.Dense.{input, table_of}
-use Rattle.sp_dense.specs.inner.Visit.{IsGrid}
+use Rattle.sp_dense.specs.inner.Visit.{IsStoreGrid}
 use Rattle.sp_dense.specs.Solution.{Grids, cell, within_counts, IsSolved}
 
 module _ {V : Type 0} (m : Meaning V) where
@@ -26,7 +26,7 @@ below k n = grind arith
 
 module _ {V : Type 0} (o : Order V) (m : Meaning V) where
   -- rows that hold a table's values at each node and location, as a grid of cells
-  pub cells_of_rows : (rows : List (Vec V Global)) (table : ℕ → ℕ → V) → IsGrid m rows → ((n l : ℕ) → n < m.nodes → l < m.locations → table_of o.bottom rows n l ≡ table n l) → (n l : ℕ) → cell (map (λ row. row.items) rows) n l ≡ within_counts m n l (table n l)
+  pub cells_of_rows : (rows : List (Vec V Global)) (table : ℕ → ℕ → V) → IsStoreGrid m rows → ((n l : ℕ) → n < m.nodes → l < m.locations → table_of o.bottom rows n l ≡ table n l) → (n l : ℕ) → cell (map (λ row. row.items) rows) n l ≡ within_counts m n l (table n l)
   cells_of_rows rows table grid same n l = by (below n m.nodes) (below l m.locations)
     where
       rows_of : List (List V)

@@ -18,9 +18,9 @@ use Rattle.sp_lattice.specs.Row.{joined_rows, any_grows}
 use Rattle.sp_lattice.proofs.RowLaws.{length-joined_rows, le_from_no_growth, place_from_growth}
 use Rattle.sp_lattice.proofs.Stores.{table_of-get_or, table_of-set_same, table_of-set_other, store_of-joined_rows}
 use Rattle.sp_lattice.specs.Flat.{vector_at}
-use Rattle.sp_dense.specs.inner.Visit.{IsGrid, IsStore, IsSettled, Grows, Visits, HasSuccessors, IsWorking, Works}
+use Rattle.sp_dense.specs.inner.Visit.{IsStoreGrid, IsStore, IsSettled, Grows, Visits, HasSuccessors, IsWorking, Works}
 use Rattle.sp_dense.specs.inner.Waiting.{Adds}
-use Rattle.sp_dense.proofs.Grids.{row_long, grid_set}
+use Rattle.sp_dense.proofs.Grids.{row_long, grid_set, count_long}
 
 same_nat : (x y : ℕ) → eqb x y ≡ true → x ≡ y
 same_nat x y h = eqb-true x y h
@@ -111,7 +111,7 @@ module _ {V : Type 0} (o : Order V) (m : Meaning V) (laws : IsLattice o) (sys : 
       subst (λ v. o.le v (m.ceiling l) ≡ true) (sym (reached.values l l_low)) (input_under o m laws sys (table_of o.bottom rows) part.under n low l l_low)
 
   -- a node's row raised by a row that has the effect of its input
-  module _ (rows : List (Vec V Global)) (n : ℕ) (old new : Vec V Global) (input_row effect : List V) (low : n < m.nodes) (grid : IsGrid m rows) (part : Partial o m (table_of o.bottom rows)) (at : old ≡ get_or rows n old)
+  module _ (rows : List (Vec V Global)) (n : ℕ) (old new : Vec V Global) (input_row effect : List V) (low : n < m.nodes) (grid : IsStoreGrid m rows) (part : Partial o m (table_of o.bottom rows)) (at : old ≡ get_or rows n old)
       (reached : IsStore o m input_row (input o m (table_of o.bottom rows) n)) (made : IsStore o m effect (m.effect n (store_of o.bottom input_row))) (raised : new.items ≡ joined_rows o old.items effect) where
     before : Table V
     before = table_of o.bottom rows
@@ -126,14 +126,14 @@ module _ {V : Type 0} (o : Order V) (m : Meaning V) (laws : IsLattice o) (sys : 
 
     old_is : (l : ℕ) → before n l ≡ store_of o.bottom old.items l
     unfolding before
-    old_is l = table_of-get_or o.bottom rows n l old (omega (arith, low, grid.long)) ∙ ap (λ (row : Vec V Global). store_of o.bottom row.items l) (sym at)
+    old_is l = table_of-get_or o.bottom rows n l old (omega (arith, low, count_long m rows grid)) ∙ ap (λ (row : Vec V Global). store_of o.bottom row.items l) (sym at)
 
     pub raises_row : RaisesRow o m (table_of o.bottom rows) (table_of o.bottom (set rows n new)) n
     unfolding before
     raises_row = record {
       others = λ k l k_low l_low apart. table_of-set_other o.bottom rows n k l new apart;
       raised = λ l l_low.
-          table_of-set_same o.bottom rows n l new (omega (arith, low, grid.long)) ∙ ap (λ row. store_of o.bottom row l) raised
+          table_of-set_same o.bottom rows n l new (omega (arith, low, count_long m rows grid)) ∙ ap (λ row. store_of o.bottom row l) raised
           ∙ store_of-joined_rows o o.bottom old.items effect l (omega (arith, old_long, l_low)) (omega (arith, made.long, l_low))
           ∙ ap (λ v. o.join v (store_of o.bottom effect l)) (sym (old_is l)) ∙ ap (λ v. o.join (before n l) v) (effect_is l l_low);
     }

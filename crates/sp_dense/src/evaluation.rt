@@ -2,7 +2,7 @@
 ghost use Rattle.std.specs.Prelude.{◌≡◌, ◌≤◌, ◌<◌, ◌+◌, ℕ, length, vec_len, IfOk, OnOk};
 ghost use Rattle.sp_lattice.specs.System.{AllBelow, Below, written};
 ghost use Rattle.sp_lattice.specs.Dense.{input, Partial, store_of, table_of};
-ghost use Rattle.sp_dense.specs.inner.Visit.{IsGrid, IsStore, JoinsPassed, Visits};
+ghost use Rattle.sp_dense.specs.inner.Visit.{IsStoreGrid, IsStore, JoinsPassed, Visits};
 
 use sp_lattice::rows::{bottoms, raise, values_of};
 use sp_lattice::{Lattice, Steps, System};
@@ -18,7 +18,7 @@ pub(crate) fn visit<S: System, L: Ledger>(
     steps: &mut Steps<L>,
 ) -> Result<bool, AllocError>
     requires node { node < (S.meaning system.now).nodes }
-    requires grid { IsGrid (S.meaning system.now) rows.old.items }
+    requires grid { IsStoreGrid (S.meaning system.now) rows.old.items }
     requires part { Partial S.Value.order (S.meaning system.now) (table_of S.Value.order.bottom rows.old.items) }
     ensures visited { IfOk result
         (λ grew. Visits S.Value.order (S.meaning system.now) rows.old.items rows.new.items node grew) }
@@ -39,7 +39,7 @@ pub(crate) fn input_row<S: System>(
     node: u32,
 ) -> Result<Vec<S::Value>, AllocError>
     requires node { node < (S.meaning system.now).nodes }
-    requires grid { IsGrid (S.meaning system.now) rows.now.items }
+    requires grid { IsStoreGrid (S.meaning system.now) rows.now.items }
     ensures { IfOk result (λ row. IsStore S.Value.order (S.meaning system.now) row.items
         (input S.Value.order (S.meaning system.now) (table_of S.Value.order.bottom rows.now.items) node)) }
 {

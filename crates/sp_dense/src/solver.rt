@@ -2,7 +2,7 @@
 ghost use Rattle.std.specs.Prelude.{◌≡◌, ◌≤◌, ◌<◌, ◌+◌, ℕ, map, replicate, ◌∷◌, IfOk, OnOk, IfErr};
 ghost use Rattle.sp_lattice.specs.Dense.{input, IsLeast, Partial, table_of};
 ghost use Rattle.sp_lattice.specs.Bound.{most_steps};
-ghost use Rattle.sp_dense.specs.inner.Visit.{IsGrid, HasSuccessors, IsWorking, Works};
+ghost use Rattle.sp_dense.specs.inner.Visit.{IsStoreGrid, HasSuccessors, IsWorking, Works};
 ghost use Rattle.sp_dense.specs.Solution.{IsSolved, cells, most_cells};
 ghost use Rattle.sp_dense.specs.Cause.{IsCause};
 
@@ -71,7 +71,7 @@ fn solve_rows<S: System, L: Ledger>(
     system: &S,
     steps: &mut Steps<L>,
 ) -> Result<Vec<Vec<S::Value>>, AllocError>
-    ensures grid { IfOk result (λ rows. IsGrid (S.meaning system.now) rows.items) }
+    ensures grid { IfOk result (λ rows. IsStoreGrid (S.meaning system.now) rows.items) }
     ensures least { IfOk result
         (λ rows. IsLeast S.Value.order (S.meaning system.now) (table_of S.Value.order.bottom rows.items)) }
     ensures bound { steps.new ≤ steps.old + most_steps (S.meaning system.now) }
@@ -105,7 +105,7 @@ fn work<S: System, L: Ledger>(
 ) -> Result<(), AllocError>
     requires node { node < (S.meaning system.now).nodes }
     requires nodes { waiting.old.nodes ≡ (S.meaning system.now).nodes }
-    requires grid { IsGrid (S.meaning system.now) rows.old.items }
+    requires grid { IsStoreGrid (S.meaning system.now) rows.old.items }
     requires successors { HasSuccessors (S.meaning system.now) successors.now.items }
     requires working { IsWorking S.Value.order (S.meaning system.now)
         (table_of S.Value.order.bottom rows.old.items) (node ∷ waiting.old.waiting) }
@@ -141,8 +141,8 @@ fn input_rows<S: System>(
     system: &S,
     rows: &Vec<Vec<S::Value>>,
 ) -> Result<Vec<Vec<S::Value>>, AllocError>
-    requires { IsGrid (S.meaning system.now) rows.now.items }
-    ensures grid { IfOk result (λ inputs. IsGrid (S.meaning system.now) inputs.items) }
+    requires { IsStoreGrid (S.meaning system.now) rows.now.items }
+    ensures grid { IfOk result (λ inputs. IsStoreGrid (S.meaning system.now) inputs.items) }
     ensures values { IfOk result (λ inputs. (n l : ℕ) → n < (S.meaning system.now).nodes →
         l < (S.meaning system.now).locations →
         table_of S.Value.order.bottom inputs.items n l ≡

@@ -1,5 +1,5 @@
 -- Rows of items, one behind another in one list.
-use Rattle.std.specs.Prelude.{◌≤◌, ℕ, List, [], ◌∷◌, map, slice_index, slice_index_or, slice_range, Vec}
+use Rattle.std.specs.Prelude.{◌≡◌, ◌<◌, ◌≤◌, ℕ, List, [], ◌∷◌, length, map, slice_index, slice_index_or, slice_range, Vec}
 use Rattle.std.specs.declared.alloc.Global.{Global}
 
 -- a row; none past the last
@@ -9,6 +9,11 @@ row_at rows n = slice_index_or rows n []
 -- the items of a vector among others; none past the last
 abbrev pub vector_at : {A : Type 0} → List (Vec A Global) → ℕ → List A
 vector_at rows n = row_at (map (λ row. row.items) rows) n
+
+-- so many rows, each of its width
+pub record IsGrid {A : Type 0} (count : ℕ) (width : ℕ → ℕ) (rows : List (List A)) : Type 0 where
+  pub long : length rows ≡ count
+  pub rows_long : (n : ℕ) → n < count → length (row_at rows n) ≡ width n
 
 -- the rows that end at these places of a list, where the first begins at `begin`
 abbrev pub rows_between : {A : Type 0} → ℕ → List ℕ → List A → List (List A)

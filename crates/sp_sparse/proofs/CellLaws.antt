@@ -10,7 +10,7 @@ use Rattle.std.proofs.lemmas.List.Kept.{AllPairs-from_increasing}
 use Rattle.sp_lattice.specs.System.{Meaning, has, written}
 use Rattle.sp_lattice.specs.Flat.{row_at}
 use Rattle.sp_sparse.specs.Solution.{Cells, value_at, cell, IsFormed, within_list}
-use Rattle.sp_sparse.specs.inner.Grid.{IsGrid, AreLists, table_at}
+use Rattle.sp_sparse.specs.inner.Grid.{IsListGrid, AreLists, table_at}
 use Rattle.sp_sparse.proofs.Numbers.{side, below_next, same_number, apart_numbers}
 use Rattle.sp_sparse.proofs.Few.{rest_rises}
 use Rattle.sp_sparse.proofs.GridLaws.{row_at-past, row_at-push_last, row_at-push_other}
@@ -74,7 +74,7 @@ module _ {V : Type 0} where
     row_is : (n : ℕ) → n < nodes → row_at rows n ≡ replicate (length (lists n)) bottom
     row_is n low = ap (λ rs. row_at rs n) is ∙ least_row bottom places n (omega (arith, low, are.long)) ∙ ap (λ list. replicate (length list) bottom) (are.same n low)
 
-    pub least_grid : IsGrid nodes lists rows
+    pub least_grid : IsListGrid nodes lists rows
     least_grid = record { long = rows_long; rows_long = λ n low. ap length (row_is n low) ∙ length-replicate (length (lists n)) bottom }
 
     pub least_table : (n l : ℕ) → table_at bottom lists rows n l ≡ bottom
@@ -92,7 +92,7 @@ lists_more lists rows list n long so_far is k low = by (below_next k n low)
     by (inl less) = row_at-push_other rows list k (omega (arith, less, long)) ∙ so_far k less
     by (inr same) = ap (λ j. row_at (rows ++ list ∷ []) j) (same ∙ sym long) ∙ row_at-push_last rows list ∙ is ∙ ap lists (sym same)
 
-module _ {V : Type 0} (nodes : ℕ) (lists : ℕ → List ℕ) (places : List (List ℕ)) (rows : List (List V)) (are : AreLists nodes lists places) (grid : IsGrid nodes lists rows) where
+module _ {V : Type 0} (nodes : ℕ) (lists : ℕ → List ℕ) (places : List (List ℕ)) (rows : List (List V)) (are : AreLists nodes lists places) (grid : IsListGrid nodes lists rows) where
   -- lists that ascend and rows that fit them
   pub formed : ((n : ℕ) → n < nodes → IsStrictlyIncreasing (lists n)) → IsFormed (cells places rows)
   formed rises = record {

@@ -9,7 +9,7 @@ use Rattle.sp_lattice.specs.System.{Meaning, has, store_at, values_at}
 use Rattle.sp_lattice.specs.Dense.{Table}
 use Rattle.sp_lattice.proofs.Joins.{has-cons}
 use Rattle.sp_lattice.proofs.Stores.{written_elsewhere}
-use Rattle.sp_sparse.specs.inner.Grid.{IsGrid, table_at, BeginsWith}
+use Rattle.sp_sparse.specs.inner.Grid.{IsListGrid, table_at, BeginsWith}
 use Rattle.sp_sparse.specs.inner.Engine.{Evaluates, Raises, UpdatesRow, locations_at}
 use Rattle.sp_sparse.proofs.Numbers.{which}
 use Rattle.sp_sparse.proofs.Ordered.{written-at, written-set_other}
@@ -32,7 +32,7 @@ module _ {V : Type 0} where
   row_at-push_other (r ∷ rows) row (suc n) low = row_at-push_other rows row n (omega arith)
 
   -- a row of the right length in place of another
-  pub grid_set : (nodes : ℕ) (lists : ℕ → List ℕ) (rows : List (List V)) (n : ℕ) (row : List V) → IsGrid nodes lists rows → n < nodes → length row ≡ length (lists n) → IsGrid nodes lists (set rows n row)
+  pub grid_set : (nodes : ℕ) (lists : ℕ → List ℕ) (rows : List (List V)) (n : ℕ) (row : List V) → IsListGrid nodes lists rows → n < nodes → length row ≡ length (lists n) → IsListGrid nodes lists (set rows n row)
   grid_set nodes lists rows n row grid low long = record {
     long = length-set rows n row ∙ grid.long;
     rows_long = λ k k_low. by k k_low (which k n);
@@ -68,7 +68,7 @@ from_map f l (q ∷ ps) h = by (has-cons l (f q) (map f ps) h) (from_map f l ps)
     by (inl e) more = (q, has_first q ps, sym e)
     by (inr k) more = let r = more k in (r.0, has_later r.0 q ps r.1, r.2)
 
-module _ {V : Type 0} (o : Order V) (m : Meaning V) (ins : Table V) (made : List V) (before after : List (List V)) (n : ℕ) (grown : List ℕ) (low : n < m.nodes) (rises : IsStrictlyIncreasing (m.defs n)) (grid : IsGrid m.nodes m.defs before) (begins : BeginsWith m o.bottom n (ins n) made) (updates : UpdatesRow o made before after n grown) where
+module _ {V : Type 0} (o : Order V) (m : Meaning V) (ins : Table V) (made : List V) (before after : List (List V)) (n : ℕ) (grown : List ℕ) (low : n < m.nodes) (rises : IsStrictlyIncreasing (m.defs n)) (grid : IsListGrid m.nodes m.defs before) (begins : BeginsWith m o.bottom n (ins n) made) (updates : UpdatesRow o made before after n grown) where
   row_low : (p : ℕ) → p < length (m.defs n) → p < length (row_at before n)
   row_low p h = omega (arith, h, grid.rows_long n low)
 
@@ -123,7 +123,7 @@ module _ {V : Type 0} (o : Order V) (m : Meaning V) (ins : Table V) (made : List
     others = λ k l apart. ap (λ row. store_at o.bottom (m.defs k) row l) (updates.others k apart);
   }
 
-  pub updated_grid : IsGrid m.nodes m.defs after
+  pub updated_grid : IsListGrid m.nodes m.defs after
   updated_grid = record { long = updates.long ∙ grid.long; rows_long = λ k k_low. by k k_low (which k n) }
     where
       by : (k : ℕ) → k < m.nodes → (k ≡ n) ⊎ (k ≢ n) → length (row_at after k) ≡ length (m.defs k)
@@ -131,7 +131,7 @@ module _ {V : Type 0} (o : Order V) (m : Meaning V) (ins : Table V) (made : List
       by k k_low (inr e) = ap length (updates.others k e) ∙ grid.rows_long k k_low
 
 -- one input is raised
-module _ {V : Type 0} (o : Order V) (m : Meaning V) (inputs : List (List V)) (to l p : ℕ) (v made : V) (low : to < m.nodes) (rises : IsStrictlyIncreasing (m.uses to)) (grid : IsGrid m.nodes m.uses inputs) (within : p < length (m.uses to)) (at : get_or (m.uses to) p 0 ≡ l) (made_is : made ≡ o.join (get_or (row_at inputs to) p o.bottom) v) where
+module _ {V : Type 0} (o : Order V) (m : Meaning V) (inputs : List (List V)) (to l p : ℕ) (v made : V) (low : to < m.nodes) (rises : IsStrictlyIncreasing (m.uses to)) (grid : IsListGrid m.nodes m.uses inputs) (within : p < length (m.uses to)) (at : get_or (m.uses to) p 0 ≡ l) (made_is : made ≡ o.join (get_or (row_at inputs to) p o.bottom) v) where
   row_within : p < length (row_at inputs to)
   row_within = omega (arith, within, grid.rows_long to low)
 
@@ -162,8 +162,8 @@ module _ {V : Type 0} (o : Order V) (m : Meaning V) (inputs : List (List V)) (to
     grown = said ∙ ap (λ w. not (o.le v w)) (sym input_before);
   }
 
-  pub raised_grid : (after : List (List V)) → after ≡ set inputs to (set (row_at inputs to) p made) → IsGrid m.nodes m.uses after
-  raised_grid after is = subst (IsGrid m.nodes m.uses) (sym is) (grid_set m.nodes m.uses inputs to (set (row_at inputs to) p made) grid low (length-set (row_at inputs to) p made ∙ grid.rows_long to low))
+  pub raised_grid : (after : List (List V)) → after ≡ set inputs to (set (row_at inputs to) p made) → IsListGrid m.nodes m.uses after
+  raised_grid after is = subst (IsListGrid m.nodes m.uses) (sym is) (grid_set m.nodes m.uses inputs to (set (row_at inputs to) p made) grid low (length-set (row_at inputs to) p made ∙ grid.rows_long to low))
 
   pub raises : (after : List (List V)) (grew : Bool) → after ≡ set inputs to (set (row_at inputs to) p made) → grew ≡ not (o.le v (get_or (row_at inputs to) p o.bottom)) → Raises o (table_at o.bottom m.uses inputs) (table_at o.bottom m.uses after) to l v grew
   raises after grew is said = subst (λ rows. Raises o (table_at o.bottom m.uses inputs) (table_at o.bottom m.uses rows) to l v grew) (sym is) (raises_set grew said)

@@ -8,7 +8,7 @@ use Rattle.sp_lattice.specs.Bound.{sum_below}
 use Rattle.sp_lattice.proofs.Paths.{Path-end}
 use Rattle.sp_lattice.proofs.Ranks.{sum_below-same}
 use Rattle.sp_deps.specs.Rows.{leaving, held, same_pair}
-use Rattle.sp_sparse.specs.inner.Grid.{IsGrid}
+use Rattle.sp_sparse.specs.inner.Grid.{IsListGrid}
 use Rattle.sp_sparse.specs.inner.Links.{AreLinks, UsedAt, definitions_before}
 use Rattle.sp_sparse.proofs.Numbers.{below_next}
 use Rattle.sp_sparse.proofs.GridLaws.{row_at-push_last, row_at-push_other}
@@ -34,7 +34,7 @@ module _ {V : Type 0} (m : Meaning V) where
       by (inr e) more = omega (arith, low, ap (definitions_before m) e, ap (λ j. length (m.defs j)) e)
 
   -- a row of outputs begins at its node's first definition
-  pub before_first : (rows : List (List V)) (n : ℕ) → IsGrid m.nodes m.defs rows → n < m.nodes + 1 → sum_below n (λ k. length (row_at rows k)) ≡ definitions_before m n
+  pub before_first : (rows : List (List V)) (n : ℕ) → IsListGrid m.nodes m.defs rows → n < m.nodes + 1 → sum_below n (λ k. length (row_at rows k)) ≡ definitions_before m n
   before_first rows n grid low = sum_below-same n (λ k. length (row_at rows k)) (λ k. length (m.defs k)) (λ k k_low. grid.rows_long k (omega (arith, low, k_low)))
 
   module _ (test : ℕ → ℕ → ℕ → Bool) where

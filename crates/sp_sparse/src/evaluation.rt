@@ -5,7 +5,7 @@ ghost use Rattle.sp_lattice.specs.Flat.{row_at};
 ghost use Rattle.sp_lattice.specs.Dense.{Under};
 ghost use Rattle.sp_deps.specs.Rows.{held};
 ghost use Rattle.sp_deps.specs.Answer.{AreDependencies};
-ghost use Rattle.sp_sparse.specs.inner.Grid.{IsGrid, table_at, BeginsWith};
+ghost use Rattle.sp_sparse.specs.inner.Grid.{IsListGrid, table_at, BeginsWith};
 ghost use Rattle.sp_sparse.specs.inner.Links.{HasLinks};
 ghost use Rattle.sp_sparse.specs.inner.Engine.{IsWorking, Every, EveryBut, Evaluates, UpdatesRow, IsPaid, locations_at};
 
@@ -29,13 +29,13 @@ pub(crate) fn evaluate<S: System, L: Ledger>(
     steps: &mut Steps<L>,
 ) -> Result<(), AllocError>
     requires node { node < (S.meaning system.now).nodes }
-    requires inputs { IsGrid (S.meaning system.now).nodes (S.meaning system.now).uses inputs.now }
-    requires outputs { IsGrid (S.meaning system.now).nodes (S.meaning system.now).defs outputs.old }
+    requires inputs { IsListGrid (S.meaning system.now).nodes (S.meaning system.now).uses inputs.now }
+    requires outputs { IsListGrid (S.meaning system.now).nodes (S.meaning system.now).defs outputs.old }
     requires row { length ((S.meaning system.now).defs node) ≤ vec_len row.old }
     requires under { Under S.Value.order (S.meaning system.now)
         (table_at S.Value.order.bottom (S.meaning system.now).uses inputs.now) }
     ensures grid { OnOk result
-        (IsGrid (S.meaning system.now).nodes (S.meaning system.now).defs outputs.new) }
+        (IsListGrid (S.meaning system.now).nodes (S.meaning system.now).defs outputs.new) }
     ensures evaluated { OnOk result (Evaluates S.Value.order (S.meaning system.now)
         (table_at S.Value.order.bottom (S.meaning system.now).uses inputs.now)
         (table_at S.Value.order.bottom (S.meaning system.now).defs outputs.old)
@@ -61,7 +61,7 @@ fn fill<S: System, L: Ledger>(
     steps: &mut Steps<L>,
 ) -> Result<(), AllocError>
     requires node { node < (S.meaning system.now).nodes }
-    requires inputs { IsGrid (S.meaning system.now).nodes (S.meaning system.now).uses inputs.now }
+    requires inputs { IsListGrid (S.meaning system.now).nodes (S.meaning system.now).uses inputs.now }
     requires row { length ((S.meaning system.now).defs node) ≤ length row.old }
     requires under { Under S.Value.order (S.meaning system.now)
         (table_at S.Value.order.bottom (S.meaning system.now).uses inputs.now) }
@@ -116,8 +116,8 @@ pub(crate) fn send_grown<S: System>(
     requires node { node < (S.meaning system.now).nodes }
     requires deps { AreDependencies (S.meaning system.now) links.now.deps.now }
     requires links { HasLinks (S.meaning system.now) (held links.now.deps.now) links.now.rows }
-    requires inputs { IsGrid (S.meaning system.now).nodes (S.meaning system.now).uses inputs.old }
-    requires outputs { IsGrid (S.meaning system.now).nodes (S.meaning system.now).defs outputs.now }
+    requires inputs { IsListGrid (S.meaning system.now).nodes (S.meaning system.now).uses inputs.old }
+    requires outputs { IsListGrid (S.meaning system.now).nodes (S.meaning system.now).defs outputs.now }
     requires grown { (p : ℕ) → has p grown.now.items ≡ true → p < length ((S.meaning system.now).defs node) }
     requires nodes { waiting.old.nodes ≡ (S.meaning system.now).nodes }
     requires working { IsWorking S.Value.order (S.meaning system.now) (held links.now.deps.now)
@@ -125,7 +125,7 @@ pub(crate) fn send_grown<S: System>(
         (table_at S.Value.order.bottom (S.meaning system.now).uses inputs.old)
         (table_at S.Value.order.bottom (S.meaning system.now).defs outputs.now) waiting.old.waiting }
     ensures grid { OnOk result
-        (IsGrid (S.meaning system.now).nodes (S.meaning system.now).uses inputs.new) }
+        (IsListGrid (S.meaning system.now).nodes (S.meaning system.now).uses inputs.new) }
     ensures nodes { waiting.new.nodes ≡ waiting.old.nodes }
     ensures working { OnOk result (IsWorking S.Value.order (S.meaning system.now) (held links.now.deps.now)
         (Every (held links.now.deps.now))

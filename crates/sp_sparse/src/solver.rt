@@ -6,7 +6,7 @@ ghost use Rattle.sp_deps.specs.Rows.{held};
 ghost use Rattle.sp_deps.specs.Answer.{AreDependencies};
 ghost use Rattle.sp_sparse.specs.Sparse.{EqualsDense};
 ghost use Rattle.sp_sparse.specs.Solution.{IsSolved, IsWithinBounds};
-ghost use Rattle.sp_sparse.specs.inner.Grid.{IsGrid, AreLists, table_at};
+ghost use Rattle.sp_sparse.specs.inner.Grid.{IsListGrid, AreLists, table_at};
 ghost use Rattle.sp_sparse.specs.inner.Links.{HasLinks};
 
 use crate::evaluation::{evaluate, send_grown};
@@ -71,16 +71,16 @@ fn solve<S: System, P: Picker, L: Ledger>(
     requires deps { AreDependencies (S.meaning system.now) links.now.deps.now }
     requires links { HasLinks (S.meaning system.now) (held links.now.deps.now) links.now.rows }
     requires defs { AreLists (S.meaning system.now).nodes (S.meaning system.now).defs defs.now }
-    requires inputs { IsGrid (S.meaning system.now).nodes (S.meaning system.now).uses inputs.old }
+    requires inputs { IsListGrid (S.meaning system.now).nodes (S.meaning system.now).uses inputs.old }
     requires least_inputs { (n l : ℕ) →
         table_at S.Value.order.bottom (S.meaning system.now).uses inputs.old n l ≡ S.Value.order.bottom }
-    requires outputs { IsGrid (S.meaning system.now).nodes (S.meaning system.now).defs outputs.old }
+    requires outputs { IsListGrid (S.meaning system.now).nodes (S.meaning system.now).defs outputs.old }
     requires least_outputs { (n l : ℕ) →
         table_at S.Value.order.bottom (S.meaning system.now).defs outputs.old n l ≡ S.Value.order.bottom }
     ensures inputs { OnOk result
-        (IsGrid (S.meaning system.now).nodes (S.meaning system.now).uses inputs.new) }
+        (IsListGrid (S.meaning system.now).nodes (S.meaning system.now).uses inputs.new) }
     ensures outputs { OnOk result
-        (IsGrid (S.meaning system.now).nodes (S.meaning system.now).defs outputs.new) }
+        (IsListGrid (S.meaning system.now).nodes (S.meaning system.now).defs outputs.new) }
     ensures solved { OnOk result (EqualsDense S.Value.order (S.meaning system.now)
         (table_at S.Value.order.bottom (S.meaning system.now).uses inputs.new)
         (table_at S.Value.order.bottom (S.meaning system.now).defs outputs.new)) }

@@ -1,16 +1,15 @@
 -- The rows that the solver keeps, one store for each node, and what the visit of a node does to them.
-use Rattle.std.specs.Prelude.{◌≡◌, ◌<◌, ◌≤◌, ◌+◌, ◌*◌, ℕ, Bool, true, false, cond, List, length, MatchBool, Vec}
+use Rattle.std.specs.Prelude.{◌≡◌, ◌<◌, ◌≤◌, ◌+◌, ◌*◌, ℕ, Bool, true, false, cond, List, length, map, MatchBool, Vec}
 use Rattle.std.specs.declared.alloc.Global.{Global}
 use Rattle.sp_lattice.specs.Lattice.{Order}
-use Rattle.sp_lattice.specs.Flat.{vector_at}
+use Rattle.sp_lattice.specs.Flat.{vector_at, IsGrid}
 use Rattle.sp_lattice.specs.System.{Meaning, Below, AllBelow, has}
 use Rattle.sp_lattice.specs.Dense.{Table, input, Partial, RaisesRow, store_of, table_of}
 use Rattle.sp_lattice.specs.Bound.{total_rank}
 
 -- a row for each node, and in it a value for each location
-pub record IsGrid {V : Type 0} (m : Meaning V) (rows : List (Vec V Global)) : Type 0 where
-  pub long : length rows ≡ m.nodes
-  pub rows_long : (n : ℕ) → n < m.nodes → length (vector_at rows n) ≡ m.locations
+abbrev pub IsStoreGrid : {V : Type 0} → Meaning V → List (Vec V Global) → Type 0
+IsStoreGrid m rows = IsGrid m.nodes (λ n. m.locations) (map (λ row. row.items) rows)
 
 -- the row has a store's value for each location
 pub record IsStore {V : Type 0} (o : Order V) (m : Meaning V) (row : List V) (store : ℕ → V) : Type 0 where
@@ -34,7 +33,7 @@ pub record Grows {V : Type 0} (o : Order V) (m : Meaning V) (table : Table V) (n
 
 -- a visit raises the node's row by the effect of its input, and says whether the row grew
 pub record Visits {V : Type 0} (o : Order V) (m : Meaning V) (before after : List (Vec V Global)) (n : ℕ) (grew : Bool) : Type 0 where
-  pub grid : IsGrid m after
+  pub grid : IsStoreGrid m after
   pub raises : RaisesRow o m (table_of o.bottom before) (table_of o.bottom after) n
   pub grown : MatchBool grew (Grows o m (table_of o.bottom before) n) (IsSettled o m (table_of o.bottom before) n)
 
@@ -52,7 +51,7 @@ pub record IsWorking {V : Type 0} (o : Order V) (m : Meaning V) (table : Table V
 -- after the visit of a node that waited, with the nodes that wait beside it before and after: those that
 -- wait anew are paid by the rise of the total rank
 pub record Works {V : Type 0} (o : Order V) (m : Meaning V) (before after : List (Vec V Global)) (rest waiting : List ℕ) : Type 0 where
-  pub grid : IsGrid m after
+  pub grid : IsStoreGrid m after
   pub working : IsWorking o m (table_of o.bottom after) waiting
   pub higher : total_rank m (table_of o.bottom before) ≤ total_rank m (table_of o.bottom after)
   pub paid : length waiting + m.nodes * total_rank m (table_of o.bottom before) ≤ length rest + m.nodes * total_rank m (table_of o.bottom after)

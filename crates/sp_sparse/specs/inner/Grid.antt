@@ -1,13 +1,12 @@
 -- The rows that the engine keeps: for each node a value for each location of its list.
 use Rattle.std.specs.Prelude.{◌≡◌, ◌<◌, ℕ, List, length, slice_index, slice_index_or}
-use Rattle.sp_lattice.specs.Flat.{row_at}
+use Rattle.sp_lattice.specs.Flat.{row_at, IsGrid}
 use Rattle.sp_lattice.specs.System.{Meaning, store_at}
 use Rattle.sp_lattice.specs.Dense.{Table}
 
 -- a row for each node, and in it a value for each location of the node's list
-pub record IsGrid {V : Type 0} (nodes : ℕ) (lists : ℕ → List ℕ) (rows : List (List V)) : Type 0 where
-  pub long : length rows ≡ nodes
-  pub rows_long : (n : ℕ) → n < nodes → length (row_at rows n) ≡ length (lists n)
+abbrev pub IsListGrid : {V : Type 0} → ℕ → (ℕ → List ℕ) → List (List V) → Type 0
+IsListGrid nodes lists rows = IsGrid nodes (λ n. length (lists n)) rows
 
 -- the table that such rows are: at each node the values at the locations of its list, and `bottom` elsewhere
 abbrev pub table_at : {V : Type 0} → V → (ℕ → List ℕ) → List (List V) → Table V

@@ -1,6 +1,6 @@
 use Rattle.std.proofs.Common.{◌<◌, ◌∙◌, sym, subst, get_or, arith}
 use Rattle.sp_lattice.specs.System.{AllBelow}
-use Rattle.sp_dense.proofs.Grids.{row_long}
+use Rattle.sp_dense.proofs.Grids.{row_long, count_long}
 use Rattle.sp_dense.proofs.Joining.{joined_one_more}
 use Rattle.sp_dense.proofs.evaluation.input_row.Goals as goal
 
@@ -23,4 +23,4 @@ loop-from-preserved g c =
     let below = subst (λ ps. AllBelow m.nodes ps) (sym c.edges_into-edges.ensures) (sys.into_below c.args.node c.requires.node) in
     let low : get_or edges c.loop-from.from-index 0 < m.nodes = below c.loop-from.from-index 0 c.loop-from-test.true in
     joined_one_more g.S.Value.Lattice.order m rows c.args.node c.loop-from.from-index 0 c.index-other.result.now edges c.loop-from.row.items c.join_passed.new.row.items
-    (omega (arith, low, c.requires.grid.long)) c.index-other.ensures c.loop-from-test.true c.loop-from.invariant c.in_ok-join_passed.ensures
+    (omega (arith, low, count_long m rows c.requires.grid)) c.index-other.ensures c.loop-from-test.true c.loop-from.invariant c.in_ok-join_passed.ensures

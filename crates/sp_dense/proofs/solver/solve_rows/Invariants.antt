@@ -1,7 +1,7 @@
 use Rattle.std.proofs.Common.{◌≡◌, ◌≤◌, ◌+◌, ◌*◌, ◌-◌, length}
 use Rattle.sp_lattice.specs.Dense.{table_of}
 use Rattle.sp_lattice.specs.Bound.{total_rank}
-use Rattle.sp_dense.specs.inner.Visit.{IsGrid, HasSuccessors, IsWorking}
+use Rattle.sp_dense.specs.inner.Visit.{IsStoreGrid, HasSuccessors, IsWorking}
 use Rattle.sp_dense.proofs.solver.solve_rows.Given as goal
 
 -- the visits so far and those that wait are paid: a visit of each node to begin with, and one of each
@@ -12,7 +12,7 @@ invariant-visits g l =
     let m = g.S.System.meaning l.system in
     let table = table_of o.bottom l.rows.items in
     record {
-      grid : IsGrid m l.rows.items;
+      grid : IsStoreGrid m l.rows.items;
       reversed : HasSuccessors m l.successors.items;
       same_nodes : l.waiting.nodes ≡ m.nodes;
       working : IsWorking o m table l.waiting.waiting;

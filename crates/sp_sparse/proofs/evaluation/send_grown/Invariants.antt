@@ -2,7 +2,7 @@ use Rattle.std.proofs.Common.{◌≡◌, ◌<◌, ℕ, true, drop, get_or}
 use Rattle.sp_lattice.specs.System.{has}
 use Rattle.sp_deps.specs.Rows.{held}
 use Rattle.sp_sparse.specs.Sparse.{IsSent}
-use Rattle.sp_sparse.specs.inner.Grid.{IsGrid, table_at}
+use Rattle.sp_sparse.specs.inner.Grid.{IsListGrid, table_at}
 use Rattle.sp_sparse.specs.inner.Engine.{IsWorking, EveryBut, IsPaid, locations_at}
 use Rattle.sp_sparse.proofs.evaluation.send_grown.Given as goal
 
@@ -15,7 +15,7 @@ invariant-places g l =
     let ins = table_at o.bottom m.uses l.inputs in
     let outs = table_at o.bottom m.defs l.outputs in
     record {
-      grid : IsGrid m.nodes m.uses l.inputs;
+      grid : IsListGrid m.nodes m.uses l.inputs;
       same_nodes : l.waiting.nodes ≡ m.nodes;
       working : IsWorking o m test (EveryBut test l.node (locations_at m l.node (drop l.place-index l.grown.items))) ins outs l.waiting.waiting;
       still : (n : ℕ) → has n l.fn.waiting.waiting ≡ true → has n l.waiting.waiting ≡ true;
@@ -31,7 +31,7 @@ invariant-targets g l =
     let ins = table_at o.bottom m.uses l.inputs in
     let outs = table_at o.bottom m.defs l.outputs in
     record {
-      grid : IsGrid m.nodes m.uses l.inputs;
+      grid : IsListGrid m.nodes m.uses l.inputs;
       same_nodes : l.waiting.nodes ≡ m.nodes;
       working : IsWorking o m test (EveryBut test l.node (locations_at m l.node (drop l.place-index l.grown.items))) ins outs l.waiting.waiting;
       reached : (k : ℕ) (d : ℕ × ℕ) → k < l.target-index → IsSent o ins outs l.node (get_or (m.defs l.node) (get_or l.grown.items l.place-index 0) 0) (get_or l.targets k d).0;

@@ -2,7 +2,7 @@ use Rattle.std.proofs.Common.{◌≡◌, ◌<◌, ◌≤◌, ◌+◌, ◌-◌, �
 use Rattle.sp_lattice.specs.System.{has}
 use Rattle.sp_lattice.specs.Bound.{all_evaluations}
 use Rattle.sp_deps.specs.Rows.{held}
-use Rattle.sp_sparse.specs.inner.Grid.{IsGrid, table_at}
+use Rattle.sp_sparse.specs.inner.Grid.{IsListGrid, table_at}
 use Rattle.sp_sparse.specs.inner.Engine.{IsWorking, Every, IsPaid}
 use Rattle.sp_sparse.proofs.Turns.{counted}
 use Rattle.sp_sparse.proofs.solver.solve.Given as goal
@@ -15,8 +15,8 @@ invariant-turns g l =
     let ins = table_at o.bottom m.uses l.inputs in
     let outs = table_at o.bottom m.defs l.outputs in
     record {
-      in_grid : IsGrid m.nodes m.uses l.inputs;
-      out_grid : IsGrid m.nodes m.defs l.outputs;
+      in_grid : IsListGrid m.nodes m.uses l.inputs;
+      out_grid : IsListGrid m.nodes m.defs l.outputs;
       room : (n : ℕ) → n < m.nodes → length (m.defs n) ≤ vec_len l.row;
       same_nodes : l.waiting.nodes ≡ m.nodes;
       long : length l.evaluations.items ≡ m.nodes;
