@@ -1,0 +1,10 @@
+use Rattle.std.proofs.Common.{◌≡◌, [], map, drop}
+use Rattle.sp_types.specs.Programs.{function_of}
+use Rattle.sp_joining.specs.Views.{joined_of}
+use Rattle.sp_joining.specs.Functions.{functions_joined}
+use Rattle.sp_joining.proofs.functions.functions_joined.Given as goal
+
+abbrev pub invariant-functions : goal.invariant-functions
+invariant-functions l =
+    functions_joined l.structs l.unit (joined_of l.joined) l.numbers.items (map function_of (drop l.i l.functions))
+    ≡ functions_joined l.structs l.unit (joined_of l.initial.joined) [] (map function_of l.functions)

@@ -1,0 +1,10 @@
+use Rattle.std.proofs.Common.{◌≡◌, [], map, drop}
+use Rattle.sp_types.specs.Programs.{object_of}
+use Rattle.sp_joining.specs.Views.{joined_of}
+use Rattle.sp_joining.specs.Objects.{objects_joined}
+use Rattle.sp_joining.proofs.objects.all_joined.Given as goal
+
+abbrev pub invariant-objects : goal.invariant-objects
+invariant-objects l =
+    objects_joined l.structs l.formals.keys l.unit (joined_of l.joined) l.numbers.items (map object_of (drop l.i l.objects))
+    ≡ objects_joined l.structs l.formals.keys l.unit (joined_of l.initial.joined) [] (map object_of l.objects)

@@ -1,0 +1,10 @@
+use Rattle.std.proofs.Common.{◌≡◌, [], map, drop}
+use Rattle.sp_units.specs.Units.{checked_unit_of}
+use Rattle.sp_joining.specs.Views.{joined_of, numbers_of}
+use Rattle.sp_joining.specs.Units.{units_joined}
+use Rattle.sp_joining.proofs.units.join_units.Given as goal
+
+abbrev pub invariant-units : goal.invariant-units
+invariant-units l =
+    units_joined (map (λ ns. ns.items) l.structs) (joined_of l.joined) (map numbers_of l.done.items) (map checked_unit_of (drop l.i l.units))
+    ≡ units_joined (map (λ ns. ns.items) l.structs) (joined_of l.initial.joined) [] (map checked_unit_of l.units)

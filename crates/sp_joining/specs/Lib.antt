@@ -1,0 +1,5 @@
+pub mod Entries
+pub mod Functions
+pub mod Objects
+pub mod Units
+pub mod Views

@@ -1,0 +1,229 @@
+//! Objects of units as those of their program.
+ghost use Rattle.std.specs.Prelude.{◌≡◌, ℕ, [], IfOk, map, nat_eq};
+ghost use Rattle.std.specs.List.{list_any};
+ghost use Rattle.sp_types.specs.Programs.{object_of, function_of};
+ghost use Rattle.sp_operands.specs.Answers.{Answers, AnswersIn};
+ghost use Rattle.sp_joining.specs.Views.{joined_of, object_entry_of};
+ghost use Rattle.sp_joining.specs.Objects as rules;
+
+use crate::entries::{ObjectEntry, is_external};
+use crate::joined::{Joined, add_object, link, linked, object, set_object};
+use indexmap::IndexSet;
+use sp_env::Entity;
+use sp_names::composite;
+use sp_operands::{CheckError, fault};
+use sp_renaming::renamed_type;
+use sp_tree::FaultKind;
+use sp_types::{FunctionDef, ObjectDef, Storage, compatible};
+use std::alloc::{AllocError, Global};
+
+/// Whether a declaration defines its object (C90 6.7.2).
+fn is_defined(storage: Storage) -> bool
+    ensures { result ≡ rules.is_defined storage }
+{
+    matches!(storage, Storage::Static)
+}
+
+/// Two declarations of one object.
+fn composed<'a>(
+    alloc: Global,
+    old: &ObjectEntry<'a>,
+    new: &ObjectEntry<'a>,
+) -> Result<ObjectEntry<'a>, AllocError>
+    ensures { IfOk result (λ e. object_entry_of e ≡
+        rules.object_composed (object_entry_of old.now) (object_entry_of new.now)) }
+{
+    let of = composite(alloc, &old.of, &new.of)?;
+    let told = if is_defined(new.source.storage) {
+        new
+    } else {
+        old
+    };
+    Ok(ObjectEntry {
+        of,
+        source: told.source,
+        unit: told.unit,
+    })
+}
+
+/// Two declarations of one object, which have compatible types, and of which one defines it.
+fn met<'a>(
+    alloc: Global,
+    old: &ObjectEntry<'a>,
+    new: &ObjectEntry<'a>,
+) -> Result<ObjectEntry<'a>, CheckError>
+    ensures { Answers object_entry_of
+        (rules.object_met (object_entry_of old.now) (object_entry_of new.now)) result }
+{
+    if !compatible(&old.of, &new.of) {
+        return fault(FaultKind::F24, new.source.place);
+    }
+    if is_defined(old.source.storage) && is_defined(new.source.storage) {
+        return fault(FaultKind::F23, new.source.place);
+    }
+    Ok(composed(alloc, old, new)?)
+}
+
+/// A declaration of the object of a number.
+fn object_again<'a>(
+    alloc: Global,
+    joined: &mut Joined<'a>,
+    number: u32,
+    new: &ObjectEntry<'a>,
+) -> Result<u32, CheckError>
+    ensures { AnswersIn (λ k. k)
+        (rules.object_again (joined_of joined.old) number (object_entry_of new.now))
+        (joined_of joined.new) result }
+{
+    let Some(old) = object(joined, number) else {
+        return fault(FaultKind::F24, new.source.place);
+    };
+    let entry = met(alloc, old, new)?;
+    set_object(joined, number, entry);
+    Ok(number)
+}
+
+/// The first declaration of an external name.
+fn object_first<'a>(joined: &mut Joined<'a>, new: ObjectEntry<'a>) -> Result<u32, CheckError>
+    ensures { AnswersIn (λ k. k)
+        (rules.object_first (joined_of joined.old) (object_entry_of new.entry))
+        (joined_of joined.new) result }
+{
+    let name = new.source.name;
+    let number = add_object(joined, new)?;
+    link(joined, name, Entity::Object(number))?;
+    Ok(number)
+}
+
+/// A declaration that a unit has of an object: the object's number in the program.
+fn object_joined<'a>(
+    alloc: Global,
+    joined: &mut Joined<'a>,
+    new: ObjectEntry<'a>,
+) -> Result<u32, CheckError>
+    ensures { AnswersIn (λ k. k)
+        (rules.object_joined (joined_of joined.old) (object_entry_of new.entry))
+        (joined_of joined.new) result }
+{
+    if !is_external(new.source.linkage) {
+        return Ok(add_object(joined, new)?);
+    }
+    match linked(joined, new.source.name) {
+        None => object_first(joined, new),
+        Some(Entity::Object(number)) => object_again(alloc, joined, number, &new),
+        Some(Entity::Function(_)) => fault(FaultKind::F24, new.source.place),
+    }
+}
+
+/// The objects of the parameters of functions.
+fn formals_of(alloc: Global, functions: &[FunctionDef]) -> Result<Vec<u32>, AllocError>
+    ensures { IfOk result (λ ks. ks.items ≡ rules.formals_of (map function_of functions.now)) }
+{
+    let mut formals = Vec::new(alloc);
+    for function in functions {
+        formals.extend_from_slice(&function.formals)?;
+    }
+    Ok(formals)
+}
+
+/// The set of these numbers.
+fn set_of(alloc: Global, numbers: &[u32]) -> Result<IndexSet<usize>, AllocError>
+    ensures { IfOk result (λ s. (k : ℕ) →
+        list_any (nat_eq k) s.keys ≡ list_any (nat_eq k) numbers.now) }
+{
+    let mut set = IndexSet::new(alloc);
+    for number in numbers {
+        set.insert(*number as usize)?;
+    }
+    Ok(set)
+}
+
+/// Whether an object is a parameter of a prototype (C90 6.5.4.3).
+fn is_dropped(formals: &IndexSet<usize>, number: usize, storage: Storage) -> bool
+    ensures { result ≡ rules.is_dropped formals.now.keys number storage }
+{
+    matches!(storage, Storage::Formal) && !formals.contains(&number)
+}
+
+/// An object of a unit as an entry of the program.
+fn object_entry<'a>(
+    alloc: Global,
+    structs: &[u32],
+    unit: u32,
+    object: &'a ObjectDef,
+) -> Result<ObjectEntry<'a>, AllocError>
+    ensures { IfOk result (λ e. object_entry_of e ≡
+        rules.object_entry structs.now unit (object_of object.now)) }
+{
+    let of = renamed_type(alloc, &object.of, structs)?;
+    Ok(ObjectEntry {
+        of,
+        source: object,
+        unit,
+    })
+}
+
+/// An object of a unit, behind the numbers of those before it.
+fn next_object<'a>(
+    alloc: Global,
+    joined: &mut Joined<'a>,
+    structs: &[u32],
+    unit: u32,
+    mut numbers: Vec<u32>,
+    dropped: bool,
+    object: &'a ObjectDef,
+) -> Result<Vec<u32>, CheckError>
+    ensures { AnswersIn (λ ns. ns.items)
+        (rules.next_object structs.now unit (joined_of joined.old) numbers.items dropped
+        (object_of object.now))
+        (joined_of joined.new) result }
+{
+    if dropped {
+        numbers.push(0)?;
+        return Ok(numbers);
+    }
+    let entry = object_entry(alloc, structs, unit, object)?;
+    let number = object_joined(alloc, joined, entry)?;
+    numbers.push(number)?;
+    Ok(numbers)
+}
+
+/// The objects of a unit, whose functions have these formals: their numbers in the program.
+fn all_joined<'a>(
+    alloc: Global,
+    joined: &mut Joined<'a>,
+    structs: &[u32],
+    unit: u32,
+    formals: &IndexSet<usize>,
+    objects: &'a [ObjectDef],
+) -> Result<Vec<u32>, CheckError>
+    ensures { AnswersIn (λ ns. ns.items)
+        (rules.objects_joined structs.now formals.now.keys unit (joined_of joined.old) []
+        (map object_of objects.now))
+        (joined_of joined.new) result }
+{
+    let mut numbers = Vec::new(alloc);
+    'objects: for (i, object) in objects.iter().enumerate() {
+        let dropped = is_dropped(formals, numbers.len(), object.storage);
+        numbers = next_object(alloc, joined, structs, unit, numbers, dropped, object)?;
+    }
+    Ok(numbers)
+}
+
+/// The objects of a unit: their numbers in the program.
+pub(crate) fn objects_joined<'a>(
+    alloc: Global,
+    joined: &mut Joined<'a>,
+    structs: &[u32],
+    unit: u32,
+    objects: &'a [ObjectDef],
+    functions: &[FunctionDef],
+) -> Result<Vec<u32>, CheckError>
+    ensures { AnswersIn (λ ns. ns.items)
+        (rules.objects_joined structs.now (rules.formals_of (map function_of functions.now)) unit
+        (joined_of joined.old) [] (map object_of objects.now))
+        (joined_of joined.new) result }
+{
+    let formals = set_of(alloc, &formals_of(alloc, functions)?)?;
+    all_joined(alloc, joined, structs, unit, &formals, objects)
+}

@@ -1,0 +1,4 @@
+pub mod Lengths
+pub mod Members
+pub mod Parts
+pub mod Walk

@@ -1,0 +1,4 @@
+pub mod Agreement
+pub mod Depths
+pub mod Inner
+pub mod Known

@@ -1,0 +1,225 @@
+-- Structs that agree have the same keys, and what is found under a key.
+use Rattle.std.proofs.Common.{◌≡◌, ◌≢◌, ℕ, zero, suc, ◌+◌, ◌*◌, ◌%◌, ◌^◌, Bool, true, false, ◌&&◌, ◌==◌, filter, cond, if◌then◌else◌, List, [], ◌∷◌, ◌++◌, Option, Some, None, is_some, refl, ap, sym, subst, ◌∙◌, true≢false, eqb-true, eq-eqb}
+use mathlib.Core.Bool.{beq}
+use Rattle.std.specs.Option.{option_eq}
+use Rattle.sp_types.specs.Types.{CType, Struct}
+use Rattle.sp_types.specs.Compatible.{same_flag}
+use Rattle.sp_struct_agree.specs.Agreement.{compatible_by, members_agree, contents_agree, same_head}
+use Rattle.sp_struct_agree.specs.Depths.{struct_at, found_agree, agrees_within, Agree}
+use Rattle.sp_struct_agree.specs.Inner.{same_entity}
+use Rattle.sp_struct_match.specs.Matched.{has_members, is_complete, IsFirst, Joins, stands}
+use Rattle.std.specs.Prelude.{Vec}
+use Rattle.std.specs.declared.alloc.Global.{Global}
+use Rattle.indexmap.specs.IndexMap.{get}
+use Rattle.sp_struct_match.specs.Groups.{Key, items_of, same_key, name_mark, members_mark, full_key, head_key, group, AreStanding, AreHeads}
+use Rattle.sp_struct_match.specs.declared.groups.Groups.{Groups}
+use Rattle.sp_struct_match.proofs.Firsts.{first_filtered, first_of_none}
+use Rattle.sp_struct_match.proofs.Tests.{and_left, and_right, both}
+
+-- ---- keys
+
+tag_is : (a b : Option ℕ) → option_eq (λ n m. n == m) a b ≡ true → a ≡ b
+tag_is None None h = refl
+tag_is (Some n) (Some m) h = ap Some (eqb-true n m h)
+tag_is None (Some m) h = absurd (true≢false (sym h))
+tag_is (Some n) None h = absurd (true≢false (sym h))
+
+tag_self : (a : Option ℕ) → option_eq (λ n m. n == m) a a ≡ true
+tag_self None = refl
+tag_self (Some n) = eq-eqb n n refl
+
+flag_is : (a b : Bool) → same_flag a b ≡ true → a ≡ b
+flag_is true b h = sym h
+flag_is false true h = absurd (true≢false (sym h))
+flag_is false false h = refl
+
+flag_self : (a : Bool) → same_flag a a ≡ true
+flag_self true = refl
+flag_self false = refl
+
+kind_is : (a b : Bool) → beq a b ≡ true → a ≡ b
+kind_is true true h = refl
+kind_is true false h = absurd (true≢false (sym h))
+kind_is false true h = absurd (true≢false (sym h))
+kind_is false false h = refl
+
+kind_self : (a : Bool) → beq a a ≡ true
+kind_self true = refl
+kind_self false = refl
+
+key_self : (k : Key) → same_key k k ≡ true
+key_self k = both (both (tag_self k.0) (kind_self k.1)) (eq-eqb k.2 k.2 refl)
+
+key_is : (k j : Key) → same_key k j ≡ true → k ≡ j
+key_is k j h =
+    let front : (option_eq (λ n m. n == m) k.0 j.0 && beq k.1 j.1) ≡ true = and_left (option_eq (λ n m. n == m) k.0 j.0 && beq k.1 j.1) (k.2 == j.2) h in
+    let a : k.0 ≡ j.0 = tag_is k.0 j.0 (and_left (option_eq (λ n m. n == m) k.0 j.0) (beq k.1 j.1) front) in
+    let b : k.1 ≡ j.1 = kind_is k.1 j.1 (and_right (option_eq (λ n m. n == m) k.0 j.0) (beq k.1 j.1) front) in
+    let c : k.2 ≡ j.2 = eqb-true k.2 j.2 (and_right (option_eq (λ n m. n == m) k.0 j.0 && beq k.1 j.1) (k.2 == j.2) h) in
+    λ i. (a i, b i, c i)
+
+-- a list of a key with one more
+pub group_grown : (old new : Groups) (key : Key) (item : (ℕ × ℕ) × (ℕ × ℕ)) (v : Vec ((ℕ × ℕ) × (ℕ × ℕ)) Global)
+    → v.items ≡ group old key ++ item ∷ []
+    → ((q : Key) → get same_key new.lists q ≡ cond (same_key key q) (Some v) (get same_key old.lists q))
+    → (k : Key) → group new k ≡ (if same_key key k then group old k ++ item ∷ [] else group old k)
+group_grown old new key item v is more k = ap items_of (more k) ∙ by (same_key key k) refl
+  where
+    by : (b : Bool) → same_key key k ≡ b → items_of (cond b (Some v) (get same_key old.lists k)) ≡ (if b then group old k ++ item ∷ [] else group old k)
+    by true e = is ∙ ap (λ q. group old q ++ item ∷ []) (key_is key k e)
+    by false e = refl
+
+twice : {V : Type 0} (b : Bool) (x y z : V) → cond b x (cond b y z) ≡ cond b x z
+twice true x y z = refl
+twice false x y z = refl
+
+-- a list of a key that is taken out and put back with one more
+pub group_put : (old out new : Groups) (key : Key) (item : (ℕ × ℕ) × (ℕ × ℕ)) (v : Vec ((ℕ × ℕ) × (ℕ × ℕ)) Global)
+    → v.items ≡ group old key ++ item ∷ []
+    → ((q : Key) → get same_key out.lists q ≡ cond (same_key key q) None (get same_key old.lists q))
+    → ((q : Key) → get same_key new.lists q ≡ cond (same_key key q) (Some v) (get same_key out.lists q))
+    → (k : Key) → group new k ≡ (if same_key key k then group old k ++ item ∷ [] else group old k)
+group_put old out new key item v is less more =
+    group_grown old new key item v is (λ q. more q ∙ ap (λ o. cond (same_key key q) (Some v) o) (less q) ∙ twice (same_key key q) (Some v) None (get same_key old.lists q))
+
+-- ---- of structs that agree
+
+marks : (agree : ℕ → ℕ → Bool) (ms ks : List (ℕ × CType)) (h : ℕ) → members_agree agree ms ks ≡ true → name_mark h ms ≡ name_mark h ks
+marks agree [] [] h g = refl
+marks agree [] (k ∷ ks) h g = absurd (true≢false (sym g))
+marks agree (m ∷ ms) [] h g = absurd (true≢false (sym g))
+marks agree (m ∷ ms) (k ∷ ks) h g =
+    let front : (m.0 == k.0 && compatible_by agree m.1 k.1) ≡ true = and_left (m.0 == k.0 && compatible_by agree m.1 k.1) (members_agree agree ms ks) g in
+    let name : m.0 ≡ k.0 = eqb-true m.0 k.0 (and_left (m.0 == k.0) (compatible_by agree m.1 k.1) front) in
+    marks agree ms ks (((h * 31) % 2 ^ 32 + m.0) % 2 ^ 32) (and_right (m.0 == k.0 && compatible_by agree m.1 k.1) (members_agree agree ms ks) g)
+    ∙ ap (λ n. name_mark (((h * 31) % 2 ^ 32 + n) % 2 ^ 32) ks) name
+
+contents_marks : (agree : ℕ → ℕ → Bool) (ms ks : Option (List (ℕ × CType))) → is_some ms ≡ true → is_some ks ≡ true → contents_agree agree ms ks ≡ true → members_mark ms ≡ members_mark ks
+contents_marks agree (Some ms) (Some ks) p q g = marks agree ms ks 0 g
+contents_marks agree None ks p q g = absurd (true≢false (sym p))
+contents_marks agree (Some ms) None p q g = absurd (true≢false (sym q))
+
+tags : (s t : Struct) → same_head s t ≡ true → s.tag ≡ t.tag
+tags s t h = tag_is s.tag t.tag (and_left (option_eq (λ n m. n == m) s.tag t.tag) (same_flag s.union t.union) h)
+
+kinds : (s t : Struct) → same_head s t ≡ true → s.union ≡ t.union
+kinds s t h = flag_is s.union t.union (and_right (option_eq (λ n m. n == m) s.tag t.tag) (same_flag s.union t.union) h)
+
+full_keys : (agree : ℕ → ℕ → Bool) (s t : Option Struct) → has_members s ≡ true → has_members t ≡ true → found_agree agree s t ≡ true → full_key t ≡ full_key s
+full_keys agree None t p q g = absurd (true≢false (sym p))
+full_keys agree (Some s) None p q g = absurd (true≢false (sym q))
+full_keys agree (Some s) (Some t) p q g =
+    let h : same_head s t ≡ true = and_left (same_head s t) (contents_agree agree s.members t.members) g in
+    let a : t.tag ≡ s.tag = sym (tags s t h) in
+    let b : t.union ≡ s.union = sym (kinds s t h) in
+    let c : members_mark t.members ≡ members_mark s.members = sym (contents_marks agree s.members t.members p q (and_right (same_head s t) (contents_agree agree s.members t.members) g)) in
+    λ i. (a i, b i, c i)
+
+head_keys : (agree : ℕ → ℕ → Bool) (s t : Option Struct) → found_agree agree s t ≡ true → head_key t ≡ head_key s
+head_keys agree None t g = absurd (true≢false (sym g))
+head_keys agree (Some s) None g = absurd (true≢false (sym g))
+head_keys agree (Some s) (Some t) g =
+    let h : same_head s t ≡ true = and_left (same_head s t) (contents_agree agree s.members t.members) g in
+    let a : t.tag ≡ s.tag = sym (tags s t h) in
+    let b : t.union ≡ s.union = sym (kinds s t h) in
+    λ i. (a i, b i, 0)
+
+-- ---- one without members
+
+contents_open : (agree : ℕ → ℕ → Bool) (ms ks : Option (List (ℕ × CType))) → is_some ks ≡ false → contents_agree agree ms ks ≡ true
+contents_open agree None ks h = refl
+contents_open agree (Some ms) None h = refl
+contents_open agree (Some ms) (Some ks) h = absurd (true≢false h)
+
+heads_open : (s t : Struct) → same_key (s.tag, s.union, 0) (t.tag, t.union, 0) ≡ true → same_head s t ≡ true
+heads_open s t h =
+    let same : (s.tag, s.union, 0) ≡ (t.tag, t.union, 0) = key_is (s.tag, s.union, 0) (t.tag, t.union, 0) h in
+    let a : s.tag ≡ t.tag = ap (λ (k : Key). k.0) same in
+    let b : s.union ≡ t.union = ap (λ (k : Key). k.1) same in
+    both (subst (λ z. option_eq (λ n m. n == m) s.tag z ≡ true) a (tag_self s.tag)) (subst (λ z. same_flag s.union z ≡ true) b (flag_self s.union))
+
+open_found : (agree : ℕ → ℕ → Bool) (s t : Option Struct) → is_some t ≡ true → has_members t ≡ false → same_key (head_key s) (head_key t) ≡ true → found_agree agree s t ≡ true
+open_found agree s None p q h = absurd (true≢false (sym p))
+open_found agree None (Some t) p q h = absurd (true≢false (sym (and_right (option_eq (λ n m. n == m) None t.tag && beq false t.union) (1 == 0) h)))
+open_found agree (Some s) (Some t) p q h = both (heads_open s t h) (contents_open agree s.members t.members q)
+
+open_agrees : (us : List (List Struct)) (x y : ℕ × ℕ) → is_some (struct_at us y) ≡ true → is_complete us y ≡ false → same_key (head_key (struct_at us x)) (head_key (struct_at us y)) ≡ true → Agree us x y
+open_agrees us x y p q h zero = refl
+open_agrees us x y p q h (suc n) = open_found (λ k j. agrees_within n us (x.0, k) (y.0, j)) (struct_at us x) (struct_at us y) p q h
+
+absent_found : (agree : ℕ → ℕ → Bool) (s t : Option Struct) → is_some t ≡ false → found_agree agree s t ≡ true → ⊥
+absent_found agree None t p g = true≢false (sym g)
+absent_found agree (Some s) None p g = true≢false (sym g)
+absent_found agree (Some s) (Some t) p g = true≢false p
+
+-- to one level
+abbrev level : List (List Struct) → ℕ × ℕ → ℕ × ℕ → ℕ → ℕ → Bool
+level us x y k j = agrees_within zero us (x.0, k) (y.0, j)
+
+-- ---- what is found
+
+module _ (us : List (List Struct)) (of : ℕ × ℕ) (ps : List ((ℕ × ℕ) × (ℕ × ℕ))) (g : Groups) where
+  pub standing_first : (r : Option ((ℕ × ℕ) × (ℕ × ℕ))) → is_complete us of ≡ true → AreStanding us ps g
+      → IsFirst (λ p. (p.0.0 ≢ of.0) × Agree us p.0 of) (group g (full_key (struct_at us of))) r → IsFirst (Joins us of) ps r
+  standing_first r complete standing h =
+      first_filtered (λ p. (p.0.0 ≢ of.0) × Agree us p.0 of) (Joins us of)
+      (λ p. stands us p && same_key (full_key (struct_at us p.0)) (full_key (struct_at us of)))
+      (λ p t j. (j.0, j.1, λ c. and_left (stands us p) (same_key (full_key (struct_at us p.0)) (full_key (struct_at us of))) t))
+      (λ p q.
+      let s : stands us p ≡ true = q.2 complete in
+      let e : full_key (struct_at us of) ≡ full_key (struct_at us p.0) = full_keys (level us p.0 of) (struct_at us p.0) (struct_at us of) (and_left (is_complete us p.0) (same_entity p.1 p.0) s) complete (q.1 (suc zero)) in
+      (both s (subst (λ k. same_key k (full_key (struct_at us of)) ≡ true) e (key_self (full_key (struct_at us of)))), (q.0, q.1)))
+      ps r
+      (subst (λ xs. IsFirst (λ p. (p.0.0 ≢ of.0) × Agree us p.0 of) xs r) (standing (full_key (struct_at us of))) h)
+
+  pub heads_first : (r : Option ((ℕ × ℕ) × (ℕ × ℕ))) → is_some (struct_at us of) ≡ true → is_complete us of ≡ false → AreHeads us ps g
+      → IsFirst (λ p. p.0.0 ≢ of.0) (group g (head_key (struct_at us of))) r → IsFirst (Joins us of) ps r
+  heads_first r there bare heads h =
+      first_filtered (λ p. p.0.0 ≢ of.0) (Joins us of)
+      (λ p. same_key (head_key (struct_at us p.0)) (head_key (struct_at us of)))
+      (λ p t j. (j, open_agrees us p.0 of there bare t, λ c. absurd (true≢false (sym c ∙ bare))))
+      (λ p q.
+      let e : head_key (struct_at us of) ≡ head_key (struct_at us p.0) = head_keys (level us p.0 of) (struct_at us p.0) (struct_at us of) (q.1 (suc zero)) in
+      (subst (λ k. same_key k (head_key (struct_at us of)) ≡ true) e (key_self (head_key (struct_at us of))), q.0))
+      ps r
+      (subst (λ xs. IsFirst (λ p. p.0.0 ≢ of.0) xs r) (heads (head_key (struct_at us of))) h)
+
+pub absent_first : (us : List (List Struct)) (of : ℕ × ℕ) (ps : List ((ℕ × ℕ) × (ℕ × ℕ))) → is_some (struct_at us of) ≡ false → IsFirst (Joins us of) ps None
+absent_first us of ps absent = first_of_none (Joins us of) (λ p q. absent_found (level us p.0 of) (struct_at us p.0) (struct_at us of) absent (q.1 (suc zero))) ps
+
+-- ---- one more
+
+filter_pushed : {A : Type 0} (test : A → Bool) (xs : List A) (x : A) → filter test (xs ++ x ∷ []) ≡ (if test x then filter test xs ++ x ∷ [] else filter test xs)
+filter_pushed test [] x = refl
+filter_pushed test (y ∷ ys) x = by (test y) (test x) (filter_pushed test ys x)
+  where
+    by : (a b : Bool) → filter test (ys ++ x ∷ []) ≡ (if b then filter test ys ++ x ∷ [] else filter test ys)
+        → cond a (y ∷ filter test (ys ++ x ∷ [])) (filter test (ys ++ x ∷ [])) ≡ (if b then cond a (y ∷ filter test ys) (filter test ys) ++ x ∷ [] else cond a (y ∷ filter test ys) (filter test ys))
+    by true true e = ap (λ zs. y ∷ zs) e
+    by true false e = ap (λ zs. y ∷ zs) e
+    by false true e = e
+    by false false e = e
+
+module _ (us : List (List Struct)) (p : (ℕ × ℕ) × (ℕ × ℕ)) (old new : Groups) where
+  pub standing_more : stands us p ≡ true
+      → ((k : Key) → group new k ≡ (if same_key (full_key (struct_at us p.0)) k then group old k ++ p ∷ [] else group old k))
+      → (ps : List ((ℕ × ℕ) × (ℕ × ℕ))) → AreStanding us ps old → AreStanding us (ps ++ p ∷ []) new
+  standing_more s new_is ps standing k =
+      new_is k
+      ∙ ap (λ xs. if same_key (full_key (struct_at us p.0)) k then xs ++ p ∷ [] else xs) (standing k)
+      ∙ ap (λ b. if b && same_key (full_key (struct_at us p.0)) k then filter (λ p. stands us p && same_key (full_key (struct_at us p.0)) k) ps ++ p ∷ [] else filter (λ p. stands us p && same_key (full_key (struct_at us p.0)) k) ps) (sym s)
+      ∙ sym (filter_pushed (λ p. stands us p && same_key (full_key (struct_at us p.0)) k) ps p)
+
+  pub heads_more :
+      ((k : Key) → group new k ≡ (if same_key (head_key (struct_at us p.0)) k then group old k ++ p ∷ [] else group old k))
+      → (ps : List ((ℕ × ℕ) × (ℕ × ℕ))) → AreHeads us ps old → AreHeads us (ps ++ p ∷ []) new
+  heads_more new_is ps heads k =
+      new_is k
+      ∙ ap (λ xs. if same_key (head_key (struct_at us p.0)) k then xs ++ p ∷ [] else xs) (heads k)
+      ∙ sym (filter_pushed (λ p. same_key (head_key (struct_at us p.0)) k) ps p)
+
+pub standing_same : (us : List (List Struct)) (p : (ℕ × ℕ) × (ℕ × ℕ)) (g : Groups) → stands us p ≡ false → (ps : List ((ℕ × ℕ) × (ℕ × ℕ))) → AreStanding us ps g → AreStanding us (ps ++ p ∷ []) g
+standing_same us p g s ps standing k =
+    standing k
+    ∙ ap (λ b. if b && same_key (full_key (struct_at us p.0)) k then filter (λ p. stands us p && same_key (full_key (struct_at us p.0)) k) ps ++ p ∷ [] else filter (λ p. stands us p && same_key (full_key (struct_at us p.0)) k) ps) (sym s)
+    ∙ sym (filter_pushed (λ p. stands us p && same_key (full_key (struct_at us p.0)) k) ps p)

@@ -1,0 +1,53 @@
+-- How the candidates for a struct are looked up: by what two structs that agree have in common.
+use Rattle.std.specs.Prelude.{◌≡◌, ℕ, ◌+◌, ◌*◌, ◌%◌, ◌^◌, Bool, false, ◌&&◌, ◌==◌, List, [], ◌∷◌, filter, Option, Some, None, Vec}
+use mathlib.Core.Bool.{beq}
+use Rattle.std.specs.Option.{option_eq}
+use Rattle.std.specs.declared.alloc.Global.{Global}
+use Rattle.indexmap.specs.IndexMap.{get}
+use Rattle.sp_types.specs.Types.{CType, Struct}
+use Rattle.sp_struct_agree.specs.Depths.{struct_at}
+use Rattle.sp_struct_match.specs.Matched.{stands}
+use Rattle.sp_struct_match.specs.declared.groups.Groups.{Groups}
+
+-- the tag, whether it is a union, and a mark of the names of its members
+abbrev pub Key : Type 0
+Key = Option ℕ × Bool × ℕ
+
+abbrev pub same_key : Key → Key → Bool
+same_key k j = option_eq (λ n m. n == m) k.0 j.0 && beq k.1 j.1 && k.2 == j.2
+
+-- a mark of these names, behind the mark of those before
+abbrev pub name_mark : ℕ → List (ℕ × CType) → ℕ
+name_mark h [] = h
+name_mark h (m ∷ ms) = name_mark (((h * 31) % 2 ^ 32 + m.0) % 2 ^ 32) ms
+
+abbrev pub members_mark : Option (List (ℕ × CType)) → ℕ
+members_mark None = 0
+members_mark (Some ms) = name_mark 0 ms
+
+-- by all three, for structs with members
+abbrev pub full_key : Option Struct → Key
+full_key None = (None, false, 0)
+full_key (Some s) = (s.tag, s.union, members_mark s.members)
+
+-- by the first two
+abbrev pub head_key : Option Struct → Key
+head_key None = (None, false, 1)
+head_key (Some s) = (s.tag, s.union, 0)
+
+abbrev pub items_of : Option (Vec ((ℕ × ℕ) × (ℕ × ℕ)) Global) → List ((ℕ × ℕ) × (ℕ × ℕ))
+items_of None = []
+items_of (Some v) = v.items
+
+-- the pairs that are there under a key
+abbrev pub group : Groups → Key → List ((ℕ × ℕ) × (ℕ × ℕ))
+group g k = items_of (get same_key g.lists k)
+
+-- those of a list that stand for themselves and have members, by all that two of them have in common
+abbrev pub AreStanding : List (List Struct) → List ((ℕ × ℕ) × (ℕ × ℕ)) → Groups → Type 0
+AreStanding us ps g = (k : Key) →
+    group g k ≡ filter (λ p. stands us p && same_key (full_key (struct_at us p.0)) k) ps
+
+-- all of a list, by tag and kind
+abbrev pub AreHeads : List (List Struct) → List ((ℕ × ℕ) × (ℕ × ℕ)) → Groups → Type 0
+AreHeads us ps g = (k : Key) → group g k ≡ filter (λ p. same_key (head_key (struct_at us p.0)) k) ps
