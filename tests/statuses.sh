@@ -44,9 +44,9 @@ check '16,384 bytes' 1 "$report" ./sparrow analyse "$room/16384.c"
 refused="$room/16385.c"$':1:1: refused N0: form not built yet\n'
 check '16,385 bytes' 2 "$refused" ./sparrow analyse "$room/16385.c"
 
-# A text may have 2,000,000 tokens beside its end.
+# A text may have 2,000,000 tokens beside its end. These declare nothing, and no `main`.
 head -c 2000000 /dev/zero | tr '\0' ';' >"$room/tokens.c"
-check '2,000,000 tokens' 2 "$room/tokens.c"$':1:1: refused N0: form not built yet\n' ./sparrow analyse "$room/tokens.c"
+check '2,000,000 tokens' 2 "$room/tokens.c"$':1:1: refused F25: no main\n' ./sparrow analyse "$room/tokens.c"
 printf ';' >>"$room/tokens.c"
 check '2,000,001 tokens' 2 "$room/tokens.c"$':1:2000001: refused M1: tokens past 2000000\n' ./sparrow analyse "$room/tokens.c"
 

@@ -5,9 +5,6 @@ use Rattle.sp_tree.specs.declared.fault.Fault.{Fault}
 use Rattle.sp_tree.specs.declared.token.Token.{Token}
 use Rattle.sp_lexer.specs.Scan.{start}
 use Rattle.sp_lexer.specs.Answers.{IsOnlyAnswer}
-use Rattle.sp_syntax.specs.Syntax.{External}
-use Rattle.sp_c_units.specs.Answers.{IsUnit}
-use Rattle.sp_decl_parser.specs.Parsing.{IsUnitRefused}
 use Rattle.sp_tree.specs.Faults.{code_of, text_of}
 use Rattle.sp_tree.specs.declared.fault.FaultKind.{FaultKind}
 use Rattle.sp_tree.specs.declared.fault.FaultKind.TheVariants.{Unbuilt, M7, M8}
@@ -15,6 +12,7 @@ use Rattle.sp_small.specs.Syntax.{IsOutside}
 use Rattle.sp_scalars.specs.declared.alarms.Alarm.{Alarm}
 use Rattle.sp_scalars.specs.Equations.{HasAlarms}
 use Rattle.sp_scalars.specs.Outcomes.{HasSlots, most_slots}
+use Rattle.sparrow.specs.Judgement.{Judges, file_begin}
 use Rattle.sparrow.specs.Report.{Lists}
 use Rattle.sparrow.specs.declared.command.Status.{Status}
 use Rattle.sparrow.specs.declared.command.Status.TheVariants.{Clean, Alarms, Refused, Usage, ReadFault, WriteFault, NoMemory}
@@ -43,28 +41,25 @@ max_text = 16777216
 abbrev pub max_tokens : ℕ
 max_tokens = 2000000
 
--- how many expressions, declarators, initialisers and statements may be inside one another
-abbrev pub max_depth : ℕ
-max_depth = 200
-
--- The text has this first fault or these tokens, where names have these numbers.
-pub record IsScannedTo (name text : List ℕ) (names : List (List ℕ)) (found : Result (List Token) Fault) : Type 0 where
-  pub number : ℕ
+-- The text has this first fault or these tokens, where names have these numbers, its own this one.
+pub record IsScannedTo (name text : List ℕ) (names : List (List ℕ)) (number : ℕ) (found : Result (List Token) Fault) : Type 0 where
   pub own : slice_get names number ≡ Some name
   pub answer : IsOnlyAnswer names text (start number) max_tokens found
 
--- The bytes refuse the text: at its first fault as text; or, of the tokens that it has, at their fault as a unit of C90 (6.7); or,
--- where they are one, as a form that isn't built.
-pub data IsParsed (name text bytes : List ℕ) : Type 0 where
+-- The bytes refuse the text: at its first fault as text; or at what stands against its tokens; or,
+-- where nothing does, as a form that isn't built.
+pub data IsJudged (name text bytes : List ℕ) : Type 0 where
   faulty :
-      (names : List (List ℕ)) (fault : Fault) → IsScannedTo name text names (Err fault)
-      → bytes ≡ fault_text names fault → IsParsed name text bytes
-  misparsed :
-      (names : List (List ℕ)) (tokens : List Token) (fault : Fault) → IsScannedTo name text names (Ok tokens)
-      → IsUnitRefused max_depth tokens fault → bytes ≡ fault_text names fault → IsParsed name text bytes
+      (names : List (List ℕ)) (number : ℕ) (fault : Fault) → IsScannedTo name text names number (Err fault)
+      → bytes ≡ fault_text names fault → IsJudged name text bytes
+  judged :
+      (names : List (List ℕ)) (number : ℕ) (tokens : List Token) (fault : Fault)
+      → IsScannedTo name text names number (Ok tokens) → Judges names (file_begin number) tokens (Some fault)
+      → bytes ≡ fault_text names fault → IsJudged name text bytes
   unbuilt :
-      (names : List (List ℕ)) (tokens : List Token) (unit : List External) → IsScannedTo name text names (Ok tokens)
-      → IsUnit max_depth tokens unit → bytes ≡ refusal_text name Unbuilt → IsParsed name text bytes
+      (names : List (List ℕ)) (number : ℕ) (tokens : List Token) → IsScannedTo name text names number (Ok tokens)
+      → Judges names (file_begin number) tokens None → bytes ≡ refusal_text name Unbuilt
+      → IsJudged name text bytes
 
 -- The bytes are the report on the alarms of the text's program, and there are so many.
 pub record HasReport (name text : List ℕ) (count : ℕ) (bytes : List ℕ) : Type 0 where
@@ -82,11 +77,11 @@ pub record HasTooMany (name text bytes : List ℕ) : Type 0 where
   pub many : most_slots < slots
   pub bytes_are : bytes ≡ refusal_text name (M8 slots)
 
--- The bytes refuse the text: it is too long; or it isn't in the small language, and is parsed; or its
+-- The bytes refuse the text: it is too long; or it isn't in the small language, and is judged as C90; or its
 -- program has too many slots.
 pub data Refuses (name text bytes : List ℕ) : Type 0 where
   too_long : max_text < length text → bytes ≡ refusal_text name M7 → Refuses name text bytes
-  outside : length text ≤ max_text → IsOutside text → IsParsed name text bytes → Refuses name text bytes
+  outside : length text ≤ max_text → IsOutside text → IsJudged name text bytes → Refuses name text bytes
   too_many : HasTooMany name text bytes → Refuses name text bytes
 
 -- The bytes are what is written for the text under this name, with this status.

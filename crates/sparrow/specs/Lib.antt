@@ -3,3 +3,4 @@ pub mod Line
 pub mod Words
 pub mod Answers
 pub mod Run
+pub mod Judgement

@@ -6,13 +6,13 @@ ghost use Rattle.sp_outside.specs.Told.{missing, IfHeld};
 ghost use Rattle.sp_outside.specs.Counts.{Rose};
 ghost use Rattle.sparrow.specs.Words.{file_of, usage_text};
 ghost use Rattle.sp_scalars.specs.Outcomes.{IsStepped};
-ghost use Rattle.sparrow.specs.Answers.{IsAnswer, IsParsed, Reports, WithoutSteps, refusal_text, fault_tail, fault_text};
+ghost use Rattle.sparrow.specs.Answers.{IsAnswer, IsJudged, Reports, WithoutSteps, refusal_text, fault_tail, fault_text};
 ghost use Rattle.sparrow.specs.Run.{World, Ends, IfReadable, IsWhole, IsWriting, IsDone, IsFault, exit_status};
 ghost use Rattle.sparrow.specs.declared.command.NoAnswer.TheVariants.{NoMemory};
 
 use crate::command_line::file_of;
+use crate::judgement::{fault_of, file_begin};
 use crate::report::{Report, make_report};
-use sp_decl_parser::{ParseError, parse_unit};
 use sp_lattice::Steps;
 use sp_lexer::{ScanError, scan};
 use sp_outside::{Files, ReadError, Sink, read_whole, write_whole};
@@ -99,11 +99,11 @@ fn refusal_at(alloc: Global, names: &Names, fault: Fault) -> Result<Answer, Allo
     })
 }
 
-/// The answer to a text outside the small language: it is scanned and parsed.
+/// The answer to a text outside the small language: it is scanned, and judged as C90.
 fn refusal_outside(alloc: Global, name: &str, text: &[u8]) -> Result<Answer, AllocError>
     requires { length text.now ≤ MAX_TEXT }
     ensures status { IfOk result (λ a. a.status ≡ Status.Refused) }
-    ensures text { IfOk result (λ a. IsParsed name.now text.now a.text.items) }
+    ensures text { IfOk result (λ a. IsJudged name.now text.now a.text.items) }
 {
     let mut names = Names::new(alloc);
     let number = names.add(name.as_bytes())?;
@@ -112,10 +112,9 @@ fn refusal_outside(alloc: Global, name: &str, text: &[u8]) -> Result<Answer, All
         Err(ScanError::Fault(fault)) => return refusal_at(alloc, &names, fault),
         Err(ScanError::NoMemory) => return Err(AllocError),
     };
-    match parse_unit(alloc, &tokens) {
-        Ok(_unit) => refusal(alloc, name, FaultKind::Unbuilt),
-        Err(ParseError::Fault(fault)) => refusal_at(alloc, &names, fault),
-        Err(ParseError::NoMemory) => Err(AllocError),
+    match fault_of(alloc, &tokens, file_begin(number), &names)? {
+        Some(fault) => refusal_at(alloc, &names, fault),
+        None => refusal(alloc, name, FaultKind::Unbuilt),
     }
 }
 

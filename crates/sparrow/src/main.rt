@@ -9,6 +9,7 @@
 
 mod command;
 mod command_line;
+mod judgement;
 mod report;
 
 ghost use Rattle.std.specs.Prelude.{◌≡◌, ◌≢◌, ◌<◌};
