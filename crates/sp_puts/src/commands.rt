@@ -6,8 +6,8 @@ ghost use Rattle.sp_ir.specs.Programs.{lowered_of, object_of};
 ghost use Rattle.sp_ir.specs.Terrain.{terrain_of};
 ghost use Rattle.sp_ir.specs.Commands.{lvalue_type};
 ghost use Rattle.sp_ir.specs.View.{expression_of, lvalue_of, leaf_of, command_of};
-ghost use Rattle.sp_puts.specs.Puts.{all_of, Product, PutsLeaf, PutsStart, PutsForeign, is_foreign, PassesAs, Passes, ReturnsAs, ReturnsTo, Returns, as_struct, as_call, struct_in, command_at, Puts, CallsBy};
-ghost use Rattle.sp_puts.specs.Sources.{region, regions};
+ghost use Rattle.sp_puts.specs.Puts.{all_of, Product, Copies, PutsLeaf, PutsStart, PutsForeign, is_foreign, PassesAs, Passes, ReturnsAs, ReturnsTo, Returns, as_struct, as_call, struct_in, command_at, Puts, CallsBy};
+ghost use Rattle.sp_puts.specs.Sources.{region, regions, cells};
 ghost use Rattle.sp_puts.specs.Gathered.{Adds};
 ghost use Rattle.sp_puts.specs.Foreign.{PutsForeignTo, PutsForeignAt};
 
@@ -304,6 +304,64 @@ fn returned(
     }
 }
 
+/// What is there at the start: start values, and what comes from outside.
+fn start_put(alloc: Global, facts: &Facts<'_>, out: &mut Gathered) -> Result<(), AllocError>
+    requires { length (lowered_of facts.now.lowered.now).objects < 2 ^ 32 }
+    ensures { OnOk result (Adds facts.now.rows.now (λ u c r. PutsStart (lowered_of facts.now.lowered.now) u c r ⊎ PutsForeign (lowered_of facts.now.lowered.now) u c r) out.old out.new) }
+{
+    objects_start(alloc, facts, &facts.lowered.objects, out)?;
+    foreign_start(alloc, facts, &facts.lowered.objects, out)?;
+    Ok(())
+}
+
+/// A value is assigned.
+fn assign_put(
+    alloc: Global,
+    facts: &Facts<'_>,
+    to: &Lvalue,
+    value: &Expr,
+    out: &mut Gathered,
+) -> Result<(), AllocError>
+    ensures { OnOk result (Adds facts.now.rows.now (λ u c r. Product (lowered_of facts.now.lowered.now) u (all_of (cells (lvalue_of to.now))) (all_of (regions (expression_of value.now))) c r) out.old out.new) }
+{
+    let to = Source {
+        base: Base::Cells(to),
+        only: Only::Every,
+        read: false,
+    };
+    let from = Source {
+        base: Base::Regions(value),
+        only: Only::Every,
+        read: false,
+    };
+    product(alloc, facts, &to, &from, out)?;
+    Ok(())
+}
+
+/// A struct is assigned.
+fn copy_put(
+    alloc: Global,
+    facts: &Facts<'_>,
+    to: &Lvalue,
+    from: &Lvalue,
+    out: &mut Gathered,
+) -> Result<(), AllocError>
+    ensures { OnOk result (Adds facts.now.rows.now (λ u c r. Copies (lowered_of facts.now.lowered.now) u (all_of (cells (lvalue_of to.now))) (all_of (cells (lvalue_of from.now))) c r) out.old out.new) }
+{
+    let to = Source {
+        base: Base::Cells(to),
+        only: Only::Every,
+        read: false,
+    };
+    let from = Source {
+        base: Base::Cells(from),
+        only: Only::Every,
+        read: false,
+    };
+    copying(alloc, facts, &to, &from, out)?;
+    Ok(())
+}
+
 /// What a command puts where. Nothing changes in what was gathered before; `seen` of it gets the
 /// cells that were looked at.
 pub fn puts_of(
@@ -316,56 +374,12 @@ pub fn puts_of(
     ensures { OnOk result (Adds facts.now.rows.now (λ u c r. Puts (lowered_of facts.now.lowered.now) u (command_of command.now) c r) out.old out.new) }
 {
     match command {
-        Command::Start => {
-            objects_start(alloc, facts, &facts.lowered.objects, out)?;
-            foreign_start(alloc, facts, &facts.lowered.objects, out)?;
-            Ok(())
-        }
-        Command::Entry { .. } => Ok(()),
-        Command::Exit { .. } => Ok(()),
-        Command::Skip => Ok(()),
-        Command::Assign { to, value } => {
-            let to = Source {
-                base: Base::Cells(to),
-                only: Only::Every,
-                read: false,
-            };
-            let from = Source {
-                base: Base::Regions(value),
-                only: Only::Every,
-                read: false,
-            };
-            product(alloc, facts, &to, &from, out)?;
-            Ok(())
-        }
-        Command::Copy { to, from } => {
-            let to = Source {
-                base: Base::Cells(to),
-                only: Only::Every,
-                read: false,
-            };
-            let from = Source {
-                base: Base::Cells(from),
-                only: Only::Every,
-                read: false,
-            };
-            copying(alloc, facts, &to, &from, out)?;
-            Ok(())
-        }
-        Command::Init { values, .. } => {
-            leaves_put(alloc, facts, values, out)?;
-            Ok(())
-        }
-        Command::Assume { .. } => Ok(()),
-        Command::Eval(_) => Ok(()),
-        Command::Call { callee, args } => {
-            pass_each(alloc, facts, callee, args, out)?;
-            Ok(())
-        }
-        Command::Return { call, to } => {
-            returned(alloc, facts, *call, to, out)?;
-            Ok(())
-        }
+        Command::Start => start_put(alloc, facts, out)?,
+        Command::Assign { to, value } => assign_put(alloc, facts, to, value, out)?,
+        Command::Copy { to, from } => copy_put(alloc, facts, to, from, out)?,
+        Command::Init { values, .. } => leaves_put(alloc, facts, values, out)?,
+        Command::Call { callee, args } => pass_each(alloc, facts, callee, args, out)?,
+        Command::Return { call, to } => returned(alloc, facts, *call, to, out)?,
         Command::Library {
             which,
             to,
@@ -373,14 +387,16 @@ pub fn puts_of(
             site,
         } => {
             give(alloc, facts, given_by(*which), to, args, *site, out)?;
-            move_cells(alloc, facts, moved_by(*which), args, out)?;
-            Ok(())
+            move_cells(alloc, facts, moved_by(*which), args, out)?
         }
-        Command::Outside { to, site, .. } => {
-            from_outside(alloc, facts, to, *site, out)?;
-            Ok(())
-        }
+        Command::Outside { to, site, .. } => from_outside(alloc, facts, to, *site, out)?,
+        Command::Entry { .. }
+        | Command::Exit { .. }
+        | Command::Skip
+        | Command::Assume { .. }
+        | Command::Eval(_) => {}
     }
+    Ok(())
 }
 
 /// The functions that a command calls, by the rows.

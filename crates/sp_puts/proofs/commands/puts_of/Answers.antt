@@ -7,11 +7,11 @@ use Rattle.sp_puts.specs.Puts.{Passes, GivesResult, Moves, Puts, given_by, moved
 use Rattle.sp_puts.proofs.Finding.{adds_then}
 use Rattle.sp_puts.proofs.commands.puts_of.Goals as goal
 
-pub returns-in_ok-product-in-Assign : goal.returns-in_ok-product-in-Assign
-returns-in_ok-product-in-Assign c = subst (λ x. Adds c.args.facts.now.rows.now (λ u y r. Puts (lowered_of c.args.facts.now.lowered.now) u (command_of x) y r) c.args.out.now c.product.new.out) (sym c.in-Assign.is) c.in_ok-product-in-Assign.ensures
+pub returns-in_ok-assign_put-in-Assign : goal.returns-in_ok-assign_put-in-Assign
+returns-in_ok-assign_put-in-Assign c = subst (λ x. Adds c.args.facts.now.rows.now (λ u y r. Puts (lowered_of c.args.facts.now.lowered.now) u (command_of x) y r) c.args.out.now c.assign_put.new.out) (sym c.in-Assign.is) c.in_ok-assign_put-in-Assign.ensures
 
-pub returns-in_ok-copying-in-Copy : goal.returns-in_ok-copying-in-Copy
-returns-in_ok-copying-in-Copy c = subst (λ x. Adds c.args.facts.now.rows.now (λ u y r. Puts (lowered_of c.args.facts.now.lowered.now) u (command_of x) y r) c.args.out.now c.copying.new.out) (sym c.in-Copy.is) c.in_ok-copying-in-Copy.ensures
+pub returns-in_ok-copy_put-in-Copy : goal.returns-in_ok-copy_put-in-Copy
+returns-in_ok-copy_put-in-Copy c = subst (λ x. Adds c.args.facts.now.rows.now (λ u y r. Puts (lowered_of c.args.facts.now.lowered.now) u (command_of x) y r) c.args.out.now c.copy_put.new.out) (sym c.in-Copy.is) c.in_ok-copy_put-in-Copy.ensures
 
 pub returns-in_ok-pass_each-in-Call : goal.returns-in_ok-pass_each-in-Call
 returns-in_ok-pass_each-in-Call c = subst (λ x. Adds c.args.facts.now.rows.now (λ u y r. Puts (lowered_of c.args.facts.now.lowered.now) u (command_of x) y r) c.args.out.now c.pass_each.new.out) (sym c.in-Call.is) (subst (λ xs. Adds c.args.facts.now.rows.now (λ u y r. Passes (lowered_of c.args.facts.now.lowered.now) u (expression_of c.in-Call.callee) (map expression_of xs) y r) c.args.out.now c.pass_each.new.out) c.deref-in-Call.ensures.value c.in_ok-pass_each-in-Call.ensures)
