@@ -1,9 +1,9 @@
 -- Which structs of several units agree, also in the structs that their members name (C90 6.1.2.6).
 use Rattle.std.specs.Prelude.{◌≡◌, ℕ, zero, suc, Bool, true, false, List, map, Option, Some, None, slice_get}
-use Rattle.sp_types.specs.Types.{Struct}
+use Rattle.sp_types.specs.Types.{CType, Struct}
 use Rattle.sp_types.specs.View.{struct_of}
 use Rattle.sp_units.specs.declared.unit.CheckedUnit.{CheckedUnit as CodeUnit}
-use Rattle.sp_struct_agree.specs.Agreement.{structs_agree}
+use Rattle.sp_struct_agree.specs.Agreement.{compatible_by, structs_agree}
 
 -- the table of structs of each unit
 abbrev pub table_of : CodeUnit → List Struct
@@ -37,3 +37,14 @@ Agree us x y = (n : ℕ) → agrees_within n us x y ≡ true
 -- each of these pairs agrees
 abbrev pub AllAgree : List (List Struct) → List ((ℕ × ℕ) × (ℕ × ℕ)) → Type 0
 AllAgree us ps = (i : ℕ) (p : (ℕ × ℕ) × (ℕ × ℕ)) → slice_get ps i ≡ Some p → Agree us p.0 p.1
+
+-- Types are compatible where they are to every depth of the structs that they name. A type is given
+-- with its unit.
+abbrev pub TypesAgree : List (List Struct) → ℕ × CType → ℕ × CType → Type 0
+TypesAgree us x y =
+    (n : ℕ) → compatible_by (λ k j. agrees_within n us (x.0, k) (y.0, j)) x.1 y.1 ≡ true
+
+-- each of these pairs of numbers agrees, in two units
+abbrev pub EachAgrees : List (List Struct) → ℕ → ℕ → List (ℕ × ℕ) → Type 0
+EachAgrees us u v qs =
+    (i : ℕ) (q : ℕ × ℕ) → slice_get qs i ≡ Some q → Agree us (u, q.0) (v, q.1)

@@ -9,14 +9,17 @@
 //! So `struct s { struct s *next; struct t *of; };` of one unit agrees with the same text in
 //! another where one of them has no members of `t`, and otherwise where the two `t` agree.
 //!
-//! The layer above uses the one contract of [`agree`]: it answers exactly whether two structs agree
-//! (`Agree` in `specs/Depths.antt`), given what is [`Known`] of other pairs, to which it adds what it
-//! finds: the pairs that agree with this one, or that this one differs. In a call each pair of
-//! structs is compared once.
+//! The layers above use two contracts. [`agree`] answers exactly whether two structs agree (`Agree` in
+//! `specs/Depths.antt`), given what is [`Known`] of other pairs, to which it adds what it finds: the
+//! pairs that agree with this one, or that this one differs. In a call each pair of structs is
+//! compared once. [`types_agree`] answers alike whether types of two units are compatible
+//! (`TypesAgree`).
 #![tactic(auto)]
 
 mod compared;
+mod compatible;
 mod pairs;
 mod types;
 
+pub use compatible::types_agree;
 pub use pairs::{Entity, Known, agree, struct_at};

@@ -1,7 +1,7 @@
 -- The first element of a list of which something holds.
 use Rattle.std.proofs.Common.{◌≡◌, ℕ, ◌+◌, ◌<◌, ◌≤◌, Bool, true, false, cond, filter, List, [], ◌∷◌, ◌++◌, length, drop, get_or, Option, Some, None, ◌⊎◌, inl, inr, refl, ap, sym, subst, ◌∙◌, add-one, drop-cons, drop_of_length-le, true≢false}
 use Rattle.sp_types.specs.Types.{Struct}
-use Rattle.sp_struct_match.specs.Matched.{IsFirst, Joins, joined, AreTaken}
+use Rattle.sp_struct_match.specs.Matched.{IsFirst, Follows, leader, AreLed}
 
 pub drop_is : {A : Type 0} (xs : List A) (i : ℕ) (d : A) → i < length xs → drop i xs ≡ get_or xs i d ∷ drop (i + 1) xs
 drop_is xs i d inside = drop-cons xs i d inside ∙ ap (λ n. get_or xs i d ∷ drop n xs) (sym (add-one i))
@@ -33,10 +33,6 @@ module _ {A : Type 0} (P Q : A → Type 0) (test : A → Bool) (to : (x : A) →
       by true t g ih = of_passing x xs r t ih g
       by false f g ih = of_failing x xs r f (ih r g)
 
-pub first_of_none : {A : Type 0} (Q : A → Type 0) → ((x : A) → Q x → ⊥) → (xs : List A) → IsFirst Q xs None
-first_of_none Q n [] = refl
-first_of_none Q n (x ∷ xs) = inr (n x, first_of_none Q n xs)
-
 -- there is one
 pub one_first : {A : Type 0} (P : A → Type 0) (xs : List A) (r s : Option A) → IsFirst P xs r → IsFirst P xs s → r ≡ s
 one_first P [] r s h g = h ∙ sym g
@@ -47,7 +43,7 @@ one_first P (x ∷ xs) r s (inr h) (inr g) = one_first P xs r s h.1 g.1
 
 -- one more is taken
 pub taken_more : (us : List (List Struct)) (turn : List (ℕ × ℕ)) (i : ℕ) (x o : ℕ × ℕ) (r : Option ((ℕ × ℕ) × (ℕ × ℕ))) (ps : List ((ℕ × ℕ) × (ℕ × ℕ))) → drop i turn ≡ x ∷ drop (i + 1) turn
-    → ((qs : List ((ℕ × ℕ) × (ℕ × ℕ))) → AreTaken us ps (drop i turn) qs → AreTaken us [] turn qs) → IsFirst (Joins us x) ps r → o ≡ joined x r
-    → (qs : List ((ℕ × ℕ) × (ℕ × ℕ))) → AreTaken us (ps ++ (x, o) ∷ []) (drop (i + 1) turn) qs → AreTaken us [] turn qs
+    → ((qs : List ((ℕ × ℕ) × (ℕ × ℕ))) → AreLed us ps (drop i turn) qs → AreLed us [] turn qs) → IsFirst (Follows us x) ps r → o ≡ leader x r
+    → (qs : List ((ℕ × ℕ) × (ℕ × ℕ))) → AreLed us (ps ++ (x, o) ∷ []) (drop (i + 1) turn) qs → AreLed us [] turn qs
 taken_more us turn i x o r ps at rest first is qs h =
-    rest qs (subst (λ xs. AreTaken us ps xs qs) (sym at) (r, first, subst (λ o. AreTaken us (ps ++ (x, o) ∷ []) (drop (i + 1) turn) qs) is h))
+    rest qs (subst (λ xs. AreLed us ps xs qs) (sym at) (r, first, subst (λ o. AreLed us (ps ++ (x, o) ∷ []) (drop (i + 1) turn) qs) is h))

@@ -7,13 +7,13 @@ use Rattle.sp_types.specs.Compatible.{same_flag}
 use Rattle.sp_struct_agree.specs.Agreement.{compatible_by, members_agree, contents_agree, same_head}
 use Rattle.sp_struct_agree.specs.Depths.{struct_at, found_agree, agrees_within, Agree}
 use Rattle.sp_struct_agree.specs.Inner.{same_entity}
-use Rattle.sp_struct_match.specs.Matched.{has_members, is_complete, IsFirst, Joins, stands}
+use Rattle.sp_struct_match.specs.Matched.{has_members, is_complete, heads_agree, IsFirst, Follows, leads}
 use Rattle.std.specs.Prelude.{Vec}
 use Rattle.std.specs.declared.alloc.Global.{Global}
 use Rattle.indexmap.specs.IndexMap.{get}
-use Rattle.sp_struct_match.specs.Groups.{Key, items_of, same_key, name_mark, members_mark, full_key, head_key, group, AreStanding, AreHeads}
+use Rattle.sp_struct_match.specs.Groups.{Key, items_of, same_key, name_mark, members_mark, full_key, head_key, group, AreLeaders}
 use Rattle.sp_struct_match.specs.declared.groups.Groups.{Groups}
-use Rattle.sp_struct_match.proofs.Firsts.{first_filtered, first_of_none}
+use Rattle.sp_struct_match.proofs.Firsts.{first_filtered}
 use Rattle.sp_struct_match.proofs.Tests.{and_left, and_right, both}
 
 -- ---- keys
@@ -47,10 +47,10 @@ kind_self : (a : Bool) → beq a a ≡ true
 kind_self true = refl
 kind_self false = refl
 
-key_self : (k : Key) → same_key k k ≡ true
+pub key_self : (k : Key) → same_key k k ≡ true
 key_self k = both (both (tag_self k.0) (kind_self k.1)) (eq-eqb k.2 k.2 refl)
 
-key_is : (k j : Key) → same_key k j ≡ true → k ≡ j
+pub key_is : (k j : Key) → same_key k j ≡ true → k ≡ j
 key_is k j h =
     let front : (option_eq (λ n m. n == m) k.0 j.0 && beq k.1 j.1) ≡ true = and_left (option_eq (λ n m. n == m) k.0 j.0 && beq k.1 j.1) (k.2 == j.2) h in
     let a : k.0 ≡ j.0 = tag_is k.0 j.0 (and_left (option_eq (λ n m. n == m) k.0 j.0) (beq k.1 j.1) front) in
@@ -99,10 +99,10 @@ contents_marks agree (Some ms) (Some ks) p q g = marks agree ms ks 0 g
 contents_marks agree None ks p q g = absurd (true≢false (sym p))
 contents_marks agree (Some ms) None p q g = absurd (true≢false (sym q))
 
-tags : (s t : Struct) → same_head s t ≡ true → s.tag ≡ t.tag
+pub tags : (s t : Struct) → same_head s t ≡ true → s.tag ≡ t.tag
 tags s t h = tag_is s.tag t.tag (and_left (option_eq (λ n m. n == m) s.tag t.tag) (same_flag s.union t.union) h)
 
-kinds : (s t : Struct) → same_head s t ≡ true → s.union ≡ t.union
+pub kinds : (s t : Struct) → same_head s t ≡ true → s.union ≡ t.union
 kinds s t h = flag_is s.union t.union (and_right (option_eq (λ n m. n == m) s.tag t.tag) (same_flag s.union t.union) h)
 
 full_keys : (agree : ℕ → ℕ → Bool) (s t : Option Struct) → has_members s ≡ true → has_members t ≡ true → found_agree agree s t ≡ true → full_key t ≡ full_key s
@@ -115,42 +115,34 @@ full_keys agree (Some s) (Some t) p q g =
     let c : members_mark t.members ≡ members_mark s.members = sym (contents_marks agree s.members t.members p q (and_right (same_head s t) (contents_agree agree s.members t.members) g)) in
     λ i. (a i, b i, c i)
 
-head_keys : (agree : ℕ → ℕ → Bool) (s t : Option Struct) → found_agree agree s t ≡ true → head_key t ≡ head_key s
-head_keys agree None t g = absurd (true≢false (sym g))
-head_keys agree (Some s) None g = absurd (true≢false (sym g))
-head_keys agree (Some s) (Some t) g =
-    let h : same_head s t ≡ true = and_left (same_head s t) (contents_agree agree s.members t.members) g in
-    let a : t.tag ≡ s.tag = sym (tags s t h) in
-    let b : t.union ≡ s.union = sym (kinds s t h) in
-    λ i. (a i, b i, 0)
+-- ---- namesakes
 
--- ---- one without members
+pub some_false : (a : Bool) → (a && false) ≡ false
+some_false true = refl
+some_false false = refl
 
-contents_open : (agree : ℕ → ℕ → Bool) (ms ks : Option (List (ℕ × CType))) → is_some ks ≡ false → contents_agree agree ms ks ≡ true
-contents_open agree None ks h = refl
-contents_open agree (Some ms) None h = refl
-contents_open agree (Some ms) (Some ks) h = absurd (true≢false h)
+and_nothing : (a : Bool) → (a && true) ≡ a
+and_nothing true = refl
+and_nothing false = refl
 
-heads_open : (s t : Struct) → same_key (s.tag, s.union, 0) (t.tag, t.union, 0) ≡ true → same_head s t ≡ true
-heads_open s t h =
-    let same : (s.tag, s.union, 0) ≡ (t.tag, t.union, 0) = key_is (s.tag, s.union, 0) (t.tag, t.union, 0) h in
-    let a : s.tag ≡ t.tag = ap (λ (k : Key). k.0) same in
-    let b : s.union ≡ t.union = ap (λ (k : Key). k.1) same in
-    both (subst (λ z. option_eq (λ n m. n == m) s.tag z ≡ true) a (tag_self s.tag)) (subst (λ z. same_flag s.union z ≡ true) b (flag_self s.union))
+flags : (a b : Bool) → beq a b ≡ same_flag a b
+flags true true = refl
+flags true false = refl
+flags false true = refl
+flags false false = refl
 
-open_found : (agree : ℕ → ℕ → Bool) (s t : Option Struct) → is_some t ≡ true → has_members t ≡ false → same_key (head_key s) (head_key t) ≡ true → found_agree agree s t ≡ true
-open_found agree s None p q h = absurd (true≢false (sym p))
-open_found agree None (Some t) p q h = absurd (true≢false (sym (and_right (option_eq (λ n m. n == m) None t.tag && beq false t.union) (1 == 0) h)))
-open_found agree (Some s) (Some t) p q h = both (heads_open s t h) (contents_open agree s.members t.members q)
+-- namesakes are those of one key
+pub heads_same : (s t : Option Struct) → is_some t ≡ true → same_key (head_key s) (head_key t) ≡ heads_agree s t
+heads_same s None p = absurd (true≢false (sym p))
+heads_same None (Some t) p = some_false (option_eq (λ n m. n == m) None t.tag && beq false t.union)
+heads_same (Some s) (Some t) p =
+    and_nothing (option_eq (λ n m. n == m) s.tag t.tag && beq s.union t.union)
+    ∙ ap (λ b. option_eq (λ n m. n == m) s.tag t.tag && b) (flags s.union t.union)
 
-open_agrees : (us : List (List Struct)) (x y : ℕ × ℕ) → is_some (struct_at us y) ≡ true → is_complete us y ≡ false → same_key (head_key (struct_at us x)) (head_key (struct_at us y)) ≡ true → Agree us x y
-open_agrees us x y p q h zero = refl
-open_agrees us x y p q h (suc n) = open_found (λ k j. agrees_within n us (x.0, k) (y.0, j)) (struct_at us x) (struct_at us y) p q h
-
-absent_found : (agree : ℕ → ℕ → Bool) (s t : Option Struct) → is_some t ≡ false → found_agree agree s t ≡ true → ⊥
-absent_found agree None t p g = true≢false (sym g)
-absent_found agree (Some s) None p g = true≢false (sym g)
-absent_found agree (Some s) (Some t) p g = true≢false p
+pub none_alike : (s t : Option Struct) → is_some t ≡ false → heads_agree s t ≡ false
+none_alike s (Some t) p = absurd (true≢false p)
+none_alike None None p = refl
+none_alike (Some s) None p = refl
 
 -- to one level
 abbrev level : List (List Struct) → ℕ × ℕ → ℕ × ℕ → ℕ → ℕ → Bool
@@ -159,33 +151,17 @@ level us x y k j = agrees_within zero us (x.0, k) (y.0, j)
 -- ---- what is found
 
 module _ (us : List (List Struct)) (of : ℕ × ℕ) (ps : List ((ℕ × ℕ) × (ℕ × ℕ))) (g : Groups) where
-  pub standing_first : (r : Option ((ℕ × ℕ) × (ℕ × ℕ))) → is_complete us of ≡ true → AreStanding us ps g
-      → IsFirst (λ p. (p.0.0 ≢ of.0) × Agree us p.0 of) (group g (full_key (struct_at us of))) r → IsFirst (Joins us of) ps r
-  standing_first r complete standing h =
-      first_filtered (λ p. (p.0.0 ≢ of.0) × Agree us p.0 of) (Joins us of)
-      (λ p. stands us p && same_key (full_key (struct_at us p.0)) (full_key (struct_at us of)))
-      (λ p t j. (j.0, j.1, λ c. and_left (stands us p) (same_key (full_key (struct_at us p.0)) (full_key (struct_at us of))) t))
+  pub leaders_first : (r : Option ((ℕ × ℕ) × (ℕ × ℕ))) → is_complete us of ≡ true → AreLeaders us ps g
+      → IsFirst (λ p. Agree us p.0 of) (group g (full_key (struct_at us of))) r → IsFirst (Follows us of) ps r
+  leaders_first r complete leaders h =
+      first_filtered (λ p. Agree us p.0 of) (Follows us of)
+      (λ p. leads us p && same_key (full_key (struct_at us p.0)) (full_key (struct_at us of)))
+      (λ p t j. (and_left (leads us p) (same_key (full_key (struct_at us p.0)) (full_key (struct_at us of))) t, j))
       (λ p q.
-      let s : stands us p ≡ true = q.2 complete in
-      let e : full_key (struct_at us of) ≡ full_key (struct_at us p.0) = full_keys (level us p.0 of) (struct_at us p.0) (struct_at us of) (and_left (is_complete us p.0) (same_entity p.1 p.0) s) complete (q.1 (suc zero)) in
-      (both s (subst (λ k. same_key k (full_key (struct_at us of)) ≡ true) e (key_self (full_key (struct_at us of)))), (q.0, q.1)))
+      let e : full_key (struct_at us of) ≡ full_key (struct_at us p.0) = full_keys (level us p.0 of) (struct_at us p.0) (struct_at us of) (and_left (is_complete us p.0) (same_entity p.1 p.0) q.0) complete (q.1 (suc zero)) in
+      (both q.0 (subst (λ k. same_key k (full_key (struct_at us of)) ≡ true) e (key_self (full_key (struct_at us of)))), q.1))
       ps r
-      (subst (λ xs. IsFirst (λ p. (p.0.0 ≢ of.0) × Agree us p.0 of) xs r) (standing (full_key (struct_at us of))) h)
-
-  pub heads_first : (r : Option ((ℕ × ℕ) × (ℕ × ℕ))) → is_some (struct_at us of) ≡ true → is_complete us of ≡ false → AreHeads us ps g
-      → IsFirst (λ p. p.0.0 ≢ of.0) (group g (head_key (struct_at us of))) r → IsFirst (Joins us of) ps r
-  heads_first r there bare heads h =
-      first_filtered (λ p. p.0.0 ≢ of.0) (Joins us of)
-      (λ p. same_key (head_key (struct_at us p.0)) (head_key (struct_at us of)))
-      (λ p t j. (j, open_agrees us p.0 of there bare t, λ c. absurd (true≢false (sym c ∙ bare))))
-      (λ p q.
-      let e : head_key (struct_at us of) ≡ head_key (struct_at us p.0) = head_keys (level us p.0 of) (struct_at us p.0) (struct_at us of) (q.1 (suc zero)) in
-      (subst (λ k. same_key k (head_key (struct_at us of)) ≡ true) e (key_self (head_key (struct_at us of))), q.0))
-      ps r
-      (subst (λ xs. IsFirst (λ p. p.0.0 ≢ of.0) xs r) (heads (head_key (struct_at us of))) h)
-
-pub absent_first : (us : List (List Struct)) (of : ℕ × ℕ) (ps : List ((ℕ × ℕ) × (ℕ × ℕ))) → is_some (struct_at us of) ≡ false → IsFirst (Joins us of) ps None
-absent_first us of ps absent = first_of_none (Joins us of) (λ p q. absent_found (level us p.0 of) (struct_at us p.0) (struct_at us of) absent (q.1 (suc zero))) ps
+      (subst (λ xs. IsFirst (λ p. Agree us p.0 of) xs r) (leaders (full_key (struct_at us of))) h)
 
 -- ---- one more
 
@@ -201,25 +177,17 @@ filter_pushed test (y ∷ ys) x = by (test y) (test x) (filter_pushed test ys x)
     by false false e = e
 
 module _ (us : List (List Struct)) (p : (ℕ × ℕ) × (ℕ × ℕ)) (old new : Groups) where
-  pub standing_more : stands us p ≡ true
+  pub leaders_more : leads us p ≡ true
       → ((k : Key) → group new k ≡ (if same_key (full_key (struct_at us p.0)) k then group old k ++ p ∷ [] else group old k))
-      → (ps : List ((ℕ × ℕ) × (ℕ × ℕ))) → AreStanding us ps old → AreStanding us (ps ++ p ∷ []) new
-  standing_more s new_is ps standing k =
+      → (ps : List ((ℕ × ℕ) × (ℕ × ℕ))) → AreLeaders us ps old → AreLeaders us (ps ++ p ∷ []) new
+  leaders_more s new_is ps leaders k =
       new_is k
-      ∙ ap (λ xs. if same_key (full_key (struct_at us p.0)) k then xs ++ p ∷ [] else xs) (standing k)
-      ∙ ap (λ b. if b && same_key (full_key (struct_at us p.0)) k then filter (λ p. stands us p && same_key (full_key (struct_at us p.0)) k) ps ++ p ∷ [] else filter (λ p. stands us p && same_key (full_key (struct_at us p.0)) k) ps) (sym s)
-      ∙ sym (filter_pushed (λ p. stands us p && same_key (full_key (struct_at us p.0)) k) ps p)
+      ∙ ap (λ xs. if same_key (full_key (struct_at us p.0)) k then xs ++ p ∷ [] else xs) (leaders k)
+      ∙ ap (λ b. if b && same_key (full_key (struct_at us p.0)) k then filter (λ p. leads us p && same_key (full_key (struct_at us p.0)) k) ps ++ p ∷ [] else filter (λ p. leads us p && same_key (full_key (struct_at us p.0)) k) ps) (sym s)
+      ∙ sym (filter_pushed (λ p. leads us p && same_key (full_key (struct_at us p.0)) k) ps p)
 
-  pub heads_more :
-      ((k : Key) → group new k ≡ (if same_key (head_key (struct_at us p.0)) k then group old k ++ p ∷ [] else group old k))
-      → (ps : List ((ℕ × ℕ) × (ℕ × ℕ))) → AreHeads us ps old → AreHeads us (ps ++ p ∷ []) new
-  heads_more new_is ps heads k =
-      new_is k
-      ∙ ap (λ xs. if same_key (head_key (struct_at us p.0)) k then xs ++ p ∷ [] else xs) (heads k)
-      ∙ sym (filter_pushed (λ p. same_key (head_key (struct_at us p.0)) k) ps p)
-
-pub standing_same : (us : List (List Struct)) (p : (ℕ × ℕ) × (ℕ × ℕ)) (g : Groups) → stands us p ≡ false → (ps : List ((ℕ × ℕ) × (ℕ × ℕ))) → AreStanding us ps g → AreStanding us (ps ++ p ∷ []) g
-standing_same us p g s ps standing k =
-    standing k
-    ∙ ap (λ b. if b && same_key (full_key (struct_at us p.0)) k then filter (λ p. stands us p && same_key (full_key (struct_at us p.0)) k) ps ++ p ∷ [] else filter (λ p. stands us p && same_key (full_key (struct_at us p.0)) k) ps) (sym s)
-    ∙ sym (filter_pushed (λ p. stands us p && same_key (full_key (struct_at us p.0)) k) ps p)
+pub leaders_same : (us : List (List Struct)) (p : (ℕ × ℕ) × (ℕ × ℕ)) (g : Groups) → leads us p ≡ false → (ps : List ((ℕ × ℕ) × (ℕ × ℕ))) → AreLeaders us ps g → AreLeaders us (ps ++ p ∷ []) g
+leaders_same us p g s ps leaders k =
+    leaders k
+    ∙ ap (λ b. if b && same_key (full_key (struct_at us p.0)) k then filter (λ p. leads us p && same_key (full_key (struct_at us p.0)) k) ps ++ p ∷ [] else filter (λ p. leads us p && same_key (full_key (struct_at us p.0)) k) ps) (sym s)
+    ∙ sym (filter_pushed (λ p. leads us p && same_key (full_key (struct_at us p.0)) k) ps p)

@@ -1,6 +1,10 @@
+pub mod Compared
 pub mod Firsts
 pub mod Keys
 pub mod Lookups
+pub mod Namesakes
 pub mod NumberLaws
+pub mod Numbered
 pub mod OneUnit
+pub mod Standing
 pub mod Tests

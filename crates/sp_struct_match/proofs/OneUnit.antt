@@ -1,12 +1,13 @@
 -- In a program of one unit each struct stands for itself.
-use Rattle.std.proofs.Common.{◌≡◌, ◌≢◌, ℕ, zero, suc, ◌+◌, ◌<◌, ◌≤◌, Bool, true, false, not, ◌&&◌, cond, filter, map, List, [], ◌∷◌, ◌++◌, append-nil, length, Option, Some, None, inl, inr, refl, ap, sym, subst, ◌∙◌, arith, ne_eqb}
+use Rattle.std.proofs.Common.{◌≡◌, ◌≢◌, ℕ, zero, suc, ◌+◌, ◌<◌, ◌≤◌, Bool, true, false, not, ◌&&◌, cond, filter, map, List, [], ◌∷◌, ◌++◌, append-nil, length, Option, Some, None, if◌then◌else◌, ◌==◌, eq-eqb, refl, ap, sym, subst, ◌∙◌, arith, ne_eqb}
 use Rattle.std.specs.Prelude.{⊤, unwrap_or}
 use Rattle.std.specs.List.{position_from}
 use Rattle.std.specs.Map.{lookup}
 use Rattle.sp_types.specs.Types.{Struct}
 use Rattle.sp_struct_agree.specs.Inner.{same_entity}
-use Rattle.sp_struct_match.specs.Matched.{of_unit, of_units, is_complete, in_turn, IsFirst, Joins, joined, AreTaken, stand_in, representatives, number_among}
+use Rattle.sp_struct_match.specs.Matched.{of_unit, of_units, is_complete, in_turn, are_namesakes, first_where, first_elsewhere, is_complete_one, AreLed, stand_in, open_stand_in, final_stand_in, stand_ins, AreStandIns, representatives, number_among}
 use Rattle.sp_struct_match.specs.Laws.{numbers_from, OneUnitStays}
+use Rattle.sp_struct_match.proofs.Keys.{some_false}
 use Rattle.sp_struct_match.proofs.Tests.{entity_is, entity_self}
 
 -- of the first unit
@@ -14,33 +15,17 @@ abbrev AreHere : List (ℕ × ℕ) → Type 0
 AreHere [] = ⊤
 AreHere (x ∷ xs) = (x.0 ≡ 0) × AreHere xs
 
--- of the first unit, and each stands for itself
+-- each stands for itself
 abbrev AreOwn : List ((ℕ × ℕ) × (ℕ × ℕ)) → Type 0
 AreOwn [] = ⊤
-AreOwn (p ∷ ps) = (p.0.0 ≡ 0) × (p.1 ≡ p.0) × AreOwn ps
-
-none_joined : (us : List (List Struct)) (x : ℕ × ℕ) (ps : List ((ℕ × ℕ) × (ℕ × ℕ))) (r : Option ((ℕ × ℕ) × (ℕ × ℕ))) → x.0 ≡ 0 → AreOwn ps → IsFirst (Joins us x) ps r → r ≡ None
-none_joined us x [] r here own h = h
-none_joined us x (p ∷ ps) r here own (inl h) = absurd (h.0.0 (own.0 ∙ sym here))
-none_joined us x (p ∷ ps) r here own (inr h) = none_joined us x ps r here own.2 h.1
-
-own_pushed : (ps : List ((ℕ × ℕ) × (ℕ × ℕ))) (x o : ℕ × ℕ) → AreOwn ps → x.0 ≡ 0 → o ≡ x → AreOwn (ps ++ (x, o) ∷ [])
-own_pushed [] x o own here is = (here, is, tt)
-own_pushed (p ∷ ps) x o own here is = (own.0, own.1, own_pushed ps x o own.2 here is)
-
-own_taken : (us : List (List Struct)) (ps : List ((ℕ × ℕ) × (ℕ × ℕ))) (xs : List (ℕ × ℕ)) (qs : List ((ℕ × ℕ) × (ℕ × ℕ))) → AreOwn ps → AreHere xs → AreTaken us ps xs qs → AreOwn qs
-own_taken us ps [] qs own here h = subst AreOwn (sym h) own
-own_taken us ps (x ∷ xs) qs own here h =
-    own_taken us (ps ++ (x, joined x h.0) ∷ []) xs qs
-    (own_pushed ps x (joined x h.0) own here.0 (ap (joined x) (none_joined us x ps h.0 here.0 own h.1)))
-    here.1 h.2
+AreOwn (p ∷ ps) = (p.1 ≡ p.0) × AreOwn ps
 
 stands_own : (ps : List ((ℕ × ℕ) × (ℕ × ℕ))) (x : ℕ × ℕ) → AreOwn ps → stand_in ps x ≡ x
 stands_own [] x own = refl
-stands_own (p ∷ ps) x own = by (same_entity x p.0) refl (stands_own ps x own.2)
+stands_own (p ∷ ps) x own = by (same_entity x p.0) refl (stands_own ps x own.1)
   where
     by : (b : Bool) → same_entity x p.0 ≡ b → stand_in ps x ≡ x → unwrap_or (cond b (Some p.1) (lookup (same_entity x) ps)) x ≡ x
-    by true e h = own.1 ∙ sym (entity_is x p.0 e)
+    by true e h = own.0 ∙ sym (entity_is x p.0 e)
     by false e h = h
 
 here_unit : (k : ℕ) (ss : List Struct) → AreHere (of_unit 0 k ss)
@@ -66,6 +51,48 @@ here_turn ss =
     (here_filter (is_complete (ss ∷ [])) (of_units 0 (ss ∷ [])) all)
     (here_filter (λ x. not (is_complete (ss ∷ []) x)) (of_units 0 (ss ∷ [])) all)
 
+-- none is of another unit
+none_elsewhere : (us : List (List Struct)) (x : ℕ × ℕ) → x.0 ≡ 0 → (xs : List (ℕ × ℕ)) → AreHere xs → first_where (λ y. are_namesakes us y x && not (y.0 == x.0)) xs ≡ None
+none_elsewhere us x own [] here = refl
+none_elsewhere us x own (y ∷ ys) here =
+    let same : (y.0 == x.0) ≡ true = eq-eqb y.0 x.0 (here.0 ∙ sym own) in
+    ap (λ b. if are_namesakes us y x && not b then Some y else first_where (λ y. are_namesakes us y x && not (y.0 == x.0)) ys) same
+    ∙ ap (λ b. if b then Some y else first_where (λ y. are_namesakes us y x && not (y.0 == x.0)) ys) (some_false (are_namesakes us y x))
+    ∙ none_elsewhere us x own ys here.1
+
+-- so none is compared
+none_compared : (ss : List Struct) (xs : List (ℕ × ℕ)) → AreHere xs
+    → filter (λ x. is_complete (ss ∷ []) x && is_complete_one (ss ∷ []) (first_elsewhere (ss ∷ []) x)) xs ≡ []
+none_compared ss [] here = refl
+none_compared ss (x ∷ xs) here =
+    ap (λ o. cond (is_complete (ss ∷ []) x && is_complete_one (ss ∷ []) o) (x ∷ filter (λ x. is_complete (ss ∷ []) x && is_complete_one (ss ∷ []) (first_elsewhere (ss ∷ []) x)) xs)
+    (filter (λ x. is_complete (ss ∷ []) x && is_complete_one (ss ∷ []) (first_elsewhere (ss ∷ []) x)) xs)) (none_elsewhere (ss ∷ []) x here.0 (in_turn (ss ∷ [])) (here_turn ss))
+    ∙ ap (λ b. cond b (x ∷ filter (λ x. is_complete (ss ∷ []) x && is_complete_one (ss ∷ []) (first_elsewhere (ss ∷ []) x)) xs)
+    (filter (λ x. is_complete (ss ∷ []) x && is_complete_one (ss ∷ []) (first_elsewhere (ss ∷ []) x)) xs)) (some_false (is_complete (ss ∷ []) x))
+    ∙ none_compared ss xs here.1
+
+-- without leaders each stands for itself
+final_own : (ss : List Struct) (x : ℕ × ℕ) → x.0 ≡ 0 → final_stand_in (ss ∷ []) [] x ≡ x
+final_own ss x here =
+    ap (λ o. if is_complete (ss ∷ []) x then x else open_stand_in (ss ∷ []) [] x o) (none_elsewhere (ss ∷ []) x here (in_turn (ss ∷ [])) (here_turn ss))
+    ∙ by (is_complete (ss ∷ []) x)
+  where
+    by : (b : Bool) → (if b then x else x) ≡ x
+    by true = refl
+    by false = refl
+
+pairs_own : (ss : List Struct) (xs : List (ℕ × ℕ)) → AreHere xs → AreOwn (map (λ x. (x, final_stand_in (ss ∷ []) [] x)) xs)
+pairs_own ss [] here = tt
+pairs_own ss (x ∷ xs) here = (final_own ss x here.0, pairs_own ss xs here.1)
+
+all_here : (ss : List Struct) → AreHere (of_units 0 (ss ∷ []))
+all_here ss = subst AreHere (sym (append-nil (of_unit 0 0 ss))) (here_unit 0 ss)
+
+own_stand_ins : (ss : List Struct) (ps : List ((ℕ × ℕ) × (ℕ × ℕ))) → AreStandIns (ss ∷ []) ps → AreOwn ps
+own_stand_ins ss ps h =
+    let led : AreLed (ss ∷ []) [] [] h.0 = subst (λ xs. AreLed (ss ∷ []) [] xs h.0) (none_compared ss (of_units 0 (ss ∷ [])) (all_here ss)) h.1 in
+    subst AreOwn (sym (h.2 ∙ ap (stand_ins (ss ∷ [])) led)) (pairs_own ss (of_units 0 (ss ∷ [])) (all_here ss))
+
 filter_all : (test : ℕ × ℕ → Bool) (xs : List (ℕ × ℕ)) → ((x : ℕ × ℕ) → test x ≡ true) → filter test xs ≡ xs
 filter_all test [] all = refl
 filter_all test (x ∷ xs) all = ap (λ b. cond b (x ∷ filter test xs) (filter test xs)) (all x) ∙ ap (λ ys. x ∷ ys) (filter_all test xs all)
@@ -90,7 +117,7 @@ numbers number (s ∷ ss) k h =
 
 pub one_unit_stays : OneUnitStays
 one_unit_stays ss m h =
-    let own : AreOwn h.0 = own_taken (ss ∷ []) [] (in_turn (ss ∷ [])) h.0 tt (here_turn ss) h.1 in
+    let own : AreOwn h.0 = own_stand_ins ss h.0 h.1 in
     let structs : representatives (ss ∷ []) h.0 ≡ of_unit 0 0 ss =
     filter_all (λ x. same_entity (stand_in h.0 x) x) (of_units 0 (ss ∷ [])) (λ x. subst (λ z. same_entity z x ≡ true) (sym (stands_own h.0 x own)) (entity_self x))
     ∙ append-nil (of_unit 0 0 ss) in

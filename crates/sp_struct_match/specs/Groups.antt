@@ -6,7 +6,7 @@ use Rattle.std.specs.declared.alloc.Global.{Global}
 use Rattle.indexmap.specs.IndexMap.{get}
 use Rattle.sp_types.specs.Types.{CType, Struct}
 use Rattle.sp_struct_agree.specs.Depths.{struct_at}
-use Rattle.sp_struct_match.specs.Matched.{stands}
+use Rattle.sp_struct_match.specs.Matched.{leads}
 use Rattle.sp_struct_match.specs.declared.groups.Groups.{Groups}
 
 -- the tag, whether it is a union, and a mark of the names of its members
@@ -43,11 +43,7 @@ items_of (Some v) = v.items
 abbrev pub group : Groups → Key → List ((ℕ × ℕ) × (ℕ × ℕ))
 group g k = items_of (get same_key g.lists k)
 
--- those of a list that stand for themselves and have members, by all that two of them have in common
-abbrev pub AreStanding : List (List Struct) → List ((ℕ × ℕ) × (ℕ × ℕ)) → Groups → Type 0
-AreStanding us ps g = (k : Key) →
-    group g k ≡ filter (λ p. stands us p && same_key (full_key (struct_at us p.0)) k) ps
-
--- all of a list, by tag and kind
-abbrev pub AreHeads : List (List Struct) → List ((ℕ × ℕ) × (ℕ × ℕ)) → Groups → Type 0
-AreHeads us ps g = (k : Key) → group g k ≡ filter (λ p. same_key (head_key (struct_at us p.0)) k) ps
+-- those of a list that have members and lead themselves, by all that two of them have in common
+abbrev pub AreLeaders : List (List Struct) → List ((ℕ × ℕ) × (ℕ × ℕ)) → Groups → Type 0
+AreLeaders us ps g = (k : Key) →
+    group g k ≡ filter (λ p. leads us p && same_key (full_key (struct_at us p.0)) k) ps

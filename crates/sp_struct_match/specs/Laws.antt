@@ -1,8 +1,9 @@
 -- What is settled by the definition of a matching.
-use Rattle.std.specs.Prelude.{◌≡◌, ℕ, suc, List, [], ◌∷◌}
+use Rattle.std.specs.Prelude.{◌≡◌, ℕ, suc, true, List, [], ◌∷◌, Option, Some, is_some, ◌⊎◌, slice_get, slice_index_or}
 use Rattle.sp_types.specs.Types.{Struct}
 use Rattle.sp_matching.specs.Matching.{Matching}
-use Rattle.sp_struct_match.specs.Matched.{of_unit, AreMatched}
+use Rattle.sp_struct_agree.specs.Depths.{struct_at, Agree}
+use Rattle.sp_struct_match.specs.Matched.{of_unit, is_complete, AreMatched}
 
 -- the structs of some units have one matching
 abbrev pub MatchingsEqual : Type 0
@@ -18,3 +19,20 @@ numbers_from k (s ∷ ss) = k ∷ numbers_from (suc k) ss
 abbrev pub OneUnitStays : Type 0
 OneUnitStays = (ss : List Struct) (m : Matching) → AreMatched (ss ∷ []) m →
     (m.structs ≡ of_unit 0 0 ss) × (m.numbers ≡ numbers_from 0 ss ∷ [])
+
+-- the number that a matching gives a struct
+abbrev pub number_of : Matching → ℕ × ℕ → Option ℕ
+number_of m x = slice_get (slice_index_or m.numbers x.0 []) x.1
+
+-- Each struct of a unit has a number in the program. The struct there is it, or one that agrees with
+-- it, and that has members where it has some.
+abbrev pub StructsAreNumbered : Type 0
+StructsAreNumbered =
+    (us : List (List Struct)) (m : Matching) (x : ℕ × ℕ) (s : Struct) → AreMatched us m → struct_at us x ≡ Some s
+    → (n : ℕ) × (r : ℕ × ℕ) × (number_of m x ≡ Some n) × (slice_get m.structs n ≡ Some r)
+    × ((r ≡ x) ⊎ (Agree us r x × (is_complete us x ≡ true → is_complete us r ≡ true)))
+
+-- each struct of the program is one of a unit
+abbrev pub StructsAreThere : Type 0
+StructsAreThere = (us : List (List Struct)) (m : Matching) (n : ℕ) (r : ℕ × ℕ) → AreMatched us m
+    → slice_get m.structs n ≡ Some r → is_some (struct_at us r) ≡ true

@@ -13,7 +13,7 @@ use std::alloc::{AllocError, Global};
 /// The tag, whether it is a union, and a mark of the names of its members.
 pub(crate) type Key = (Option<u32>, bool, u32);
 
-/// A struct, and the struct that stands for it.
+/// A struct, and the one that leads it or stands for it.
 pub(crate) type Taken = (Entity, Entity);
 
 /// Structs by key, each list in the order in which they were added.
@@ -100,7 +100,7 @@ pub(crate) fn full_key(units: &[CheckedUnit], at: Entity) -> Key
     }
 }
 
-/// The key by which those are looked up that one without members agrees with.
+/// The key by which namesakes are looked up.
 pub(crate) fn head_key(units: &[CheckedUnit], at: Entity) -> Key
     ensures { result ≡ head_key (struct_at (tables units.now) at) }
 {

@@ -1,15 +1,37 @@
 //! The matching of the structs of several units.
-ghost use Rattle.std.specs.Prelude.{IfOk, map};
+ghost use Rattle.std.specs.Prelude.{◌≡◌, IfOk, map};
 ghost use Rattle.sp_units.specs.Units.{checked_unit_of};
 ghost use Rattle.sp_matching.specs.Matching.{matching_of};
-ghost use Rattle.sp_struct_match.specs.Matched.{AreMatched};
+ghost use Rattle.sp_struct_agree.specs.Depths.{tables};
+ghost use Rattle.sp_struct_match.specs.Matched.{of_units, AreStandIns, AreMatched};
 
 use crate::entities::{entities, in_turn};
+use crate::groups::Taken;
+use crate::heads::{compared, heads_of};
+use crate::leaders::take_all;
 use crate::numbers::number;
-use crate::taken::take_all;
+use crate::stand_ins::{all_stand_ins, with_leaders};
 use sp_matching::Matching;
+use sp_struct_agree::Entity;
 use sp_units::CheckedUnit;
 use std::alloc::{AllocError, Global};
+
+/// Each struct with what stands for it.
+fn stand_ins_of(
+    alloc: Global,
+    units: &[CheckedUnit],
+    all: &[Entity],
+) -> Result<Vec<Taken>, AllocError>
+    requires { all.now ≡ of_units 0 (tables units.now) }
+    ensures { IfOk result (λ ps. AreStandIns (tables units.now) ps.items) }
+{
+    let turn = in_turn(alloc, units, all)?;
+    let heads = heads_of(alloc, units, &turn)?;
+    let compared = compared(alloc, units, &heads, all)?;
+    let taken = take_all(alloc, units, &compared)?;
+    let led = with_leaders(alloc, taken)?;
+    all_stand_ins(alloc, units, &heads, &led, all)
+}
 
 /// Which structs of the units are one (C90 6.1.2.6).
 pub fn matching(alloc: Global, units: &[CheckedUnit]) -> Result<Matching, AllocError>
@@ -17,7 +39,6 @@ pub fn matching(alloc: Global, units: &[CheckedUnit]) -> Result<Matching, AllocE
         AreMatched (map (λ u. u.structs) (map checked_unit_of units.now)) (matching_of m)) }
 {
     let all = entities(alloc, units)?;
-    let turn = in_turn(alloc, units, &all)?;
-    let taken = take_all(alloc, units, &turn)?;
-    number(alloc, units, &all, &taken)
+    let stand_ins = stand_ins_of(alloc, units, &all)?;
+    number(alloc, units, &all, &stand_ins)
 }

@@ -28,8 +28,11 @@ struct Numbering {
     places: IndexMap<Entity, u32>,
 }
 
-/// The first pair of each struct.
-fn stand_ins(alloc: Global, taken: &[Taken]) -> Result<IndexMap<Entity, Entity>, AllocError>
+/// What a list of pairs has first behind each struct.
+pub(crate) fn first_values(
+    alloc: Global,
+    taken: &[Taken],
+) -> Result<IndexMap<Entity, Entity>, AllocError>
     ensures { IfOk result (λ m. (x : ℕ × ℕ) →
         get same_entity m x ≡ lookup (same_entity x) taken.now) }
 {
@@ -143,7 +146,7 @@ pub(crate) fn number(
     requires { all.now ≡ of_units 0 (tables units.now) }
     ensures { IfOk result (λ m. matching_of m ≡ matched (tables units.now) taken.now) }
 {
-    let stand_ins = stand_ins(alloc, taken)?;
+    let stand_ins = first_values(alloc, taken)?;
     let structs = representatives(alloc, all, &stand_ins)?;
     let places = places(alloc, &structs)?;
     let numbering = Numbering { stand_ins, places };

@@ -1,19 +1,17 @@
-use Rattle.std.proofs.Common.{◌≡◌, [], map, subst, ap, ◌∙◌}
+use Rattle.std.proofs.Common.{◌≡◌, map, subst, ap, ◌∙◌}
 use Rattle.sp_units.specs.Units.{checked_unit_of}
 use Rattle.sp_matching.specs.Matching.{matching_of}
 use Rattle.sp_struct_agree.specs.Depths.{tables}
-use Rattle.sp_struct_match.specs.Matched.{AreTaken, in_turn, matched, AreMatched}
+use Rattle.sp_struct_match.specs.Matched.{matched, AreMatched}
 use Rattle.sp_struct_match.proofs.NumberLaws.{tables_are}
 use Rattle.sp_struct_match.proofs.Tests.{if_ok}
 use Rattle.sp_struct_match.proofs.matchings.matching.Goals as goal
 
 pub returns : goal.returns
 returns c =
-    let taken : AreTaken (tables c.args.units.now) [] (in_turn (tables c.args.units.now)) c.in_ok-taken.taken.items =
-    subst (λ xs. AreTaken (tables c.args.units.now) [] xs c.in_ok-taken.taken.items) (c.deref-2.ensures.value ∙ c.in_ok-turn.ensures) c.in_ok-taken.ensures in
     if_ok c.number.result
-    (λ m. matching_of m ≡ matched (tables c.args.units.now) c.deref-4.result.now)
+    (λ m. matching_of m ≡ matched (tables c.args.units.now) c.deref-3.result.now)
     (λ m. AreMatched (map (λ u. u.structs) (map checked_unit_of c.args.units.now)) (matching_of m))
     (λ m h. subst (λ ts. AreMatched ts (matching_of m)) (tables_are c.args.units.now)
-    (c.in_ok-taken.taken.items, taken, h ∙ ap (matched (tables c.args.units.now)) c.deref-4.ensures.value))
+    (c.in_ok-stand_ins.stand_ins.items, c.in_ok-stand_ins.ensures, h ∙ ap (matched (tables c.args.units.now)) c.deref-3.ensures.value))
     c.number.ensures
