@@ -1,0 +1,5 @@
+pub mod Copied
+pub mod Copies
+pub mod Outside
+pub mod Returns
+pub mod Passed

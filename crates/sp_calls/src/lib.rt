@@ -1,0 +1,17 @@
+//! The rows of what goes from one function to another, and of structs: calls, returns, results from
+//! outside, and assignments of structs. Definitions alone, for review; no law of them is shown yet.
+//!
+//! A struct goes cell by cell (`specs.Copied`): each cell gets what the cell holds to which its path
+//! leads in the other struct, and bytes get what all cells there hold. Where it goes follows the rule
+//! of strong and weak updates at each cell (`storing_leaves` of `specs.Copies`). An argument goes to
+//! the formals of all functions that are called (`calling` of `specs.Passed`), and a result is the
+//! join of theirs (`returning` of `specs.Returns`). Where types don't fit each cell gets every
+//! number. What a function that isn't defined gives is every number, or where it is a pointer the
+//! site of its call (`from_outside` of `specs.Outside`).
+//!
+//! ```text
+//! struct s { int n; int *p; } t, u;   t = u;     t.n gets what u.n holds, t.p what u.p holds
+//! int f(int a){ return a; }  int (*h)(int);      h may be f or g:
+//! int g(int b){ return 0; }  y = h(3);           a and b get 3, y the join of both results
+//! ```
+#![tactic(auto)]

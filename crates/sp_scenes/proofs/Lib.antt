@@ -1,0 +1,6 @@
+pub mod Formed
+pub mod Closed
+pub mod AllLaws
+mod Finding
+mod Past
+mod Few

@@ -1,0 +1,26 @@
+use Rattle.std.proofs.Common.{subst}
+use Rattle.sp_lattice.specs.Ladder.{IsLadderOf}
+use Rattle.sp_ir.specs.Programs.{lowered_of}
+use Rattle.sp_scenes.proofs.Past.{objects-few}
+use Rattle.sp_scenes.proofs.analysis.Analysis.new.Goals as goal
+
+pub locations_of-requires : goal.locations_of-requires
+locations_of-requires c = c.requires.few_regions
+
+pub invariant_of-result : goal.invariant_of-result
+invariant_of-result c = record {
+  cells = c.in_ok-locations.ensures;
+  points = c.points-points.ensures.ladder;
+  few = objects-few (lowered_of c.args.lowered) c.requires;
+  whole = ∣ record {
+    formed = c.requires;
+    points_to = c.in_ok-pre.ensures.least;
+    ascending = c.look_through.ensures;
+    calls = c.in_ok-pre.ensures.calls;
+    callees = c.in_ok-pre.ensures.callees;
+    recursive = c.in_ok-pre.ensures.recursive;
+    points = subst (λ cs. IsLadderOf cs c.in_ok-ladder.ladder) c.as_slice.ensures.value c.in_ok-ladder.ensures.points;
+    ladder = c.points-points.ensures.ladder;
+    few_points = c.in_ok-ladder.ensures.few;
+  } ∣₁;
+}

@@ -1,0 +1,99 @@
+//! An analysed program.
+ghost use Rattle.std.specs.Prelude.{◌≡◌, ◌<◌, ◌^◌, length};
+ghost use Rattle.std.proofs.Props.{props};
+ghost use Rattle.sp_lattice.specs.Ladder.{IsLadder, IsLadder-prop};
+ghost use Rattle.sp_ir.specs.Programs.{lowered_of};
+ghost use Rattle.sp_scenes.specs.Analysed.{analysed, locations_of};
+ghost use Rattle.sp_scenes.specs.Whole.{IsAnalysed};
+
+use crate::ascending::look_through;
+use crate::cells::locations_of;
+use crate::summaries::{is_integer, is_summary};
+use sp_ir::Lowered;
+use sp_lattice::Ladder;
+use sp_pre::{PointsTo, points_to};
+use sp_stores::Scenery;
+use sp_value::Locations;
+use std::alloc::{AllocError, Global};
+
+/// A formed program, and what is known of it before any effect.
+#[derive(Drop)]
+pub struct Analysis {
+    pub lowered: Lowered,
+    pub pre: PointsTo,
+    pub locations: Locations,
+    pub ladder: Ladder,
+    ghost cells: { locations.cells.items ≡ locations_of (lowered_of lowered) } by { Prim.hlevel props },
+    ghost points: { IsLadder ladder } by { IsLadder-prop ladder },
+    ghost few: { length (lowered_of lowered).objects < 2 ^ 32 },
+    ghost whole: { ∥ IsAnalysed (analysed (lowered_of lowered) pre ladder) ∥₁ },
+}
+
+impl Analysis {
+    ghost use Rattle.std.specs.Prelude.{IfOk};
+    ghost use Rattle.sp_ir.specs.Formed.{IsFormed};
+    ghost use Rattle.sp_rows.specs.Setting.{count, cell_of};
+    ghost use Rattle.sp_scenes.specs.Analysed.{setting_of};
+    ghost use Rattle.sp_scenes.specs.View.{analysed_of};
+
+    /// The analysis of a formed program.
+    pub fn new(alloc: Global, lowered: Lowered) -> Result<Analysis, AllocError>
+        requires { IsFormed (lowered_of lowered) }
+        ensures { IfOk result (λ analysis. lowered_of analysis.lowered ≡ lowered_of lowered) }
+    {
+        let pre = points_to(alloc, &lowered)?;
+        let locations = locations_of(alloc, &lowered)?;
+        let ladder = Ladder::new(alloc, lowered.constants.as_slice())?;
+        let _points = ladder.points();
+        look_through(&pre, &lowered);
+        Ok(Analysis {
+            lowered,
+            pre,
+            locations,
+            ladder,
+        })
+    }
+
+    /// The region of a location.
+    pub fn region(&self, location: u32) -> u32
+        requires { location < count (setting_of (analysed_of self.now)) }
+        ensures { result ≡ cell_of (setting_of (analysed_of self.now)) location }
+    {
+        self.locations.cells[location as usize]
+    }
+}
+
+impl Scenery for Analysis {
+    ghost use Rattle.sp_scenes.specs.Analysed.{analysed, scene_of};
+    ghost use Rattle.sp_scenes.specs.SceneLaws.{scene_lawful};
+
+    ghost scene = { λ s. scene_of (analysed (lowered_of s.lowered) s.pre s.ladder) };
+
+    fn lowered(&self) -> &Lowered {
+        &self.lowered
+    }
+
+    fn locations(&self) -> &Locations {
+        &self.locations
+    }
+
+    fn is_summary(&self, location: u32) -> bool {
+        match self.locations.cells.get(location as usize) {
+            Some(region) => is_summary(&self.lowered, &self.pre, *region),
+            None => false,
+        }
+    }
+
+    fn is_integer(&self, location: u32) -> bool {
+        match self.locations.cells.get(location as usize) {
+            Some(region) => is_integer(&self.lowered, *region),
+            None => false,
+        }
+    }
+
+    fn ladder(&self) -> &Ladder {
+        &self.ladder
+    }
+
+    ghost lawful = { λ s. scene_lawful (analysed (lowered_of s.lowered) s.pre s.ladder) s.whole };
+}
