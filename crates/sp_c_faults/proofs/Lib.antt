@@ -10,3 +10,14 @@ pub mod UnitNames
 pub mod TypeKinds
 pub mod NamesTold
 pub mod Rows
+pub mod LongRows
+pub mod TypeBehind
+pub mod TypeNotes
+pub mod TypeProductions
+pub mod TypePeeks
+pub mod TypeAsks
+pub mod TypeOwn
+pub mod PartTypes
+pub mod MissingKinds
+pub mod MissingTold
+pub mod UnitTypes

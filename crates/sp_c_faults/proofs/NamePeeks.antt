@@ -48,7 +48,7 @@ module _ (types : List ℕ) (b x : Terminal) (kind number : ℕ) (name_b : is_na
   -- a part behind a token
   pub part : {m : Ask syntax_trees} {g : Context} {i : Part} {k : ItemAnswer i → Plan (c_symbols syntax_trees) m} → g.types ≡ types → Fits i × Within i × (carried_item i ≡ false) × KnownItem i (grammar.item_value g i) → ((a : ItemAnswer i) → KnownItem i a → Keeps (k a) (may_item i a)) → Keeps (call (at g i) k) false
   part {g = g} {i = i} same h more = record {
-    here = ((same, h.0), (λ f. let apart : true ≡ false = sym f ∙ h.2 in absurd cc), (λ f. absurd cc), (λ f. (more (grammar.item_value g i) h.3).here));
+    here = ((same, h.0), (λ f. let apart : true ≡ false = sym f ∙ h.2 in absurd cc), (λ f. absurd cc), (λ f. inr (more (grammar.item_value g i) h.3).here));
     later = ((same, h.1), λ a e. ((more a e).here, (more a e).later));
   }
 
@@ -66,8 +66,8 @@ module _ (types : List ℕ) (b x : Terminal) (kind number : ℕ) (name_b : is_na
     here = (
       (same, h.0),
       (λ f. sym carried ∙ f),
-      (λ f. (grammar.item_value g i, ap (plan g i b) (type_b g same) ∙ stays)),
-      (λ f. subst (λ v. AtToken c_table (name_notes types) b x (k (grammar.item_value g i)) v) (both so_far (may_item i (grammar.item_value g i)) may) (more (grammar.item_value g i) h.2).here),
+      (λ f. inr (inr (grammar.item_value g i, ap (plan g i b) (type_b g same) ∙ stays))),
+      (λ f. inr (subst (λ v. AtToken c_table (name_notes types) b x (k (grammar.item_value g i)) v) (both so_far (may_item i (grammar.item_value g i)) may) (more (grammar.item_value g i) h.2).here)),
     );
     later = ((same, h.1), λ a e. ((more a e).here, (more a e).later));
   }

@@ -1,5 +1,5 @@
 -- At a failing token of a part that is a type name, the grammar's notes tell whether a name could be in its place.
-use Rattle.std.proofs.Common.{◌≡◌, ℕ, Bool, true, false, List, [], ◌∷◌, ◌++◌, refl, sym, ◌∙◌, subst}
+use Rattle.std.proofs.Common.{◌≡◌, inr, ℕ, Bool, true, false, List, [], ◌∷◌, ◌++◌, refl, sym, ◌∙◌, subst}
 use Rattle.std.proofs.lemmas.List.{append_cancel_right}
 use Rattle.sp_grammar.specs.CTokens as tokens
 use Rattle.sp_grammar.specs.CTokens.{view as viewed, is_name}
@@ -51,7 +51,7 @@ module _ (types : List ℕ) (i : Part) (fits : Fits i) (plain : carried_item i �
   This = at (grammar.outside types) i
 
   noted_part : (b x : Terminal) (us : List Terminal) → Noted c_table (name_notes types) b x us (ask This) false
-  noted_part b x [] = ((refl, fits), (λ f. let apart : true ≡ false = sym f ∙ plain in absurd cc), (λ f. absurd cc), (λ f. refl))
+  noted_part b x [] = ((refl, fits), (λ f. let apart : true ≡ false = sym f ∙ plain in absurd cc), (λ f. absurd cc), (λ f. inr refl))
   noted_part b x (u ∷ us) = ((refl, fits_within i fits), λ a k. (refl, tt))
 
   module _ (b x : Terminal) (kind number : ℕ) (is_name_b : is_name b.sort ≡ true) (is_name_x : is_name x.sort ≡ true) where

@@ -1,5 +1,5 @@
 -- Notes that each production keeps tell whether another token could be in the failing one's place, for any table.
-use Rattle.std.proofs.Common.{◌≡◌, inl, Bool, true, false, List, [], ◌∷◌, ◌++◌, Some, None, refl, sym, ap, ap₂, ◌∙◌, subst}
+use Rattle.std.proofs.Common.{◌≡◌, ◌⊎◌, inl, inr, Bool, true, false, List, [], ◌∷◌, ◌++◌, Some, None, refl, sym, ap, ap₂, ◌∙◌, subst}
 use Rattle.std.specs.Prelude.{◌||◌}
 use Rattle.std.proofs.lemmas.List.{append_assoc, append-nil}
 use Rattle.sp_grammar.specs.Table.{Symbols, Plan, done, call, Table, ask, Heads, Reads, read_done, read_take, read_call, Want, asked, Fails, fail_take, fail_later, fail_ask, fail_inside, fail_behind, Opens}
@@ -8,7 +8,7 @@ use Rattle.sp_grammar.proofs.Lists.{heads}
 use Rattle.sp_grammar.proofs.Readings.{front_of, fault_front, spelled, fault_spelled, at_tokens, fault_at_tokens, join, join_fails}
 use Rattle.sp_grammar.proofs.Moving.{fine, hollow, part_goes_on}
 use Rattle.sp_grammar.proofs.Completions.{Completed, completed_rest, completed_take, completed_inside, opened}
-use Rattle.sp_c_faults.proofs.Swaps.{Notes, AtToken, Before, BeforeAt, SameAt, Peek, same, opens_done, opens_none, opens_too, taken, Noted, at_once, ReadClaim, FailClaim, PartGoes, ReadPart, FailPart, or_true, or_false, none_at_once, carry, both_false, no_read, no_fail, completed_after, completed_part}
+use Rattle.sp_c_faults.proofs.Swaps.{Notes, AtToken, Before, BeforeAt, SameAt, Peek, same, opens_done, opens_none, opens_too, opens_over, taken, Takes, Noted, at_once, ReadClaim, FailClaim, PartGoes, ReadPart, FailPart, or_true, or_false, none_at_once, carry, both_false, no_read, no_fail, completed_after, completed_part}
 
 module _ {S : Symbols} (T : Table S) (c : Checked T) (N : Notes S) (b x : S.Token) (known_of : (n : S.Ask) (xs ys : List S.Token) (a : S.Answer n) → N.covers n → Reads T n (ask n) xs a ys → N.known n a)
     (before : (n : S.Ask) (y : S.Token) → N.covers n → BeforeAt T N b x n (T.predict n y)) (covers_at : (n : S.Ask) → N.at_token n → N.covers n) (peek : (n : S.Ask) → N.at_token n → Peek T N b x n) where
@@ -68,6 +68,10 @@ module _ {S : Symbols} (T : Table S) (c : Checked T) (N : Notes S) (b x : S.Toke
       by_goes : (goes : Bool) → N.may_go_on n a ≡ N.carried n || goes → (goes ≡ false → ⊥) → N.may_go_on n a ≡ N.carried n || true
       by_goes true told never = told
       by_goes false told never = absurd (never refl)
+  read_part_none n rest q a e r claim (opens_over p old there opens here noted) =
+      let plan : old ≡ q = cc in
+      let s = claim true (subst (λ v. AtToken T N b x v true) plan noted) in
+      record { goes = true; told = s.told ∙ sym (or_true (N.carried n)); stays = λ f. absurd cc; goes_on = λ f. opened_part n p there opens }
   read_part_none n rest q a e r claim (taken p here opens) =
       let plan : p ≡ q = cc in
       absurd (no_read T (subst (λ v. Opens T n v b) plan opens) r)
@@ -94,11 +98,24 @@ module _ {S : Symbols} (T : Table S) (c : Checked T) (N : Notes S) (b x : S.Toke
       by_part false f h = completed_after T c n k a u x [] (λ zs. part.stays f zs) (s.goes_on (ap (λ i. i || s.goes) (sym f) ∙ h))
 
   -- the notes at the token behind a part that was read from nothing
-  behind_nothing : {m : S.Ask} (n : S.Ask) (k : S.Answer n → Plan S m) (q : Plan S n) (y : S.Token) (rest mid : List S.Token) (a : S.Answer n) (so_far : Bool) → T.predict n y ≡ Some q → (r : Reads T n q (y ∷ rest) a mid) → front_of r ≡ [] → AtToken T N b x (call n k) so_far → AtToken T N b x (k a) (so_far || N.may_go_on n a)
-  behind_nothing n k q y rest mid a so_far e r none noted =
+  behind_nothing : {m : S.Ask} (n : S.Ask) (k : S.Answer n → Plan S m) (q : Plan S n) (y : S.Token) (rest mid : List S.Token) (a : S.Answer n) (so_far : Bool) → T.predict n y ≡ Some q → (r : Reads T n q (y ∷ rest) a mid) → front_of r ≡ [] → Heads mid b → AtToken T N b x (call n k) so_far → AtToken T N b x (k a) (so_far || N.may_go_on n a)
+  behind_nothing {m = m} n k q y rest mid a so_far e r none head noted =
       let shortest = hollow T c r none in
       let value = (fine T c n y q e).hollow shortest.0 in
-      subst (λ v. AtToken T N b x (k v) (so_far || N.may_go_on n v)) (sym (shortest.1 ∙ value.1)) (noted.3 value.0)
+      subst (λ v. AtToken T N b x (k v) (so_far || N.may_go_on n v)) (sym (shortest.1 ∙ value.1)) (unless (noted.3 value.0))
+    where
+      none_taken : Takes T b n → ⊥
+      none_taken t =
+          let there : y ∷ rest ≡ mid = spelled r ∙ ap (λ v. v ++ mid) none in
+          let is_b : y ≡ b = subst (λ v. Heads v b) (sym there) head in
+          let here : Reads T n q (b ∷ rest) a (b ∷ rest) = subst (λ v. Reads T n q (v ∷ rest) a (v ∷ rest)) is_b (subst (λ v. Reads T n q (y ∷ rest) a v) (sym there) r) in
+          let chosen : T.predict n b ≡ Some q = subst (λ v. T.predict n v ≡ Some q) is_b e in
+          let plan : t.0 ≡ q = (let same : Some t.0 ≡ Some q = sym t.1 ∙ chosen in cc) in
+          no_read T (subst (λ v. Opens T n v b) plan t.2) here
+
+      unless : {A : Type 0} → Takes T b n ⊎ A → A
+      unless (inl t) = absurd (none_taken t)
+      unless (inr a) = a
 
   covered : {m : S.Ask} (n : S.Ask) (k : S.Answer n → Plan S m) (us : List S.Token) (so_far : Bool) → Noted T N b x us (call n k) so_far → N.covers n
   covered n k [] so_far h = covers_at n h.0
@@ -132,7 +149,7 @@ module _ {S : Symbols} (T : Table S) (c : Checked T) (N : Notes S) (b x : S.Toke
       by_first : (us : List S.Token) → front_of r ≡ us → front_of s ≡ [] → Heads mid b → ReadClaim T N x (call n k) (front_of r ++ []) o (at_once (front_of r ++ []) so_far)
       by_first [] none nothing mid_head =
           let here : AtToken T N b x (call n k) so_far = subst (λ v. Noted T N b x v (call n k) so_far) (ap₂ (λ v w. v ++ w) none nothing) noted in
-          let behind = behind_nothing n k q y rest mid a so_far e r none here in
+          let behind = behind_nothing n k q y rest mid a so_far e r none mid_head here in
           let c1 = subst (λ v. ReadPart T N x n v a) none (part mid_head covers (λ f. here.0)) in
           let s2 = subst (λ v. (so_far : Bool) → Noted T N b x v (k a) so_far → ReadClaim T N x (k a) v o (at_once v so_far)) nothing claim in
           let c2 = s2 (so_far || N.may_go_on n a) behind in
@@ -173,23 +190,25 @@ module _ {S : Symbols} (T : Table S) (c : Checked T) (N : Notes S) (b x : S.Toke
 
   -- ---- what fails
 
-  -- so much could go on before an ask only where that reads nothing at the token
-  not_so_far : (n : S.Ask) (so_far : Bool) → (so_far ≡ true → (o : S.Answer n) × (T.predict n b ≡ Some (done o))) → ((o : S.Answer n) → T.predict n b ≡ Some (done o) → ⊥) → so_far ≡ false
-  not_so_far n true ends never = let o = ends refl in absurd (never o.0 o.1)
-  not_so_far n false ends never = refl
-
-  not_carried : (n : S.Ask) (so_far : Bool) → (N.carried n ≡ true → so_far ≡ true) → so_far ≡ false → N.carried n ≡ false
-  not_carried n so_far carries e = by_carried (N.carried n) refl
+  -- so much could go on before an ask that fails at the token as it carries
+  carried_so_far : (n : S.Ask) (so_far : Bool) → (N.carried n ≡ true → so_far ≡ true) → (so_far ≡ true → Takes T b n ⊎ ((N.carried n ≡ true) ⊎ ((o : S.Answer n) × (T.predict n b ≡ Some (done o))))) → (Takes T b n → ⊥) → ((o : S.Answer n) → T.predict n b ≡ Some (done o) → ⊥) → N.carried n ≡ so_far
+  carried_so_far n so_far carries ends no_taken no_end = by_both so_far (N.carried n) refl refl
     where
-      by_carried : (i : Bool) → N.carried n ≡ i → N.carried n ≡ false
-      by_carried true f = let g = carries f in absurd cc
-      by_carried false f = f
+      by_ends : Takes T b n ⊎ ((N.carried n ≡ true) ⊎ ((o : S.Answer n) × (T.predict n b ≡ Some (done o)))) → N.carried n ≡ true
+      by_ends (inl t) = absurd (no_taken t)
+      by_ends (inr (inl c)) = c
+      by_ends (inr (inr o)) = absurd (no_end o.0 o.1)
+
+      by_both : (t i : Bool) → so_far ≡ t → N.carried n ≡ i → N.carried n ≡ so_far
+      by_both true i e f = by_ends (ends e) ∙ sym e
+      by_both false true e f = f ∙ sym (carries f)
+      by_both false false e f = f ∙ sym e
 
   -- with nothing before it
-  from_part : {m : S.Ask} (n : S.Ask) (k : S.Answer n → Plan S m) (w : Want S) (so_far : Bool) → so_far ≡ false → N.carried n ≡ false → FailPart T N x n [] w → FailClaim T N x (call n k) [] w so_far
-  from_part {m = m} n k w so_far e f s = record {
+  from_part : {m : S.Ask} (n : S.Ask) (k : S.Answer n → Plan S m) (w : Want S) (so_far : Bool) → N.carried n ≡ so_far → FailPart T N x n [] w → FailClaim T N x (call n k) [] w so_far
+  from_part {m = m} n k w so_far f s = record {
     goes = s.goes;
-    told = s.told ∙ ap (λ i. i || s.goes) (f ∙ sym e);
+    told = s.told ∙ ap (λ i. i || s.goes) f;
     own = s.own;
     stays = λ g zs. asked_fails (s.stays g zs);
     goes_on = λ g. completed_part T c n k (x ∷ []) (s.goes_on g);
@@ -210,6 +229,7 @@ module _ {S : Symbols} (T : Table S) (c : Checked T) (N : Notes S) (b x : S.Toke
   ask_claim n e (opens_done q o there opens here may) = absurd cc
   ask_claim n e (opens_none q there opens here tells own) = record { goes = true; told = tells ∙ sym (or_true (N.carried n)); own = own; stays = λ f. absurd cc; goes_on = λ f. opened_part n q there opens }
   ask_claim n e (opens_too q old there opens here too noted) = absurd cc
+  ask_claim n e (opens_over q old there opens here noted) = absurd cc
   ask_claim n e (taken q here opens) = absurd cc
 
   inside_claim : (n : S.Ask) (rest : List S.Token) (q : Plan S n) (w : Want S) → T.predict n b ≡ Some q → Fails T n q (b ∷ rest) w (b ∷ rest) → ((so_far : Bool) → AtToken T N b x q so_far → FailClaim T N x q [] w so_far) → Peek T N b x n → FailPart T N x n [] w
@@ -236,6 +256,10 @@ module _ {S : Symbols} (T : Table S) (c : Checked T) (N : Notes S) (b x : S.Toke
       by_goes : (goes : Bool) → N.tells w ≡ N.carried n || goes → (goes ≡ false → ⊥) → N.tells w ≡ N.carried n || true
       by_goes true told never = told
       by_goes false told never = absurd (never refl)
+  inside_claim n rest q w e h claim (opens_over p old there opens here noted) =
+      let plan : old ≡ q = cc in
+      let s = claim true (subst (λ v. AtToken T N b x v true) plan noted) in
+      record { goes = true; told = s.told ∙ sym (or_true (N.carried n)); own = s.own; stays = λ f. absurd cc; goes_on = λ f. opened_part n p there opens }
   inside_claim n rest q w e h claim (taken p here opens) =
       let plan : p ≡ q = cc in
       absurd (no_fail T (subst (λ v. Opens T n v b) plan opens) h)
@@ -261,9 +285,9 @@ module _ {S : Symbols} (T : Table S) (c : Checked T) (N : Notes S) (b x : S.Toke
           let chosen : T.predict n b ≡ Some q = subst (λ v. T.predict n v ≡ Some q) is_b e in
           let here : AtToken T N b x (call n k) so_far = subst (λ v. Noted T N b x v (call n k) so_far) none noted in
           let moved = subst (λ v. (t : Bool) → Noted T N b x v q t → FailClaim T N x q v w (at_once v t)) none claim in
-          let none_so_far = not_so_far n so_far here.2 (λ o f. let plan : q ≡ done o = cc in no_done (subst (λ v. Fails T n v (b ∷ rest) w (b ∷ rest)) plan fault)) in
+          let alike = carried_so_far n so_far here.1 here.2 (λ t. let plan : t.0 ≡ q = (let same : Some t.0 ≡ Some q = sym t.1 ∙ chosen in cc) in no_fail T (subst (λ v. Opens T n v b) plan t.2) fault) (λ o f. let plan : q ≡ done o = cc in no_done (subst (λ v. Fails T n v (b ∷ rest) w (b ∷ rest)) plan fault)) in
           let part = inside_claim n rest q w chosen fault moved (peek n here.0) in
-          subst (λ v. FailClaim T N x (call n k) v w (at_once v so_far)) (sym none) (from_part n k w so_far none_so_far (not_carried n so_far here.1 none_so_far) part)
+          subst (λ v. FailClaim T N x (call n k) v w (at_once v so_far)) (sym none) (from_part n k w so_far alike part)
       by_front (v ∷ vs) some =
           let there : y ∷ rest ≡ (v ∷ vs) ++ bad = fault_spelled h ∙ ap (λ z. z ++ bad) some in
           let is_v : y ≡ v = cc in
@@ -304,7 +328,7 @@ module _ {S : Symbols} (T : Table S) (c : Checked T) (N : Notes S) (b x : S.Toke
       by_first : (us : List S.Token) → front_of r ≡ us → fault_front h ≡ [] → Heads mid b → FailClaim T N x (call n k) (front_of r ++ []) w (at_once (front_of r ++ []) so_far)
       by_first [] none nothing mid_head =
           let here : AtToken T N b x (call n k) so_far = subst (λ v. Noted T N b x v (call n k) so_far) (ap₂ (λ v z. v ++ z) none nothing) noted in
-          let behind = behind_nothing n k q y rest mid a so_far e r none here in
+          let behind = behind_nothing n k q y rest mid a so_far e r none mid_head here in
           let c1 = subst (λ v. ReadPart T N x n v a) none (part mid_head covers (λ f. here.0)) in
           let s2 = subst (λ v. (t : Bool) → Noted T N b x v (k a) t → FailClaim T N x (k a) v w (at_once v t)) nothing claim in
           let c2 = s2 (so_far || N.may_go_on n a) behind in
@@ -346,7 +370,7 @@ module _ {S : Symbols} (T : Table S) (c : Checked T) (N : Notes S) (b x : S.Toke
       }
   fails (fail_ask {n = n} {k = k} {x = y} e) head so_far noted =
       let here : T.predict n b ≡ None = subst (λ v. T.predict n v ≡ None) head e in
-      let none_so_far = not_so_far n so_far noted.2 (λ o f. let apart : None ≡ Some (done o) = sym here ∙ f in absurd cc) in
-      from_part n k (asked n) so_far none_so_far (not_carried n so_far noted.1 none_so_far) (ask_claim n here (peek n noted.0))
+      let alike = carried_so_far n so_far noted.1 noted.2 (λ t. let apart : None ≡ Some t.0 = sym here ∙ t.1 in absurd cc) (λ o f. let apart : None ≡ Some (done o) = sym here ∙ f in absurd cc) in
+      from_part n k (asked n) so_far alike (ask_claim n here (peek n noted.0))
   fails (fail_inside e h) head so_far noted = fail_inside_claim e h head (λ t given. fails h head t given) so_far noted
   fails (fail_behind e r h) head so_far noted = fail_behind_claim e r h head (λ g covers first. read_part e r g covers first (λ t given. reads r g t given)) (λ t given. fails h head t given) so_far noted

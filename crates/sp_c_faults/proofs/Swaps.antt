@@ -2,7 +2,7 @@
 --
 -- At the token b a plan ends or fails; the question is what it does at the token x. A part that ended at b may go on with x, and what
 -- fails at b may take x, or fail at x too. A note on each answer tells the first, a note on each want the second.
-use Rattle.std.proofs.Common.{◌≡◌, ◌≢◌, Bool, true, false, List, [], ◌∷◌, ◌++◌, Some, None, refl, sym, ap, ◌∙◌, subst}
+use Rattle.std.proofs.Common.{◌≡◌, ◌≢◌, ◌⊎◌, Bool, true, false, List, [], ◌∷◌, ◌++◌, Some, None, refl, sym, ap, ◌∙◌, subst}
 use Rattle.std.specs.Prelude.{Option, ⊤, ◌||◌}
 use Rattle.std.proofs.lemmas.List.{append_assoc}
 use Rattle.sp_grammar.specs.Table.{Symbols, Plan, done, take, call, Table, ask, rest_of, result_of, first, Reads, read_take, read_call, Want, wanted, asked, Fails, fail_take, fail_later, fail_ask, fail_inside, fail_behind, Opens, open_take, open_call}
@@ -22,11 +22,15 @@ pub record Notes (S : Symbols) : Type 1 where
   pub known : (n : S.Ask) → S.Answer n → Type 0
   pub own : Want S → Type 0
 
+-- the ask's production at the token takes it
+abbrev pub Takes : {S : Symbols} (T : Table S) → S.Token → S.Ask → Type 0
+Takes {S} T b n = (q : Plan S n) × (T.predict n b ≡ Some q) × Opens T n q b
+
 -- The notes are kept by the rest of a plan that begins at the token, where so much could go on before it.
 abbrev pub AtToken : {S : Symbols} (T : Table S) (N : Notes S) (b x : S.Token) {m : S.Ask} → Plan S m → Bool → Type 0
 AtToken T N b x {m} (done o) so_far = N.may_go_on m o ≡ so_far
 AtToken {S} T N b x (take c k) so_far = S.accepts c b ≡ false → (N.tells (wanted c) ≡ so_far || S.accepts c x) × N.own (wanted c)
-AtToken {S} T N b x {m} (call n k) so_far = N.at_token n × (N.carried n ≡ true → so_far ≡ true) × (so_far ≡ true → (o : S.Answer n) × (T.predict n b ≡ Some (done o))) × (T.ending n ≡ [] → AtToken T N b x (k (T.value n)) (so_far || N.may_go_on n (T.value n)))
+AtToken {S} T N b x {m} (call n k) so_far = N.at_token n × (N.carried n ≡ true → so_far ≡ true) × (so_far ≡ true → Takes T b n ⊎ ((N.carried n ≡ true) ⊎ ((o : S.Answer n) × (T.predict n b ≡ Some (done o))))) × (T.ending n ≡ [] → Takes T b n ⊎ AtToken T N b x (k (T.value n)) (so_far || N.may_go_on n (T.value n)))
 
 -- The same where some tokens are read before it.
 abbrev pub Before : {S : Symbols} (T : Table S) (N : Notes S) (b x : S.Token) {m : S.Ask} → Plan S m → Type 0
@@ -44,12 +48,14 @@ SameAt T N b x n None = (N.tells (asked n) ≡ N.carried n) × N.own (asked n)
 SameAt T N b x n (Some q) = AtToken T N b x q (N.carried n)
 
 -- How an ask goes about the two tokens: by the same production; nothing is read before b, and x is taken; b isn't what was wanted, and x is
--- taken; both productions take x; or b is taken.
+-- taken; both productions take x; x is
+-- taken, and what the other production does at b is told; or b is taken.
 pub data Peek {S : Symbols} (T : Table S) (N : Notes S) (b x : S.Token) (n : S.Ask) : Type 0 where
   same : T.predict n b ≡ T.predict n x → SameAt T N b x n (T.predict n b) → Peek T N b x n
   opens_done : (q : Plan S n) (o : S.Answer n) → T.predict n x ≡ Some q → Opens T n q x → T.predict n b ≡ Some (done o) → N.may_go_on n o ≡ true → Peek T N b x n
   opens_none : (q : Plan S n) → T.predict n x ≡ Some q → Opens T n q x → T.predict n b ≡ None → N.tells (asked n) ≡ true → N.own (asked n) → Peek T N b x n
   opens_too : (q p : Plan S n) → T.predict n x ≡ Some q → Opens T n q x → T.predict n b ≡ Some p → Opens T n p x → AtToken T N b x p (N.carried n) → Peek T N b x n
+  opens_over : (q p : Plan S n) → T.predict n x ≡ Some q → Opens T n q x → T.predict n b ≡ Some p → AtToken T N b x p true → Peek T N b x n
   taken : (q : Plan S n) → T.predict n b ≡ Some q → Opens T n q b → Peek T N b x n
 
 -- the notes at the token or before it, by the tokens that are read

@@ -10,14 +10,27 @@
 //! both, since each production keeps them (proofs/Productions.antt), and so does each ask at the two
 //! tokens (proofs/NamePeeks.antt).
 //!
+//! So it is with the kinds of missing types, U4 and U5 (specs/Missing.antt): the word that is asked for
+//! is `float`, which stands beside no other word of a type. Of `int` it would be false: `(long x` is
+//! no missing type, though `int` could be in the place of `x` (proofs/LongRows.antt).
+//!
 //! For example `typedef int T;int f(){for(;T;);}` fails at the second `T`: behind the `;` an
 //! expression may be missing, so a name could go on there. In `int a T;` none could.
 #![tactic(auto)]
 
+ghost use Rattle.sp_c_faults.specs.Missing.{MissingTypesAreTold};
 ghost use Rattle.sp_c_faults.specs.Told.{TypeNamesAreTold};
 
 /// Where a text fails at the name of a type, its fault is U9 exactly where a name could be in its
 /// place. The call does nothing.
 pub fn type_names_are_told()
     ensures { TypeNamesAreTold }
+{}
+
+/// Where a unit, an expression, a type name, a list of specifiers or a declarator fails at a token
+/// that begins a declarator, its fault is U4 or U5 exactly where the word `float` could be in its
+/// place.
+/// The call does nothing.
+pub fn missing_types_are_told()
+    ensures { MissingTypesAreTold }
 {}
