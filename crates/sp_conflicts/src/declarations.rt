@@ -1,0 +1,127 @@
+//! The declarations of external names of several units.
+ghost use Rattle.std.specs.Prelude.{◌≡◌, ◌++◌, IfOk, OnOk, map};
+ghost use Rattle.sp_types.specs.Programs.{object_of, function_of};
+ghost use Rattle.sp_units.specs.Units.{checked_unit_of};
+ghost use Rattle.sp_conflicts.specs.Declarations as rules;
+ghost use Rattle.sp_conflicts.specs.Views.{declaration_of};
+
+use crate::linkage::{defines_function, defines_object, is_external};
+use sp_tree::Place;
+use sp_types::{CType, FunctionDef, ObjectDef};
+use sp_units::CheckedUnit;
+use std::alloc::{AllocError, Global};
+
+/// A declaration of an external name.
+#[derive(Drop)]
+pub(crate) struct Declaration {
+    /// The number of its unit.
+    pub unit: u32,
+    pub name: u32,
+    /// The type that its unit gives it, with the unit's structs.
+    pub of: CType,
+    /// Whether its unit defines it.
+    pub defines: bool,
+    pub place: Place,
+}
+
+/// An object of a unit.
+fn object_declared(alloc: Global, unit: u32, object: &ObjectDef) -> Result<Declaration, AllocError>
+    ensures { IfOk result (λ d. declaration_of d ≡
+        rules.object_declared unit (object_of object.now)) }
+{
+    Ok(Declaration {
+        unit,
+        name: object.name,
+        of: object.of.copy(alloc)?,
+        defines: defines_object(object.storage),
+        place: object.place,
+    })
+}
+
+/// A function of a unit.
+fn function_declared(
+    alloc: Global,
+    unit: u32,
+    function: &FunctionDef,
+) -> Result<Declaration, AllocError>
+    ensures { IfOk result (λ d. declaration_of d ≡
+        rules.function_declared unit (function_of function.now)) }
+{
+    Ok(Declaration {
+        unit,
+        name: function.name,
+        of: CType::function(alloc, function.of.copy(alloc)?)?,
+        defines: defines_function(function),
+        place: function.place,
+    })
+}
+
+/// Adds the external objects of a unit.
+fn add_objects(
+    alloc: Global,
+    all: &mut Vec<Declaration>,
+    unit: u32,
+    objects: &[ObjectDef],
+) -> Result<(), AllocError>
+    ensures { OnOk result (map declaration_of all.new.items ≡
+        map declaration_of all.old.items ++ rules.objects_declared unit (map object_of objects.now)) }
+{
+    'objects: for (i, object) in objects.iter().enumerate() {
+        if is_external(object.linkage) {
+            all.push(object_declared(alloc, unit, object)?)?;
+        }
+    }
+    Ok(())
+}
+
+/// Adds the external functions of a unit.
+fn add_functions(
+    alloc: Global,
+    all: &mut Vec<Declaration>,
+    unit: u32,
+    functions: &[FunctionDef],
+) -> Result<(), AllocError>
+    ensures { OnOk result (map declaration_of all.new.items ≡
+        map declaration_of all.old.items
+        ++ rules.functions_declared unit (map function_of functions.now)) }
+{
+    'functions: for (i, function) in functions.iter().enumerate() {
+        if is_external(function.linkage) {
+            all.push(function_declared(alloc, unit, function)?)?;
+        }
+    }
+    Ok(())
+}
+
+/// Adds both. More than 2^32 units want memory.
+fn add_unit(
+    alloc: Global,
+    all: &mut Vec<Declaration>,
+    number: usize,
+    unit: &CheckedUnit,
+) -> Result<(), AllocError>
+    ensures { OnOk result (map declaration_of all.new.items ≡
+        map declaration_of all.old.items
+        ++ rules.unit_declared number (checked_unit_of unit.now)) }
+{
+    let Ok(number) = u32::try_from(number) else {
+        return Err(AllocError);
+    };
+    add_objects(alloc, all, number, &unit.objects)?;
+    add_functions(alloc, all, number, &unit.functions)
+}
+
+/// The declarations of several units.
+pub(crate) fn all_declarations(
+    alloc: Global,
+    units: &[CheckedUnit],
+) -> Result<Vec<Declaration>, AllocError>
+    ensures { IfOk result (λ all. map declaration_of all.items ≡
+        rules.declarations (map checked_unit_of units.now)) }
+{
+    let mut all = Vec::new(alloc);
+    'units: for (u, unit) in units.iter().enumerate() {
+        add_unit(alloc, &mut all, u, unit)?;
+    }
+    Ok(all)
+}
