@@ -11,7 +11,9 @@ make_room() {
         mkdir -p "$room/crates/$crate"
         for part in src specs proofs; do
             rm -rf "$room/crates/$crate/$part"
-            cp -R "$top/crates/$crate/$part" "$room/crates/$crate/$part"
+            if [ -d "$top/crates/$crate/$part" ]; then
+                cp -R "$top/crates/$crate/$part" "$room/crates/$crate/$part"
+            fi
         done
         grep "^$crate:" "$top/crates.txt" >> "$room/crates.txt"
     done

@@ -27,42 +27,15 @@
 
 mod commands;
 mod expressions;
-mod field;
 mod lowered;
-mod texts;
 mod words;
 
-use field::{text_of_pieces, texts_of};
+use row_lowerings::lowered_of;
+use row_texts::{refused, text_of_pieces, texts_of};
 use sp_ir::Lowered;
-use sp_operands::CheckError;
-use sp_tree::{Fault, Names, Place};
+use sp_tree::Names;
 use std::alloc::{AllocError, Global};
 use std::io::{self, BufRead, BufReader};
-
-fn name_shown(names: &Names, number: u32) -> &str {
-    str::from_utf8(names.get(number).unwrap_or(b"?".as_slice())).unwrap_or("?")
-}
-
-/// A place, with the name of its file where that isn't the first.
-fn place_shown(alloc: Global, names: &Names, place: Place) -> Result<String, AllocError> {
-    let Place { name, line, column } = place;
-    if name == 0 {
-        return format!(in alloc; "{line}:{column}");
-    }
-    let name = name_shown(names, name);
-    format!(in alloc; "{name}:{line}:{column}")
-}
-
-/// Why texts have no lowering.
-fn refused(alloc: Global, names: &Names, error: CheckError) -> Result<String, AllocError> {
-    match error {
-        CheckError::Fault(Fault { kind, place }) => {
-            let place = place_shown(alloc, names, place)?;
-            format!(in alloc; "{place}: {}", kind.code())
-        }
-        CheckError::NoMemory => String::from_str(alloc, "out of memory"),
-    }
-}
 
 fn told(alloc: Global, is_whole: bool, lowered: &Lowered) -> Result<String, AllocError> {
     if is_whole {
@@ -75,7 +48,7 @@ fn told(alloc: Global, is_whole: bool, lowered: &Lowered) -> Result<String, Allo
 /// The answer for these texts: their lowering, or how much there is of it.
 fn answer_for(alloc: Global, is_whole: bool, texts: &[Vec<u8>]) -> Result<String, AllocError> {
     let mut names = Names::new(alloc);
-    match texts::lowered_of(alloc, texts, &mut names) {
+    match lowered_of(alloc, texts, &mut names) {
         Ok(lowered) => told(alloc, is_whole, &lowered),
         Err(error) => refused(alloc, &names, error),
     }

@@ -1,10 +1,11 @@
 -- Copying cell by cell: what goes from the cells of one region to those of another (C90 6.3.16.1).
-use Rattle.std.specs.Prelude.{ℕ, cond, List, Option, Some, None, filter, option_map}
+use Rattle.std.specs.Prelude.{ℕ, nat_eq, Bool, cond, List, Option, Some, None, filter}
 use Rattle.sp_types.specs.Types.{CType}
 use Rattle.sp_interval.specs.declared.interval.Interval.TheVariants.{Empty}
 use Rattle.sp_ir.specs.Commands.{Lvalue}
 use Rattle.sp_ir.specs.Programs.{Lowered}
 use Rattle.sp_ir.specs.Terrain.{terrain_of}
+use Rattle.sp_ir.specs.Formed.{is_scalar}
 use Rattle.sp_value.specs.Known.{Known, none, of_numbers, known_join, has_numbers, gathered}
 use Rattle.sp_eval.specs.Evaluation.{matched, address_of}
 use Rattle.sp_puts.specs.Paths.{reaches, mirrored}
@@ -15,6 +16,12 @@ use Rattle.sp_entries.specs.Given.{every_in}
 -- the cells under a region
 abbrev pub cells_in : Lowered → ℕ → List ℕ
 cells_in p r = filter (reaches p r) (locations_of p)
+
+-- A value of this type that stands at a region has the cell: a scalar at its own cell, a struct those
+-- under its region.
+abbrev pub has_cell : Lowered → Option CType → ℕ → ℕ → Bool
+has_cell p None q c = reaches p q c
+has_cell p (Some t) q c = cond (is_scalar t) (nat_eq q c) (reaches p q c)
 
 -- every number of a cell's type
 abbrev pub every_of : Lowered → ℕ → Known

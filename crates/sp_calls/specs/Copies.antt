@@ -1,26 +1,28 @@
 -- Where a struct or a scalar is stored, cell by cell, and the row of the assignment of a struct
 -- (C90 6.3.16.1).
-use Rattle.std.specs.Prelude.{ℕ, nat_eq, Bool, not, ◌&&◌, ◌||◌, List, ◌++◌, flat_map}
+use Rattle.std.specs.Prelude.{ℕ, Bool, true, false, not, ◌&&◌, ◌||◌, List, [], ◌++◌, Option, Some, None, flat_map}
 use Rattle.sp_lattice.specs.System.{has}
-use Rattle.sp_ir.specs.Commands.{Lvalue}
+use Rattle.sp_ir.specs.Commands.{Expression, Lvalue, lvalue_type}
 use Rattle.sp_ir.specs.Terrain.{terrain_of}
-use Rattle.sp_ir.specs.Denoted.{cells_of, pointer_uses}
+use Rattle.sp_ir.specs.Denoted.{cells_of, pointer_uses, uses_of}
 use Rattle.sp_value.specs.Known.{Known}
-use Rattle.sp_puts.specs.Paths.{reaches}
+use Rattle.sp_eval.specs.Evaluation.{is_proper_lvalue}
+use Rattle.sp_puts.specs.Puts.{as_struct}
 use Rattle.sp_rows.specs.Rows.{Store, Row}
 use Rattle.sp_rows.specs.Setting.{cell_of}
 use Rattle.sp_rows.specs.Storing.{Destination, may_hit, storing}
 use Rattle.sp_stores.specs.Scene.{known_in_regions}
 use Rattle.sp_stores.specs.Destinations.{bottom_of, bottom_regions, bottom_accepts, region_under, is_direct}
 use Rattle.sp_scenes.specs.Analysed.{Analysed, setting_of, scene_of, is_summary}
-use Rattle.sp_calls.specs.Copied.{cells_in, copied_of}
+use Rattle.sp_calls.specs.Copied.{cells_in, has_cell, copied_of}
 
--- a store at a target goes to each cell under the lvalue there
+-- a store at a target goes to each cell of the lvalue there
 abbrev pub leaf_destination : Analysed → Lvalue → Destination
 leaf_destination a to = record {
   targets = λ s. (bottom_of (terrain_of a.program) (known_in_regions (scene_of a) s) to).targets;
   hits = λ r k. bottom_accepts (terrain_of a.program) to r
-      && reaches a.program (region_under (terrain_of a.program) to r) (cell_of (setting_of a) k);
+      && has_cell a.program (Some (lvalue_type to)) (region_under (terrain_of a.program) to r)
+      (cell_of (setting_of a) k);
   regions = bottom_regions (terrain_of a.program) (setting_of a).points_to to;
   summary = λ k. is_summary a.program a.told (cell_of (setting_of a) k);
 }
@@ -50,3 +52,32 @@ struct_reads a from =
 abbrev pub copy_uses : Analysed → Lvalue → Lvalue → ℕ → Bool
 copy_uses a to from l = keeps_leaves a to l || has (cell_of (setting_of a) l)
     (struct_reads a from ++ pointer_uses (terrain_of a.program) (setting_of a).points_to to)
+
+-- ---- arguments and results of calls
+
+-- the cells that are read of an argument: it may be a struct, read from an lvalue
+abbrev pub argument_reads : Analysed → Expression → Option (ℕ × Lvalue) → List ℕ
+argument_reads a e None = uses_of (terrain_of a.program) (setting_of a).points_to e
+argument_reads a e (Some s) = struct_reads a s.1
+
+abbrev pub arguments_read : Analysed → List Expression → List ℕ
+arguments_read a args = flat_map (λ e. argument_reads a e (as_struct e)) args
+
+-- a result goes to a proper lvalue, if anywhere
+abbrev pub is_proper_result : Option Lvalue → Bool
+is_proper_result None = true
+is_proper_result (Some to) = is_proper_lvalue to
+
+-- what is defined where a result goes, if it goes anywhere; what is kept there; and the cells that
+-- are read to find it
+abbrev pub result_defines : Analysed → Option Lvalue → ℕ → Bool
+result_defines a None l = false
+result_defines a (Some to) l = may_hit (leaf_destination a to) l
+
+abbrev pub result_keeps : Analysed → Option Lvalue → ℕ → Bool
+result_keeps a None l = false
+result_keeps a (Some to) l = keeps_leaves a to l
+
+abbrev pub result_found : Analysed → Option Lvalue → List ℕ
+result_found a None = []
+result_found a (Some to) = pointer_uses (terrain_of a.program) (setting_of a).points_to to

@@ -1,11 +1,10 @@
 -- The result of a function that isn't defined: anything, or where its pointers may point.
-use Rattle.std.specs.Prelude.{ℕ, Bool, false, cond, ◌||◌, List, Option, Some, None, option_map}
+use Rattle.std.specs.Prelude.{ℕ, Bool, cond, ◌||◌, List, ◌++◌, Option, Some, None, option_map}
 use Rattle.sp_types.specs.Types.{CType}
 use Rattle.sp_lattice.specs.System.{has}
-use Rattle.sp_ir.specs.Commands.{Lvalue, lvalue_type}
+use Rattle.sp_ir.specs.Commands.{Expression, Lvalue, lvalue_type}
 use Rattle.sp_ir.specs.Programs.{Lowered}
 use Rattle.sp_ir.specs.Terrain.{terrain_of}
-use Rattle.sp_ir.specs.Denoted.{pointer_uses}
 use Rattle.sp_ir.specs.Formed.{is_integer, is_pointer}
 use Rattle.sp_value.specs.declared.targets.Target.{Target}
 use Rattle.sp_value.specs.Known.{Known, of_numbers}
@@ -13,7 +12,7 @@ use Rattle.sp_rows.specs.Rows.{Store, Row, untouched}
 use Rattle.sp_rows.specs.Setting.{cell_of}
 use Rattle.sp_scenes.specs.Analysed.{Analysed, setting_of, element_of}
 use Rattle.sp_entries.specs.Given.{every_in, site_targets, foreign_value}
-use Rattle.sp_calls.specs.Copies.{storing_leaves, keeps_leaves}
+use Rattle.sp_calls.specs.Copies.{storing_leaves, arguments_read, result_keeps, result_found}
 
 -- the type with which a cell is written: a scalar's own; of a struct the cell's. Bytes have none
 abbrev pub written_as : CType → Option CType → Option CType
@@ -24,17 +23,19 @@ abbrev pub every_written : Lowered → Lvalue → ℕ → Known
 every_written p to c = of_numbers (every_in (written_as (lvalue_type to) (element_of p c)))
 
 -- every number; where it is a pointer, the site
+abbrev pub foreign_as : Lowered → CType → List Target → ℕ → Known
+foreign_as p t site c = cond (is_pointer t) (foreign_value (Some t) site)
+    (foreign_value (written_as t (element_of p c)) site)
+
 abbrev pub foreign_leaf : Lowered → Lvalue → List Target → ℕ → Known
-foreign_leaf p to site c = cond (is_pointer (lvalue_type to))
-    (foreign_value (Some (lvalue_type to)) site)
-    (foreign_value (written_as (lvalue_type to) (element_of p c)) site)
+foreign_leaf p to site c = foreign_as p (lvalue_type to) site c
 
 abbrev pub from_outside : Analysed → Option Lvalue → Option ℕ → Store → Row
 from_outside a None site s = untouched
 from_outside a (Some to) site s = storing_leaves a to
     (λ s q c. foreign_leaf a.program to (site_targets (terrain_of a.program) site) c) s
 
-abbrev pub outside_uses : Analysed → Option Lvalue → ℕ → Bool
-outside_uses a None l = false
-outside_uses a (Some to) l = keeps_leaves a to l
-    || has (cell_of (setting_of a) l) (pointer_uses (terrain_of a.program) (setting_of a).points_to to)
+-- the arguments are read, though nothing becomes of them
+abbrev pub outside_uses : Analysed → Option Lvalue → List Expression → ℕ → Bool
+outside_uses a to args l = result_keeps a to l
+    || has (cell_of (setting_of a) l) (arguments_read a args ++ result_found a to)

@@ -1,5 +1,5 @@
 -- The arguments of a call: the formals of all functions that it calls get them (C90 6.3.2.2).
-use Rattle.std.specs.Prelude.{ℕ, Bool, false, cond, ◌&&◌, ◌||◌, List, [], ◌∷◌, ◌++◌, Option, Some, None, slice_get, flat_map}
+use Rattle.std.specs.Prelude.{ℕ, Bool, cond, ◌&&◌, ◌||◌, List, [], ◌∷◌, ◌++◌, Option, Some, None, slice_get}
 use Rattle.std.specs.List.{list_any}
 use Rattle.sp_types.specs.Types.{CType}
 use Rattle.sp_lattice.specs.System.{has}
@@ -13,7 +13,6 @@ use Rattle.sp_value.specs.Known.{Known, none, known_join}
 use Rattle.sp_eval.specs.Steps.{converted}
 use Rattle.sp_eval.specs.Evaluation.{value_of}
 use Rattle.sp_puts.specs.declared.sources.Test.TheVariants.{Aggregate}
-use Rattle.sp_puts.specs.Paths.{reaches}
 use Rattle.sp_puts.specs.Sources.{is_of, type_in}
 use Rattle.sp_puts.specs.Puts.{as_struct}
 use Rattle.sp_rows.specs.Rows.{Store, Row}
@@ -23,8 +22,8 @@ use Rattle.sp_stores.specs.Scene.{known_in_regions}
 use Rattle.sp_scenes.specs.Analysed.{Analysed, setting_of, scene_of, is_summary}
 use Rattle.sp_entries.specs.Joined.{joined}
 use Rattle.sp_entries.specs.Starts.{formals_in}
-use Rattle.sp_calls.specs.Copied.{every_of, copied_of}
-use Rattle.sp_calls.specs.Copies.{struct_reads}
+use Rattle.sp_calls.specs.Copied.{has_cell, every_of, copied_of}
+use Rattle.sp_calls.specs.Copies.{arguments_read}
 
 -- ---- one argument
 
@@ -40,9 +39,13 @@ abbrev pub passed_typed : Lowered → (ℕ → Known) → Option CType → ℕ �
 passed_typed p cells None q c e = every_of p c
 passed_typed p cells (Some t) q c e = passed_as p cells t q c e (as_struct e)
 
--- what it gives to the cells of a formal
+-- the cells of a formal
+abbrev pub formal_has : Lowered → ℕ → ℕ → Bool
+formal_has p o c = has_cell p (type_in (slice_get p.objects o)) ((terrain_of p).root o) c
+
+-- what it gives to them
 abbrev pub passed_to : Lowered → (ℕ → Known) → ℕ → Expression → ℕ → Known
-passed_to p cells o e c = cond (reaches p ((terrain_of p).root o) c)
+passed_to p cells o e c = cond (formal_has p o c)
     (passed_typed p cells (type_in (slice_get p.objects o)) ((terrain_of p).root o) c e) none
 
 -- ---- all arguments, to one function and to all
@@ -67,8 +70,7 @@ passed_value a call args s c = joined
 -- each cell of a formal of a function that is called
 abbrev pub call_defines : Analysed → ℕ → ℕ → Bool
 call_defines a call l = list_any
-    (λ f. list_any (λ o. reaches a.program ((terrain_of a.program).root o) (cell_of (setting_of a) l))
-    (formals_of a.program f))
+    (λ f. list_any (λ o. formal_has a.program o (cell_of (setting_of a) l)) (formals_of a.program f))
     (row a.told.calls call)
 
 -- summaries join
@@ -77,11 +79,9 @@ calling a call args = placing a.ladder (call_defines a call)
     (λ l. is_summary a.program a.told (cell_of (setting_of a) l))
     (λ s l. passed_value a call args s (cell_of (setting_of a) l))
 
-abbrev pub argument_reads : Analysed → Expression → Option (ℕ × Lvalue) → List ℕ
-argument_reads a e None = uses_of (terrain_of a.program) (setting_of a).points_to e
-argument_reads a e (Some s) = struct_reads a s.1
-
-abbrev pub call_uses : Analysed → ℕ → List Expression → ℕ → Bool
-call_uses a call args l =
+-- what is called is read too: which functions it may be stands in the pre-analysis
+abbrev pub call_uses : Analysed → ℕ → Expression → List Expression → ℕ → Bool
+call_uses a call callee args l =
     (call_defines a call l && is_summary a.program a.told (cell_of (setting_of a) l))
-    || has (cell_of (setting_of a) l) (flat_map (λ e. argument_reads a e (as_struct e)) args)
+    || has (cell_of (setting_of a) l)
+    (arguments_read a args ++ uses_of (terrain_of a.program) (setting_of a).points_to callee)

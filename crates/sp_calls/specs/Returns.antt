@@ -1,12 +1,11 @@
 -- The result of a call: the join of those of all functions that it calls (C90 6.3.2.2, 6.6.6.4).
-use Rattle.std.specs.Prelude.{ℕ, nat_eq, Bool, false, cond, ◌&&◌, ◌||◌, List, [], ◌++◌, Option, Some, None, slice_get, flat_map}
+use Rattle.std.specs.Prelude.{ℕ, Bool, false, cond, ◌&&◌, ◌||◌, List, [], ◌++◌, Option, Some, None, slice_get, flat_map}
 use Rattle.sp_types.specs.Types.{CType}
 use Rattle.sp_lattice.specs.System.{has}
 use Rattle.sp_sets.specs.Reached.{row}
 use Rattle.sp_ir.specs.Commands.{Lvalue, lvalue_type}
 use Rattle.sp_ir.specs.Programs.{Lowered}
 use Rattle.sp_ir.specs.Terrain.{terrain_of}
-use Rattle.sp_ir.specs.Denoted.{pointer_uses}
 use Rattle.sp_ir.specs.Formed.{is_scalar}
 use Rattle.sp_value.specs.Known.{Known}
 use Rattle.sp_eval.specs.Steps.{converted}
@@ -19,7 +18,7 @@ use Rattle.sp_stores.specs.Scene.{known_in_regions}
 use Rattle.sp_scenes.specs.Analysed.{Analysed, setting_of, scene_of}
 use Rattle.sp_entries.specs.Joined.{joined}
 use Rattle.sp_calls.specs.Copied.{cells_in, copied_from}
-use Rattle.sp_calls.specs.Copies.{storing_leaves, keeps_leaves}
+use Rattle.sp_calls.specs.Copies.{storing_leaves, result_keeps, result_found}
 use Rattle.sp_calls.specs.Outside.{every_written}
 
 -- both are one struct
@@ -60,8 +59,11 @@ abbrev pub result_cells : Lowered → Option ℕ → List ℕ
 result_cells p None = []
 result_cells p (Some o) = cells_in p ((terrain_of p).root o)
 
+abbrev pub result_reads : Analysed → ℕ → Option Lvalue → List ℕ
+result_reads a call None = []
+result_reads a call (Some to) =
+    flat_map (λ f. result_cells a.program (result_of a.program f)) (row a.told.calls call)
+
 abbrev pub return_uses : Analysed → ℕ → Option Lvalue → ℕ → Bool
-return_uses a call None l = false
-return_uses a call (Some to) l = keeps_leaves a to l || has (cell_of (setting_of a) l)
-    (flat_map (λ f. result_cells a.program (result_of a.program f)) (row a.told.calls call)
-    ++ pointer_uses (terrain_of a.program) (setting_of a).points_to to)
+return_uses a call to l = result_keeps a to l
+    || has (cell_of (setting_of a) l) (result_reads a call to ++ result_found a to)

@@ -1,5 +1,5 @@
 //! The rows of what goes from one function to another, and of structs: calls, returns, results from
-//! outside, and assignments of structs. Definitions alone, for review; no law of them is shown yet.
+//! outside, and assignments of structs.
 //!
 //! A struct goes cell by cell (`specs.Copied`): each cell gets what the cell holds to which its path
 //! leads in the other struct, and bytes get what all cells there hold. Where it goes follows the rule
@@ -14,4 +14,15 @@
 //! int f(int a){ return a; }  int (*h)(int);      h may be f or g:
 //! int g(int b){ return 0; }  y = h(3);           a and b get 3, y the join of both results
 //! ```
+//!
+//! The layer above uses that each of these rows is lawful in a whole analysis (`CallLaws` of
+//! `specs.Laws`, which [`calls_are_lawful`] ensures), and that [`come_from_outside`] changes a node's
+//! row of slots by exactly `from_outside`. There is no code yet for the other three.
 #![tactic(auto)]
+
+mod laws;
+mod leaves;
+mod outside;
+
+pub use laws::calls_are_lawful;
+pub use outside::come_from_outside;

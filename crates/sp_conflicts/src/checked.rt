@@ -28,7 +28,7 @@ fn fits(
         (map seen_declaration earlier.now) (declaration_of declaration.now)) }
     ensures known { OnOk result (IsKnown (tables units.now) known.new) }
 {
-    'earlier: for (i, other) in earlier.iter().enumerate() {
+    'earlier: for other in earlier {
         if !types_agree(
             alloc,
             units,
@@ -48,7 +48,7 @@ fn fits(
 fn any_defines(earlier: &[&Declaration]) -> bool
     ensures { result ≡ rules.any_defines (map seen_declaration earlier.now) }
 {
-    'earlier: for (i, other) in earlier.iter().enumerate() {
+    'earlier: for other in earlier {
         if other.defines {
             return true;
         }
@@ -104,7 +104,7 @@ fn check_all(alloc: Global, units: &[CheckedUnit], all: &[Declaration]) -> Resul
 {
     let mut known = Known::new(alloc);
     let mut earlier = Earlier::new(alloc);
-    'all: for (i, declaration) in all.iter().enumerate() {
+    'all: for declaration in all {
         judge_next(alloc, units, &earlier, declaration, &mut known)?;
         earlier.add(alloc, declaration)?;
     }

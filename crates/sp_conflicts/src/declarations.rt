@@ -66,7 +66,7 @@ fn add_objects(
     ensures { OnOk result (map declaration_of all.new.items ≡
         map declaration_of all.old.items ++ rules.objects_declared unit (map object_of objects.now)) }
 {
-    'objects: for (i, object) in objects.iter().enumerate() {
+    'objects: for object in objects {
         if is_external(object.linkage) {
             all.push(object_declared(alloc, unit, object)?)?;
         }
@@ -85,7 +85,7 @@ fn add_functions(
         map declaration_of all.old.items
         ++ rules.functions_declared unit (map function_of functions.now)) }
 {
-    'functions: for (i, function) in functions.iter().enumerate() {
+    'functions: for function in functions {
         if is_external(function.linkage) {
             all.push(function_declared(alloc, unit, function)?)?;
         }

@@ -8,9 +8,10 @@ use Rattle.sp_lattice.specs.Lattice.{Order, IsLattice}
 use Rattle.sp_lattice.specs.System.{Meaning, IsSystem, Below, has}
 use Rattle.sp_lattice.specs.Dense.{Table, input, Partial, IsLeast, RaisesRow, store_of, table_of}
 use Rattle.sp_lattice.specs.Bound.{total_rank}
-use Rattle.sp_lattice.proofs.Tables.{edge_below, input_same, input_under, raised_partial, least_from_partial}
+use Rattle.sp_lattice.specs.Laws.{SolutionLaws}
+use Rattle.sp_lattice.proofs.Tables.{edge_below, input_same}
 use Rattle.sp_lattice.proofs.Joins.{joined_same}
-use Rattle.sp_lattice.proofs.Ranks.{total_rank_rises, total_rank-same, raised_still}
+use Rattle.sp_lattice.proofs.Ranks.{total_rank-same}
 use Rattle.std.proofs.lemmas.List.Elements.{All-contains}
 use Rattle.std.proofs.lemmas.Map.Views.{Contains-from_any}
 use Rattle.std.proofs.Common.{eqb, eqb-true}
@@ -39,7 +40,7 @@ none : (a : Bool) → (a ≡ true → ⊥) → a ≡ false
 none true h = absurd (h refl)
 none false h = refl
 
-module _ {V : Type 0} (o : Order V) (m : Meaning V) (laws : IsLattice o) (sys : IsSystem o m) where
+module _ {V : Type 0} (o : Order V) (m : Meaning V) (laws : IsLattice o) (sys : IsSystem o m) (known : SolutionLaws o m) where
   use_below : (n u : ℕ) → n < m.nodes → has u (m.uses n) ≡ true → u < m.locations
   use_below n u low h = All-contains (λ x. x < m.locations) (m.uses n) u (sys.uses_below n low) (Contains-from_any same_nat u (m.uses n) h)
 
@@ -58,7 +59,7 @@ module _ {V : Type 0} (o : Order V) (m : Meaning V) (laws : IsLattice o) (sys : 
       (subst (λ v. o.le (m.effect n (input o m table n) l) v ≡ true) (sym (same n l low l_low)) (settled l l_low))
     where
       effects : m.effect n (input o m other n) l ≡ m.effect n (input o m table n) l
-      effects = effect_same n (input o m other n) (input o m table n) low (input_under o m laws sys other part_other.under n low) (input_under o m laws sys table part.under n low) (λ j j_low. input_same o m laws sys other table same n j low j_low) l l_low
+      effects = effect_same n (input o m other n) (input o m table n) low (known.inputs_under other part_other.under n low) (known.inputs_under table part.under n low) (λ j j_low. input_same o m laws sys other table same n j low j_low) l l_low
 
   beside : (k n : ℕ) (rest : List ℕ) → k ≢ n → has k rest ≡ false → has k (n ∷ rest) ≡ false
   beside k n rest apart h = or-false (eqb k n) (has k rest) (not_equal k n apart) h
@@ -71,10 +72,10 @@ module _ {V : Type 0} (o : Order V) (m : Meaning V) (laws : IsLattice o) (sys : 
   }
     where
       part : Partial o m after
-      part = raised_partial o m laws sys table working.part after n low raises
+      part = known.goes_on table working.part after n low raises
 
       still : (k l : ℕ) → k < m.nodes → l < m.locations → after k l ≡ table k l
-      still = raised_still o m laws sys table after n low working.part raises settled
+      still = known.rests table after n low working.part raises settled
 
       at : (k : ℕ) → k < m.nodes → has k rest ≡ false → (k ≡ n) ⊎ (k ≢ n) → IsSettled o m table k
       at k k_low h (inl same) = subst (λ j. IsSettled o m table j) (sym same) settled
@@ -85,7 +86,7 @@ module _ {V : Type 0} (o : Order V) (m : Meaning V) (laws : IsLattice o) (sys : 
   working_on table after n rest waiting next low working raises adds behind = record { part = part; settled = λ k k_low h. at k k_low h (which k n) }
     where
       part : Partial o m after
-      part = raised_partial o m laws sys table working.part after n low raises
+      part = known.goes_on table working.part after n low raises
 
       -- a node that doesn't wait has no edge from n, and so the input that it had
       input_kept : (k : ℕ) → k < m.nodes → has k waiting ≡ false → (l : ℕ) → l < m.locations → input o m after k l ≡ input o m table k l
@@ -94,7 +95,7 @@ module _ {V : Type 0} (o : Order V) (m : Meaning V) (laws : IsLattice o) (sys : 
           (λ p edge. raises.others p l (edge_below o m laws sys k p k_low edge) l_low (λ same. false≢true (sym h ∙ adds.added k (behind k k_low (ap (λ j. has j (m.into k)) (sym same) ∙ edge)))))
 
       effect_kept : (k : ℕ) → k < m.nodes → has k waiting ≡ false → (l : ℕ) → l < m.locations → m.effect k (input o m after k) l ≡ m.effect k (input o m table k) l
-      effect_kept k k_low h = effect_same k (input o m after k) (input o m table k) k_low (input_under o m laws sys after part.under k k_low) (input_under o m laws sys table working.part.under k k_low) (input_kept k k_low h)
+      effect_kept k k_low h = effect_same k (input o m after k) (input o m table k) k_low (known.inputs_under after part.under k k_low) (known.inputs_under table working.part.under k k_low) (input_kept k k_low h)
 
       at : (k : ℕ) → k < m.nodes → has k waiting ≡ false → (k ≡ n) ⊎ (k ≢ n) → IsSettled o m after k
       at k k_low h (inl same) l l_low =
@@ -108,7 +109,7 @@ module _ {V : Type 0} (o : Order V) (m : Meaning V) (laws : IsLattice o) (sys : 
   -- a row that has a node's input is under the ceiling
   pub reached_below : (rows : List (Vec V Global)) (n : ℕ) (row : List V) → n < m.nodes → Partial o m (table_of o.bottom rows) → IsStore o m row (input o m (table_of o.bottom rows) n) → Below o m (store_of o.bottom row) m.ceiling
   reached_below rows n row low part reached l l_low =
-      subst (λ v. o.le v (m.ceiling l) ≡ true) (sym (reached.values l l_low)) (input_under o m laws sys (table_of o.bottom rows) part.under n low l l_low)
+      subst (λ v. o.le v (m.ceiling l) ≡ true) (sym (reached.values l l_low)) (known.inputs_under (table_of o.bottom rows) part.under n low l l_low)
 
   -- a node's row raised by a row that has the effect of its input
   module _ (rows : List (Vec V Global)) (n : ℕ) (old new : Vec V Global) (input_row effect : List V) (low : n < m.nodes) (grid : IsStoreGrid m rows) (part : Partial o m (table_of o.bottom rows)) (at : old ≡ get_or rows n old)
@@ -119,7 +120,7 @@ module _ {V : Type 0} (o : Order V) (m : Meaning V) (laws : IsLattice o) (sys : 
     effect_is : (l : ℕ) → l < m.locations → store_of o.bottom effect l ≡ m.effect n (input o m before n) l
     unfolding before
     effect_is l l_low =
-        made.values l l_low ∙ effect_same n (store_of o.bottom input_row) (input o m before n) low (reached_below rows n input_row low part reached) (input_under o m laws sys before part.under n low) reached.values l l_low
+        made.values l l_low ∙ effect_same n (store_of o.bottom input_row) (input o m before n) low (reached_below rows n input_row low part reached) (known.inputs_under before part.under n low) reached.values l l_low
 
     old_long : length old.items ≡ m.locations
     old_long = row_long m rows n old grid low at
@@ -167,7 +168,7 @@ module _ {V : Type 0} (o : Order V) (m : Meaning V) (laws : IsLattice o) (sys : 
   }
     where
       ranks : total_rank m (table_of o.bottom after) ≡ total_rank m (table_of o.bottom before)
-      ranks = total_rank-same o m laws sys (table_of o.bottom after) (table_of o.bottom before) (raised_still o m laws sys (table_of o.bottom before) (table_of o.bottom after) n low working.part visits.raises visits.grown)
+      ranks = total_rank-same o m laws sys (table_of o.bottom after) (table_of o.bottom before) (known.rests (table_of o.bottom before) (table_of o.bottom after) n low working.part visits.raises visits.grown)
 
   pub works_on : (before after : List (Vec V Global)) (n : ℕ) (rest waiting : List ℕ) (lists : List (Vec ℕ Global)) (grew : Bool) → grew ≡ true → n < m.nodes → IsWorking o m (table_of o.bottom before) (n ∷ rest) → Visits o m before after n grew → HasSuccessors m lists → Adds rest waiting (vector_at lists n) → length waiting ≤ length rest + m.nodes → Works o m before after rest waiting
   works_on before after n rest waiting lists false e low working visits successors adds few = absurd (false≢true e)
@@ -179,8 +180,8 @@ module _ {V : Type 0} (o : Order V) (m : Meaning V) (laws : IsLattice o) (sys : 
   }
     where
       rises : total_rank m (table_of o.bottom before) + 1 ≤ total_rank m (table_of o.bottom after)
-      rises = let less = total_rank_rises o m laws sys (table_of o.bottom before) (table_of o.bottom after) n low working.part visits.raises visits.grown.location visits.grown.there visits.grown.above in omega (arith, less)
+      rises = let less = known.rises (table_of o.bottom before) (table_of o.bottom after) n low working.part visits.raises visits.grown.location visits.grown.there visits.grown.above in omega (arith, less)
 
   -- where no node waits, the table is the least solution
   pub least_when_done : (table : Table V) → IsWorking o m table [] → IsLeast o m table
-  least_when_done table working = least_from_partial o m laws sys table working.part (λ n low. working.settled n low refl)
+  least_when_done table working = known.ends table working.part (λ n low. working.settled n low refl)

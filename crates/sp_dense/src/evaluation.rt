@@ -5,7 +5,7 @@ ghost use Rattle.sp_lattice.specs.Dense.{input, Partial, store_of, table_of};
 ghost use Rattle.sp_dense.specs.inner.Visit.{IsStoreGrid, IsStore, JoinsPassed, Visits};
 
 use sp_lattice::rows::{bottoms, raise, values_of};
-use sp_lattice::{Lattice, Steps, System};
+use sp_lattice::{Lattice, Steps, System, solution_laws};
 use std::alloc::{AllocError, Global};
 use std::sync::ledger::Ledger;
 
@@ -24,6 +24,7 @@ pub(crate) fn visit<S: System, L: Ledger>(
         (λ grew. Visits S.Value.order (S.meaning system.now) rows.old.items rows.new.items node grew) }
     ensures ticked { steps.new ≤ steps.old + 1 }
 {
+    solution_laws(system);
     let mut effect = input_row(alloc, system, rows, node)?;
     apply_effect(alloc, system, node, &mut effect, steps)?;
     let row = &mut rows[node as usize];

@@ -11,7 +11,7 @@ use crate::evaluation::{input_row, visit};
 use crate::tables::Table;
 use crate::worklist::Worklist;
 use sp_lattice::rows::bottoms;
-use sp_lattice::{Lattice, Steps, System};
+use sp_lattice::{Lattice, Steps, System, solution_laws};
 use std::alloc::{AllocError, Global};
 use std::sync::ledger::Ledger;
 use thiserror::Error;
@@ -76,6 +76,7 @@ fn solve_rows<S: System, L: Ledger>(
         (λ rows. IsLeast S.Value.order (S.meaning system.now) (table_of S.Value.order.bottom rows.items)) }
     ensures bound { steps.new ≤ steps.old + most_steps (S.meaning system.now) }
 {
+    solution_laws(system);
     let mut rows = bottom_rows(alloc, system)?;
     let successors = successors(alloc, system)?;
     let mut waiting = Worklist::all(alloc, system.nodes())?;
@@ -114,6 +115,7 @@ fn work<S: System, L: Ledger>(
         rows.old.items rows.new.items waiting.old.waiting waiting.new.waiting) }
     ensures ticked { steps.new ≤ steps.old + 1 }
 {
+    solution_laws(system);
     if !visit(alloc, system, rows, node, steps)? {
         return Ok(());
     }

@@ -7,7 +7,9 @@ use Rattle.std.proofs.lemmas.List.{take-append-drop}
 use Rattle.std.proofs.lemmas.List.Folds.{list_any-append}
 use Rattle.sp_lattice.specs.System.{Meaning, has}
 use Rattle.sp_lattice.specs.Dependency.{Depends}
-use Rattle.sp_deps.specs.Rows.{leaving, held, total, is_before, Ascends, added, most_dependencies}
+use Rattle.sp_lattice.specs.Flat.{row_at}
+use Rattle.sp_deps.specs.Rows.{held, total, is_before, Ascends, most_dependencies}
+use Rattle.sp_deps.specs.inner.Grouped.{added}
 use Rattle.sp_deps.specs.Answer.{HasTooMany}
 use Rattle.sp_deps.specs.inner.Walk.{IsFound}
 use Rattle.sp_deps.specs.inner.Progress.{AreRows, AreBefore, AreSound, Gains, Exceeds}
@@ -73,8 +75,8 @@ module _ (before now : List (List (ℕ × ℕ))) (found : List ℕ) (i d locatio
       by (inl k) = earlier (get_or found i d) l c k
       by (inr k) = absurd (false≢true (sym (distinct-new found i d once low) ∙ (and-parts (has (get_or found i d) (take i found)) (eqb l location && eqb c to) k).0))
 
-  pub last : All (λ p. is_before p (location, to) ≡ true) (leaving now (get_or found i d))
-  last k e k_low = let pair = get_or (leaving now (get_or found i d)) k e in earlier_at pair.0 pair.1 (held_at now (get_or found i d) k e k_low)
+  pub last : All (λ p. is_before p (location, to) ≡ true) (row_at now (get_or found i d))
+  last k e k_low = let pair = get_or (row_at now (get_or found i d)) k e in earlier_at pair.0 pair.1 (held_at now (get_or found i d) k e k_low)
 
   pub row_there : get_or found i d < length now
   row_there = omega (arith, rows.long, there)
@@ -91,7 +93,7 @@ module _ (before now : List (List (ℕ × ℕ))) (found : List ℕ) (i d locatio
 
   pub rows_more : (after : List (List (ℕ × ℕ))) → after ≡ added now (get_or found i d) (location, to) → total now < most_dependencies → AreRows (length before) after
   rows_more after is room = record {
-    long = ap length is ∙ length-set now (get_or found i d) (leaving now (get_or found i d) ++ (location, to) ∷ []) ∙ rows.long;
+    long = ap length is ∙ length-set now (get_or found i d) (row_at now (get_or found i d) ++ (location, to) ∷ []) ∙ rows.long;
     ascending = subst (λ rs. All Ascends rs) (sym is) (ascends-added now (get_or found i d) (location, to) row_there rows.ascending last);
     few = omega (arith, ap total is, total-added now (get_or found i d) (location, to) row_there);
   }

@@ -16,11 +16,10 @@ use Rattle.sp_deps.specs.Answer.{AreDependencies}
 use Rattle.sp_deps.specs.inner.Users.{AreUsers}
 use Rattle.sp_deps.specs.inner.Walk.{IsFound}
 use Rattle.sp_deps.specs.Cause.{IsCause}
-use Rattle.sp_deps.specs.inner.Progress.{IsExcess}
+use Rattle.sp_deps.specs.inner.Progress.{IsExcess, AreRows, AreBefore, AreSound, AreUpTo, GainsUse, is_done}
 use Rattle.sp_deps.specs.declared.triples.DepError.{DepError}
 use Rattle.sp_deps.specs.declared.triples.DepError.TheVariants.{TooMany, NoMemory}
 use Rattle.sp_deps.proofs.Adding.{too_many}
-use Rattle.sp_deps.specs.inner.Progress.{AreRows, AreBefore, AreSound, AreUpTo, GainsUse, is_done}
 use Rattle.sp_deps.proofs.Lists.{which, eqb-refl, has-take_more, has-get_or}
 use Rattle.sp_deps.proofs.Bools.{and-parts, and-both, or-cases, or-left, or-right}
 

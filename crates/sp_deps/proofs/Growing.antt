@@ -1,14 +1,14 @@
 -- The triples in the order in which they are found: one more of them, and what stands behind them after a failure.
-use Rattle.std.proofs.Common.{◌≡◌, ◌<◌, ◌++◌, ◌∷◌, ◌∙◌, [], ℕ, List, length, take, All, true, sym, ap, subst, arith}
+use Rattle.std.proofs.Common.{◌≡◌, ◌<◌, ◌++◌, ◌∷◌, ◌∙◌, [], ℕ, List, length, take, All, true, sym, ap, subst, arith, replicate}
 use Rattle.std.proofs.lemmas.List.{length_push, length-take-le, take_at, get_or-take}
 use Rattle.std.proofs.lemmas.List.Elements.{All-push}
 use Rattle.sp_lattice.specs.System.{AllBelow}
-use Rattle.sp_deps.specs.Rows.{leaving, total, is_before, added, most_dependencies}
-use Rattle.sp_deps.specs.inner.Grouped.{grouped}
+use Rattle.sp_lattice.specs.Flat.{row_at}
+use Rattle.sp_deps.specs.Rows.{total, is_before, most_dependencies}
+use Rattle.sp_deps.specs.inner.Grouped.{added, grouped}
 use Rattle.sp_deps.specs.inner.Kept.{IsKept, IsGrowing}
 use Rattle.sp_deps.proofs.Grouping.{grouped-push, gathered-take, length-grouped}
 use Rattle.sp_deps.proofs.Held.{kept_added}
-use Rattle.std.proofs.Common.{replicate}
 
 module _ (nodes : ℕ) (froms : List ℕ) (pairs : List (ℕ × ℕ)) (from : ℕ) (so_far : IsGrowing nodes froms pairs) (there : from < nodes) where
   -- the nodes of the pairs, and the new one
@@ -39,7 +39,7 @@ module _ (nodes : ℕ) (froms : List ℕ) (pairs : List (ℕ × ℕ)) (from : �
     pub same_added : grouped nodes more (pairs ++ pair ∷ []) ≡ added (grouped nodes froms pairs) from pair
     same_added = grouped-push nodes (take (length pairs) froms) pairs from pair (sym long) ∙ ap (λ rows. added rows from pair) (gathered-take (replicate nodes []) froms pairs)
 
-    pub growing_added : total (grouped nodes froms pairs) < most_dependencies → All (λ p. is_before p pair ≡ true) (leaving (grouped nodes froms pairs) from) → IsGrowing nodes more (pairs ++ pair ∷ [])
+    pub growing_added : total (grouped nodes froms pairs) < most_dependencies → All (λ p. is_before p pair ≡ true) (row_at (grouped nodes froms pairs) from) → IsGrowing nodes more (pairs ++ pair ∷ [])
     growing_added room last = record {
       low = low;
       paired = omega (arith, length_push (take (length pairs) froms) from, length_push pairs pair, long);

@@ -10,7 +10,7 @@ use Rattle.std.proofs.lemmas.List.Kept.{AllPairs-from_increasing}
 use Rattle.std.proofs.lemmas.List.Quantifiers.{all_pairs_push}
 use Rattle.sp_lattice.specs.System.{Meaning, has}
 use Rattle.sp_lattice.specs.Flat.{row_at}
-use Rattle.sp_deps.specs.Rows.{added}
+use Rattle.sp_deps.specs.inner.Grouped.{added}
 use Rattle.sp_deps.proofs.Lists.{which, eqb-refl, eqb-apart, has-push, has-take_more, has-get_or}
 use Rattle.sp_deps.proofs.Bools.{or-false_right, and-false_right}
 

@@ -1,17 +1,14 @@
 -- Dependencies as rows: for each node the pairs of location and target of those that leave it.
-use Rattle.std.specs.Prelude.{◌≡◌, ◌&&◌, ◌||◌, ℕ, Bool, true, nat_eq, nat_lt, List, [], ◌∷◌, ◌++◌, length, AllPairs, sum_by, slice_index_or, slice_set}
+use Rattle.std.specs.Prelude.{◌≡◌, ◌&&◌, ◌||◌, ℕ, Bool, true, nat_eq, nat_lt, List, length, AllPairs, sum_by}
 use Rattle.std.specs.List.{list_any}
-
--- the pairs of location and target that leave a node; none past the last
-abbrev pub leaving : List (List (ℕ × ℕ)) → ℕ → List (ℕ × ℕ)
-leaving rows from = slice_index_or rows from []
+use Rattle.sp_lattice.specs.Flat.{row_at}
 
 abbrev pub same_pair : ℕ × ℕ → ℕ × ℕ → Bool
 same_pair p q = nat_eq p.0 q.0 && nat_eq p.1 q.1
 
 -- whether the rows hold the triple
 abbrev pub held : List (List (ℕ × ℕ)) → ℕ → ℕ → ℕ → Bool
-held rows from location to = list_any (same_pair (location, to)) (leaving rows from)
+held rows from location to = list_any (same_pair (location, to)) (row_at rows from)
 
 -- how many triples the rows hold, where none stands twice
 abbrev pub total : List (List (ℕ × ℕ)) → ℕ
@@ -24,10 +21,6 @@ is_before p q = nat_lt p.0 q.0 || nat_eq p.0 q.0 && nat_lt p.1 q.1
 -- each pair comes before all later ones, so none stands twice
 abbrev pub Ascends : List (ℕ × ℕ) → Type 0
 Ascends pairs = AllPairs (λ p q. is_before p q ≡ true) pairs
-
--- the rows with one more item at the end of one of them
-abbrev pub added : {A : Type 0} → List (List A) → ℕ → A → List (List A)
-added rows n item = slice_set rows n (slice_index_or rows n [] ++ item ∷ [])
 
 -- the most dependencies that are kept
 abbrev pub most_dependencies : ℕ

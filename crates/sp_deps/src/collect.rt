@@ -5,9 +5,8 @@ ghost use Rattle.sp_lattice.specs.System.{AllBelow, has};
 ghost use Rattle.sp_deps.specs.Rows.{total, most_dependencies};
 ghost use Rattle.sp_deps.specs.Answer.{AreDependencies};
 ghost use Rattle.sp_deps.specs.Cause.{IsCause};
-ghost use Rattle.sp_deps.specs.inner.Progress.{IsExcess};
+ghost use Rattle.sp_deps.specs.inner.Progress.{IsExcess, AreRows, AreBefore, AreSound, AreUpTo, Gains, GainsUse, is_done};
 ghost use Rattle.sp_deps.specs.inner.Walk.{IsFresh, IsFound, AreKnown};
-ghost use Rattle.sp_deps.specs.inner.Progress.{AreRows, AreBefore, AreSound, AreUpTo, Gains, GainsUse, is_done};
 ghost use Rattle.sp_deps.specs.inner.Users.{AreUsers};
 
 use crate::earlier::Earlier;

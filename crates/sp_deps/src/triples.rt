@@ -1,6 +1,8 @@
 //! The dependencies that are kept, and why they may not be.
 ghost use Rattle.std.specs.Prelude.{◌≡◌, ◌≤◌, ◌<◌, ◌+◌, ℕ, true, length, All, replicate, [], nat_eq, IfOk, OnOk};
-ghost use Rattle.sp_deps.specs.Rows.{leaving, held, total, is_before, Ascends, added, most_dependencies};
+ghost use Rattle.sp_lattice.specs.Flat.{row_at};
+ghost use Rattle.sp_deps.specs.Rows.{held, total, is_before, Ascends, most_dependencies};
+ghost use Rattle.sp_deps.specs.inner.Grouped.{added};
 
 use crate::groups::grouped;
 use sp_lattice::rows::Rows;
@@ -76,7 +78,7 @@ impl Deps {
 
     /// The pairs of location and target of the triples that leave `from`, ascending; none past the last node.
     pub fn after(&self, from: u32) -> Result<Vec<(u32, u32)>, AllocError>
-        ensures pairs { IfOk result (λ pairs. pairs.items ≡ leaving self.now from) }
+        ensures pairs { IfOk result (λ pairs. pairs.items ≡ row_at self.now from) }
         ensures ascending { IfOk result (λ pairs. Ascends pairs.items) }
     {
         self.leaving(from).to_vec(self.alloc)
@@ -84,7 +86,7 @@ impl Deps {
 
     /// What [`Deps::after`] copies.
     fn leaving(&self, from: u32) -> &[(u32, u32)]
-        ensures pairs { result.now ≡ leaving self.now from }
+        ensures pairs { result.now ≡ row_at self.now from }
         ensures ascending { Ascends result.now }
     {
         let from = from as usize;
@@ -157,7 +159,7 @@ impl Growing {
     pub(crate) fn add(&mut self, from: u32, location: u32, to: u32) -> Result<(), AllocError>
         requires there { from < length self.old }
         requires room { total self.old < most_dependencies }
-        requires last { All (λ pair. is_before pair (location, to) ≡ true) (leaving self.old from) }
+        requires last { All (λ pair. is_before pair (location, to) ≡ true) (row_at self.old from) }
         ensures { OnOk result (self.new ≡ added self.old from (location, to)) }
     {
         self.froms.truncate(self.pairs.len());

@@ -5,8 +5,7 @@ pub mod InitialLaws
 pub mod StartLaws
 mod AllLaws
 mod SlotsAre
-mod Steps
+pub mod Steps
 mod Seen
-mod Results
-mod Descending
+pub mod Results
 mod Examples

@@ -57,11 +57,7 @@ pub(crate) fn every_value(alloc: Global, lowered: &Lowered, region: u32) -> Valu
 }
 
 /// Where a site begins, of any size; nothing without one.
-pub(crate) fn site_value(
-    alloc: Global,
-    lowered: &Lowered,
-    site: Option<u32>,
-) -> Result<Value, AllocError>
+pub fn site_value(alloc: Global, lowered: &Lowered, site: Option<u32>) -> Result<Value, AllocError>
     ensures { IfOk result (λ value. known_of value ≡ record {
       numbers = Empty;
       targets = site_targets (terrain_of (lowered_of lowered.now)) site;
@@ -84,7 +80,7 @@ pub(crate) fn site_value(
 }
 
 /// What comes from outside to an element of this type, where pointers point to the site.
-fn foreign_type(alloc: Global, of: &CType, site: &Value) -> Result<Value, AllocError>
+pub fn foreign_type(alloc: Global, of: &CType, site: &Value) -> Result<Value, AllocError>
     ensures { IfOk result (λ value. known_of value ≡
         foreign_value (Some (type_of of.now)) site.now.targets) }
 {
@@ -100,7 +96,7 @@ fn foreign_type(alloc: Global, of: &CType, site: &Value) -> Result<Value, AllocE
 }
 
 /// What comes from outside to a region's elements, where pointers point to the site.
-pub(crate) fn foreign_value(
+pub fn foreign_value(
     alloc: Global,
     lowered: &Lowered,
     region: u32,

@@ -68,7 +68,7 @@ fn join_at_place(
 }
 
 /// Joins a slot to what a row has at the location of a cell.
-pub(crate) fn join_to(
+pub fn join_to(
     alloc: Global,
     analysis: &Analysis,
     cell: u32,

@@ -24,10 +24,11 @@ mod given;
 mod initials;
 mod joining;
 mod laws;
-mod paths;
 mod starts;
 
 pub use entries::enter;
+pub use given::{foreign_type, foreign_value, site_value};
 pub use initials::initialise;
+pub use joining::join_to;
 pub use laws::entries_are_lawful;
 pub use starts::begin;

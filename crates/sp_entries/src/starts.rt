@@ -21,9 +21,9 @@ ghost use Rattle.sp_entries.specs.Laws.{AreProperStarts};
 
 use crate::given::{every_value, foreign_value, site_value};
 use crate::initials::join_initial;
-use crate::paths::{object_at, reaches};
 use sp_interval::Interval;
 use sp_ir::{Lowered, Object, ObjectKind};
+use sp_puts::{object_at, reaches};
 use sp_scenes::Analysis;
 use sp_sets::NumberSet;
 use sp_updates::put_at;

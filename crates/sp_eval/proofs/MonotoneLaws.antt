@@ -322,7 +322,7 @@ module _ (g : Terrain) where
       (rises-made (accepted_one g t) (accepted_one g t) (λ r o s o' s' p q. same_choice (g.accepts r t) (of_target (at r o s)) (of_numbers (every pointer_range)) (of_target (at r o' s')) (of_numbers (every pointer_range)) (one-monotone r o s o' s' p q) (known-refl (of_numbers (every pointer_range)))))
       v.targets w.targets (the_targets_le v w h)
 
-  matched-monotone : (l : Lvalue) (v w : Known) → known_le v w ≡ true → known_le (matched g l v) (matched g l w) ≡ true
+  pub matched-monotone : (l : Lvalue) (v w : Known) → known_le v w ≡ true → known_le (matched g l v) (matched g l w) ≡ true
   unfolding matched
   matched-monotone (direct o t) v w h = h
   matched-monotone (through e t p) v w h = accepted-monotone t v w h

@@ -31,8 +31,9 @@ AgreeOn rs s t = (r : ℕ) → Among rs r → s r ≡ t r
 
 -- On this terrain: the value of a proper expression in formed cells is formed; in lesser cells it
 -- is lesser; its targets are among the regions that the expression's form allows, by what each cell
--- may point to; and it hangs on the cells that the expression uses alone. The same of an lvalue's
--- address, and of its targets that match.
+-- may point to; and it hangs on the cells that the expression uses alone. The same of a proper
+-- lvalue's address, which hangs on the cells that are read to find it; and of what is left of the
+-- address where the targets that don't match are given up.
 pub record IsEvaluationLawful (g : Terrain) : Type 0 where
   pub value_formed : (cells : ℕ → Known) → AreFormed cells → (e : Expression)
       → is_proper e ≡ true → IsFormedKnown (value_of g cells e)
@@ -42,6 +43,11 @@ pub record IsEvaluationLawful (g : Terrain) : Type 0 where
       → is_proper e ≡ true → known_le (value_of g s e) (value_of g t e) ≡ true
   pub address_monotone : (s t : ℕ → Known) → AreFormed s → AreBelow s t → (l : Lvalue)
       → is_proper_lvalue l ≡ true → known_le (address_of g s l) (address_of g t l) ≡ true
+  pub matched_formed : (cells : ℕ → Known) → AreFormed cells → (l : Lvalue)
+      → is_proper_lvalue l ≡ true → IsFormedKnown (matched g l (address_of g cells l))
+  pub matched_monotone : (s t : ℕ → Known) → AreFormed s → AreBelow s t → (l : Lvalue)
+      → is_proper_lvalue l ≡ true
+      → known_le (matched g l (address_of g s l)) (matched g l (address_of g t l)) ≡ true
   pub value_within : (points : PointsTo) (cells : ℕ → Known) → PointWithin points cells
       → (e : Expression) → Within (Among (regions_of g points e)) (value_of g cells e).targets
   pub address_within : (points : PointsTo) (cells : ℕ → Known) → PointWithin points cells
@@ -55,6 +61,9 @@ pub record IsEvaluationLawful (g : Terrain) : Type 0 where
   pub address_agrees : (points : PointsTo) (s t : ℕ → Known) → PointWithin points s
       → (l : Lvalue) → AgreeOn (pointer_uses g points l) s t
       → address_of g s l ≡ address_of g t l
+  pub matched_agrees : (points : PointsTo) (s t : ℕ → Known) → PointWithin points s
+      → (l : Lvalue) → AgreeOn (pointer_uses g points l) s t
+      → matched g l (address_of g s l) ≡ matched g l (address_of g t l)
 
 -- on every terrain; and what formed programs have is proper
 pub record EvaluationLaws : Type 0 where

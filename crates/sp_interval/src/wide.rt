@@ -5,7 +5,7 @@ ghost use Rattle.std.specs.Ordering.{int_eq};
 ghost use Rattle.sp_lattice.specs.Ladder.{InBounds};
 ghost use Rattle.sp_lattice.specs.Range.{IsIntegerRange};
 ghost use Rattle.sp_interval.specs.Interval.{wrapped, ranged, span_of};
-ghost use Rattle.sp_interval.specs.Wide.{number_of, IsNarrow};
+ghost use Rattle.sp_interval.specs.inner.Wide.{number_of, IsNarrow};
 ghost use Rattle.sp_interval.specs.declared.interval.Interval.TheVariants.{Of};
 
 use crate::interval::Interval;

@@ -1,10 +1,8 @@
 -- What several units have together: the objects and functions of their program (C90 6.1.2.2).
-use Rattle.std.specs.Prelude.{ℕ, ℤ, Bool, true, false, List, [], ◌∷◌, ◌++◌, length, Option, map, nat_eq, slice_set, slice_index_or}
+use Rattle.std.specs.Prelude.{◌≡◌, ℕ, ℤ, List, [], ◌∷◌, ◌++◌, Option, map, nat_eq, slice_set, slice_index_or, Result, Ok, Err, ⊤}
 use Rattle.indexmap.specs.IndexMap.{insert_entry}
 use Rattle.sp_types.specs.Types.{CType, Signature}
 use Rattle.sp_types.specs.Programs.{Object, Function}
-use Rattle.sp_types.specs.declared.program.Linkage.{Linkage}
-use Rattle.sp_types.specs.declared.program.Linkage.TheVariants.{External}
 use Rattle.sp_scopes.specs.Scopes.{entry}
 use Rattle.sp_env.specs.declared.env.Entity.{Entity}
 
@@ -39,11 +37,6 @@ pub record Numbers : Type 0 where
 abbrev pub nothing_joined : Joined
 nothing_joined = record { objects = []; functions = []; links = []; definitions = []; constants = [] }
 
--- 6.1.2.2: external names are those of all units
-abbrev pub is_external : Linkage → Bool
-is_external External = true
-is_external _ = false
-
 abbrev pub linked : Joined → ℕ → Option Entity
 linked j n = entry j.links n
 
@@ -69,3 +62,12 @@ renumbered ns ks = map (λ k. slice_index_or ns k 0) ks
 -- the functions that a unit defines, by their numbers in the program, and its constants
 abbrev pub with_texts : Joined → List ℕ → List ℤ → Joined
 with_texts j ks zs = record j { definitions = j.definitions ++ ks; constants = j.constants ++ zs }
+
+-- the numbers so far with one more
+abbrev pub one_more : {A E : Type 0} → List A → A × E → List A × E
+one_more xs y = (xs ++ y.0 ∷ [], y.1)
+
+-- what a call of the code answers and leaves behind, where memory doesn't run out
+abbrev pub GivesIn : {A B E F : Type 0} → (A → B) → B × E → E → Result A F → Type 0
+GivesIn seen given left (Ok x) = given ≡ (seen x, left)
+GivesIn seen given left (Err e) = ⊤

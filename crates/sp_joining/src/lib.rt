@@ -11,9 +11,11 @@
 //! So `extern int a[]; int f(void) { return a[0]; }` and `int a[4];` give the object `a` of the type
 //! `int[4]`, told by the second unit, and the function `f`, told by the first.
 //!
+//! It is given units that agree on their names ([`sp_conflicts`]), and no fault comes here: where a
+//! name were an object of one unit and a function of another, each would be an entry of its own.
+//!
 //! The layer above uses one contract: [`join_units`] answers exactly what `units_joined` in
-//! `specs/Units.antt` gives, or its fault: F24 where two declarations of a name don't agree, F23
-//! where two of them define it, each at the later one's place.
+//! `specs/Units.antt` gives.
 #![tactic(auto)]
 
 mod entries;

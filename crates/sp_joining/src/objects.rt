@@ -2,26 +2,35 @@
 ghost use Rattle.std.specs.Prelude.{◌≡◌, ℕ, [], IfOk, map, nat_eq};
 ghost use Rattle.std.specs.List.{list_any};
 ghost use Rattle.sp_types.specs.Programs.{object_of, function_of};
-ghost use Rattle.sp_operands.specs.Answers.{Answers, AnswersIn};
+ghost use Rattle.sp_joining.specs.Entries.{GivesIn};
 ghost use Rattle.sp_joining.specs.Views.{joined_of, object_entry_of};
 ghost use Rattle.sp_joining.specs.Objects as rules;
 
-use crate::entries::{ObjectEntry, is_external};
+use crate::entries::ObjectEntry;
 use crate::joined::{Joined, add_object, link, linked, object, set_object};
 use indexmap::IndexSet;
+use sp_conflicts::{defines_object, is_external};
 use sp_env::Entity;
 use sp_names::composite;
-use sp_operands::{CheckError, fault};
 use sp_renaming::renamed_type;
-use sp_tree::FaultKind;
-use sp_types::{FunctionDef, ObjectDef, Storage, compatible};
+use sp_types::{FunctionDef, ObjectDef, Storage};
 use std::alloc::{AllocError, Global};
 
-/// Whether a declaration defines its object (C90 6.7.2).
-fn is_defined(storage: Storage) -> bool
-    ensures { result ≡ rules.is_defined storage }
+/// An entry that one declaration tells, with the composite type of it and another.
+fn told<'a>(
+    alloc: Global,
+    told: &ObjectEntry<'a>,
+    other: &ObjectEntry<'a>,
+) -> Result<ObjectEntry<'a>, AllocError>
+    ensures { IfOk result (λ e. object_entry_of e ≡
+        rules.object_told (object_entry_of told.now) (object_entry_of other.now)) }
 {
-    matches!(storage, Storage::Static)
+    let of = composite(alloc, &told.of, &other.of)?;
+    Ok(ObjectEntry {
+        of,
+        source: told.source,
+        unit: told.unit,
+    })
 }
 
 /// Two declarations of one object.
@@ -33,35 +42,11 @@ fn composed<'a>(
     ensures { IfOk result (λ e. object_entry_of e ≡
         rules.object_composed (object_entry_of old.now) (object_entry_of new.now)) }
 {
-    let of = composite(alloc, &old.of, &new.of)?;
-    let told = if is_defined(new.source.storage) {
-        new
+    if defines_object(new.source.storage) {
+        told(alloc, new, old)
     } else {
-        old
-    };
-    Ok(ObjectEntry {
-        of,
-        source: told.source,
-        unit: told.unit,
-    })
-}
-
-/// Two declarations of one object, which have compatible types, and of which one defines it.
-fn met<'a>(
-    alloc: Global,
-    old: &ObjectEntry<'a>,
-    new: &ObjectEntry<'a>,
-) -> Result<ObjectEntry<'a>, CheckError>
-    ensures { Answers object_entry_of
-        (rules.object_met (object_entry_of old.now) (object_entry_of new.now)) result }
-{
-    if !compatible(&old.of, &new.of) {
-        return fault(FaultKind::F24, new.source.place);
+        told(alloc, old, new)
     }
-    if is_defined(old.source.storage) && is_defined(new.source.storage) {
-        return fault(FaultKind::F23, new.source.place);
-    }
-    Ok(composed(alloc, old, new)?)
 }
 
 /// A declaration of the object of a number.
@@ -70,22 +55,22 @@ fn object_again<'a>(
     joined: &mut Joined<'a>,
     number: u32,
     new: &ObjectEntry<'a>,
-) -> Result<u32, CheckError>
-    ensures { AnswersIn (λ k. k)
+) -> Result<u32, AllocError>
+    ensures { GivesIn (λ k. k)
         (rules.object_again (joined_of joined.old) number (object_entry_of new.now))
         (joined_of joined.new) result }
 {
     let Some(old) = object(joined, number) else {
-        return fault(FaultKind::F24, new.source.place);
+        return Ok(number);
     };
-    let entry = met(alloc, old, new)?;
+    let entry = composed(alloc, old, new)?;
     set_object(joined, number, entry);
     Ok(number)
 }
 
 /// The first declaration of an external name.
-fn object_first<'a>(joined: &mut Joined<'a>, new: ObjectEntry<'a>) -> Result<u32, CheckError>
-    ensures { AnswersIn (λ k. k)
+fn object_first<'a>(joined: &mut Joined<'a>, new: ObjectEntry<'a>) -> Result<u32, AllocError>
+    ensures { GivesIn (λ k. k)
         (rules.object_first (joined_of joined.old) (object_entry_of new.entry))
         (joined_of joined.new) result }
 {
@@ -100,18 +85,18 @@ fn object_joined<'a>(
     alloc: Global,
     joined: &mut Joined<'a>,
     new: ObjectEntry<'a>,
-) -> Result<u32, CheckError>
-    ensures { AnswersIn (λ k. k)
+) -> Result<u32, AllocError>
+    ensures { GivesIn (λ k. k)
         (rules.object_joined (joined_of joined.old) (object_entry_of new.entry))
         (joined_of joined.new) result }
 {
     if !is_external(new.source.linkage) {
-        return Ok(add_object(joined, new)?);
+        return add_object(joined, new);
     }
     match linked(joined, new.source.name) {
         None => object_first(joined, new),
         Some(Entity::Object(number)) => object_again(alloc, joined, number, &new),
-        Some(Entity::Function(_)) => fault(FaultKind::F24, new.source.place),
+        Some(Entity::Function(_)) => add_object(joined, new),
     }
 }
 
@@ -172,9 +157,9 @@ fn next_object<'a>(
     mut numbers: Vec<u32>,
     dropped: bool,
     object: &'a ObjectDef,
-) -> Result<Vec<u32>, CheckError>
-    ensures { AnswersIn (λ ns. ns.items)
-        (rules.next_object structs.now unit (joined_of joined.old) numbers.items dropped
+) -> Result<Vec<u32>, AllocError>
+    ensures { GivesIn (λ ns. ns.items)
+        (rules.next_object structs.now unit (numbers.items, joined_of joined.old) dropped
         (object_of object.now))
         (joined_of joined.new) result }
 {
@@ -196,14 +181,14 @@ fn all_joined<'a>(
     unit: u32,
     formals: &IndexSet<usize>,
     objects: &'a [ObjectDef],
-) -> Result<Vec<u32>, CheckError>
-    ensures { AnswersIn (λ ns. ns.items)
-        (rules.objects_joined structs.now formals.now.keys unit (joined_of joined.old) []
+) -> Result<Vec<u32>, AllocError>
+    ensures { GivesIn (λ ns. ns.items)
+        (rules.objects_joined structs.now formals.now.keys unit ([], joined_of joined.old)
         (map object_of objects.now))
         (joined_of joined.new) result }
 {
     let mut numbers = Vec::new(alloc);
-    'objects: for (i, object) in objects.iter().enumerate() {
+    'objects: for object in objects {
         let dropped = is_dropped(formals, numbers.len(), object.storage);
         numbers = next_object(alloc, joined, structs, unit, numbers, dropped, object)?;
     }
@@ -218,10 +203,10 @@ pub(crate) fn objects_joined<'a>(
     unit: u32,
     objects: &'a [ObjectDef],
     functions: &[FunctionDef],
-) -> Result<Vec<u32>, CheckError>
-    ensures { AnswersIn (λ ns. ns.items)
+) -> Result<Vec<u32>, AllocError>
+    ensures { GivesIn (λ ns. ns.items)
         (rules.objects_joined structs.now (rules.formals_of (map function_of functions.now)) unit
-        (joined_of joined.old) [] (map object_of objects.now))
+        ([], joined_of joined.old) (map object_of objects.now))
         (joined_of joined.new) result }
 {
     let formals = set_of(alloc, &formals_of(alloc, functions)?)?;

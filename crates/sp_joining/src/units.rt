@@ -1,8 +1,8 @@
 //! Units as one program.
 ghost use Rattle.std.specs.Prelude.{◌≡◌, ◌++◌, [], IfOk, OnOk, map, slice_index_or};
-ghost use Rattle.sp_operands.specs.Answers.{AnswersIn};
 ghost use Rattle.sp_units.specs.Units.{checked_unit_of};
 ghost use Rattle.sp_joining.specs.Entries as entries;
+ghost use Rattle.sp_joining.specs.Entries.{GivesIn};
 ghost use Rattle.sp_joining.specs.Views.{joined_of, numbers_of};
 ghost use Rattle.sp_joining.specs.Units as rules;
 
@@ -10,7 +10,6 @@ use crate::entries::UnitNumbers;
 use crate::functions::functions_joined;
 use crate::joined::{Joined, add_texts};
 use crate::objects::objects_joined;
-use sp_operands::CheckError;
 use sp_units::CheckedUnit;
 use std::alloc::{AllocError, Global};
 
@@ -32,8 +31,8 @@ fn unit_joined<'a>(
     structs: &[u32],
     number: u32,
     unit: &'a CheckedUnit,
-) -> Result<UnitNumbers, CheckError>
-    ensures { AnswersIn numbers_of
+) -> Result<UnitNumbers, AllocError>
+    ensures { GivesIn numbers_of
         (rules.unit_joined structs.now number (joined_of joined.old) (checked_unit_of unit.now))
         (joined_of joined.new) result }
 {
@@ -72,14 +71,14 @@ fn next_unit<'a>(
     structs: &[Vec<u32>],
     mut done: Vec<UnitNumbers>,
     unit: &'a CheckedUnit,
-) -> Result<Vec<UnitNumbers>, CheckError>
-    ensures { AnswersIn (λ ns. map numbers_of ns.items)
-        (rules.next_unit (map (λ ns. ns.items) structs.now) (joined_of joined.old)
-        (map numbers_of done.items) (checked_unit_of unit.now))
+) -> Result<Vec<UnitNumbers>, AllocError>
+    ensures { GivesIn (λ ns. map numbers_of ns.items)
+        (rules.next_unit (map (λ ns. ns.items) structs.now)
+        (map numbers_of done.items, joined_of joined.old) (checked_unit_of unit.now))
         (joined_of joined.new) result }
 {
     let Ok(number) = u32::try_from(done.len()) else {
-        return Err(CheckError::NoMemory);
+        return Err(AllocError);
     };
     let numbers = unit_joined(alloc, joined, structs_of(structs, done.len()), number, unit)?;
     done.push(numbers)?;
@@ -93,14 +92,14 @@ pub fn join_units<'a>(
     joined: &mut Joined<'a>,
     structs: &[Vec<u32>],
     units: &'a [CheckedUnit],
-) -> Result<Vec<UnitNumbers>, CheckError>
-    ensures { AnswersIn (λ ns. map numbers_of ns.items)
-        (rules.units_joined (map (λ ns. ns.items) structs.now) (joined_of joined.old) []
+) -> Result<Vec<UnitNumbers>, AllocError>
+    ensures { GivesIn (λ ns. map numbers_of ns.items)
+        (rules.units_joined (map (λ ns. ns.items) structs.now) ([], joined_of joined.old)
         (map checked_unit_of units.now))
         (joined_of joined.new) result }
 {
     let mut done = Vec::new(alloc);
-    'units: for (i, unit) in units.iter().enumerate() {
+    'units: for unit in units {
         done = next_unit(alloc, joined, structs, done, unit)?;
     }
     Ok(done)

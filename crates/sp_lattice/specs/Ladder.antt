@@ -89,15 +89,3 @@ points_within points lo hi = count_by (λ p. int_le lo p && int_le p hi) points
 -- how many points lie below v: what a bound's rank counts
 abbrev pub points_below : List ℤ → ℤ → ℕ
 points_below points v = count_by (λ p. int_lt p v) points
-
--- v alone where it lies within the bounds, else nothing
-abbrev pub within : ℤ → List ℤ
-within v = if int_le lowest v && int_le v highest then v ∷ [] else []
-
--- the points that a taken constant adds
-abbrev pub beside : ℤ → List ℤ
-beside k = within (k -ℤ pos 1) ++ within k ++ within (k +ℤ pos 1)
-
--- a list has the constants that are taken, and nothing else
-pub record HasTaken (constants taken : List ℤ) : Type 0 where
-  pub exact : (k : ℤ) → Contains taken k ↔ IsTaken constants k

@@ -1,2 +1,4 @@
+pub mod Cells
+pub mod Laid
 pub mod Members
 pub mod Sizes

@@ -1,12 +1,14 @@
--- How large shapes are, so that going down ends; and the shape of a struct one level down.
-use Rattle.std.proofs.Common.{◌≡◌, ℕ, zero, suc, ◌+◌, ◌-◌, ◌≤◌, ◌<◌, List, [], ◌∷◌, length, map, get_or, slice_get, refl, ap, ◌++◌, arith}
+-- How large shapes are, so that going down a type ends.
+use Rattle.std.proofs.Common.{◌≡◌, ℕ, zero, suc, ◌+◌, ◌≤◌, ◌<◌, Bool, true, false, List, [], ◌∷◌, length, get_or, slice_get, Option, Some, None, refl, ap, sym, ◌∙◌, arith}
 use Rattle.sp_types.specs.Types.{CType, structure, Struct}
 use Rattle.sp_types.specs.View.{type_of}
 use Rattle.sp_types.specs.declared.ctype.CType.{CType as CodeType}
 use Rattle.sp_ir.specs.Terrain.{size_of}
 use Rattle.sp_ir.specs.Shapes.{Shape, Shapes, scalar, floating_shape, union_of, array_of, struct_of, no_shapes, next_shape}
-use Rattle.sp_layouts.specs.View.{shapes}
-use Rattle.sp_layouts.specs.Layouts.{bare, struct_shape, shape_of_struct, member_shapes, shape_within}
+use Rattle.sp_layouts.specs.Layouts.{layout_of, shape_of_struct, shape_of_members, member_shapes}
+use Rattle.sp_layouts.specs.Seen.{seen_members}
+use Rattle.sp_layouts.specs.Summaries.{AreSummaries}
+use Rattle.sp_layouts.specs.declared.summaries.Summary.{Summary}
 
 abbrev mutual
   pub size : Shape → ℕ
@@ -20,35 +22,37 @@ abbrev mutual
   sizes no_shapes = 0
   sizes (next_shape m ms) = 10 + size m + sizes ms
 
--- one level down
-pub struct-at : (ss : List Struct) (n m k : ℕ) → 1 ≤ n → m ≡ n - 1
-    → struct_shape ss n k ≡ shape_of_struct (structure k) (size_of ss (structure k)) (shape_within ss m) (slice_get ss k)
-struct-at ss zero m k h e = absurd (omega arith)
-struct-at ss (suc n) m k h e =
-    let same : n ≡ m = omega arith in
-    ap (λ d. shape_of_struct (structure k) (size_of ss (structure k)) (shape_within ss d) (slice_get ss k)) same
+members-size : (t u : CType) (n m : ℕ) (f : CType → Shape) (union : Bool) (o : Option (List (ℕ × CType)))
+    → size (shape_of_members t n f union o) ≡ size (shape_of_members u m f union o)
+members-size t u n m f union None = refl
+members-size t u n m f false (Some ms) = refl
+members-size t u n m f true (Some []) = refl
+members-size t u n m f true (Some (x ∷ ms)) = refl
 
-pub struct-none : (ss : List Struct) (n k : ℕ) → n ≡ 0 → struct_shape ss n k ≡ bare (structure k)
-struct-none ss n k e = ap (λ d. struct_shape ss d k) e
+found-size : (t u : CType) (n m : ℕ) (f : CType → Shape) (o : Option Struct) → size (shape_of_struct t n f o) ≡ size (shape_of_struct u m f o)
+found-size t u n m f None = refl
+found-size t u n m f (Some d) = members-size t u n m f d.union d.members
+
+-- that of a struct of this number, whatever type is said
+pub struct-size : (ss : List Struct) (all : List Summary) (t : CType) (n k : ℕ) (o : Option Struct) → AreSummaries ss all → slice_get ss k ≡ o
+    → size (shape_of_struct t n (layout_of ss) o) ≡ size (layout_of ss (structure k))
+struct-size ss all t n k o laid at =
+    found-size t (structure k) n (size_of ss (structure k)) (layout_of ss) o
+    ∙ ap (λ x. size (shape_of_struct (structure k) (size_of ss (structure k)) (layout_of ss) x)) (sym at)
+    ∙ ap size (sym (laid.shapes k))
 
 -- a member is smaller than all of them
 pub member_smaller : (shape : CType → Shape) (ms : List (ℕ × CodeType)) (i : ℕ) (d : ℕ × CodeType) → i < length ms
-    → size (shape (type_of (get_or ms i d).1)) + 10 ≤ sizes (member_shapes shape (map (λ (m : ℕ × CodeType). (m.0, type_of m.1)) ms))
+    → size (shape (type_of (get_or ms i d).1)) + 10 ≤ sizes (member_shapes shape (seen_members ms))
 member_smaller shape [] i d h = absurd (omega arith)
 member_smaller shape (m ∷ ms) zero d h = omega arith
 member_smaller shape (m ∷ ms) (suc i) d h =
-    let rest : size (shape (type_of (get_or ms i d).1)) + 10 ≤ sizes (member_shapes shape (map (λ (x : ℕ × CodeType). (x.0, type_of x.1)) ms)) = member_smaller shape ms i d (omega arith) in
+    let rest : size (shape (type_of (get_or ms i d).1)) + 10 ≤ sizes (member_shapes shape (seen_members ms)) = member_smaller shape ms i d (omega arith) in
     omega arith
 
--- these shapes before the others
-abbrev pub with_shapes : List Shape → Shapes → Shapes
-with_shapes [] rest = rest
-with_shapes (x ∷ xs) rest = next_shape x (with_shapes xs rest)
-
-pub with_next : (xs : List Shape) (x : Shape) (rest : Shapes) → with_shapes (xs ++ x ∷ []) rest ≡ with_shapes xs (next_shape x rest)
-with_next [] x rest = refl
-with_next (y ∷ xs) x rest = ap (next_shape y) (with_next xs x rest)
-
-pub with_none : (xs : List Shape) → with_shapes xs no_shapes ≡ shapes xs
-with_none [] = refl
-with_none (y ∷ xs) = ap (next_shape y) (with_none xs)
+pub member-at : (f : CType → Shape) (ms : List (ℕ × CodeType)) (i : ℕ) (m : ℕ × CodeType) → i < length ms → m ≡ get_or ms i m
+    → size (f (type_of m.1)) + 10 ≤ sizes (member_shapes f (seen_members ms))
+member-at f ms i m h at =
+    let small : size (f (type_of (get_or ms i m).1)) + 10 ≤ sizes (member_shapes f (seen_members ms)) = member_smaller f ms i m h in
+    let same : size (f (type_of m.1)) ≡ size (f (type_of (get_or ms i m).1)) = ap (λ (x : ℕ × CodeType). size (f (type_of x.1))) at in
+    omega arith

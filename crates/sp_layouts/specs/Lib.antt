@@ -1,3 +1,4 @@
-pub mod Leaves
 pub mod Layouts
-pub mod View
+pub mod Leaves
+pub mod Seen
+pub mod Summaries

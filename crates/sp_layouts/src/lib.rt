@@ -9,14 +9,16 @@
 //! Its leaves 0 to 2 have the cell `s.a[]`, and leaf 3 has `s.c`. Only leaf 0 has a value, so both
 //! cells have a leaf without one.
 //!
-//! The table of structs is gone down in `Shape::new` alone, as deep as structs lie inside one
-//! another. Its contract, for the layer above, says that the shape is `layout_of` of the type
-//! (`specs.Layouts`). The other contracts give regions, counts and cells by this shape.
+//! A shape is never built. Structs are summed up once, each from what its members come to
+//! (`summaries_of`), so that counts take no time by how deep structs lie inside one another. Calls
+//! that go down a type then go as far as its regions. The contracts say all by `layout_of` of the
+//! type (`specs.Layouts`): its regions, its counts, the cells of its leaves.
 #![tactic(auto)]
 
 mod leaves;
 mod regions;
-mod shape;
+mod summaries;
 
-pub use regions::push_region;
-pub use shape::{Shape, depth, pointer_flags};
+pub use leaves::{cells_left, leaf_cell, leaf_count, start_cells};
+pub use regions::{Layouts, Part, add_regions, push_region, region_count};
+pub use summaries::{Summary, pointer_flags, summaries_of, summary_by};

@@ -1,13 +1,15 @@
--- Units linked to a program, or the fault that stands (C90 5.1.1.2, 6.1.2.2, 6.7).
+-- Units that agree on their names linked to a program, or the fault that stands (C90 5.1.1.2, 6.1.2.2,
+-- 6.7).
 use Rattle.std.specs.Prelude.{ℕ, suc, Bool, ◌&&◌, List, [], ◌∷◌, map, Option, Some, None, if◌then◌else◌, is_some, slice_get, unwrap_or, codes, bytes_eq}
 use Rattle.sp_tree.specs.declared.fault.FaultKind.TheVariants.{F25}
 use Rattle.sp_tree.specs.declared.fault.Place.{Place}
 use Rattle.sp_types.specs.Programs.{Program}
-use Rattle.sp_operands.specs.Answers.{Checked, accepted, and_then, where_given}
+use Rattle.sp_operands.specs.Answers.{Checked, accepted, where_given}
 use Rattle.sp_renaming.specs.Renaming.{Renaming}
 use Rattle.sp_units.specs.Units.{CheckedUnit}
 use Rattle.sp_matching.specs.Matching.{Matching}
-use Rattle.sp_joining.specs.Entries.{FunctionEntry, Joined, Numbers, nothing_joined, is_external}
+use Rattle.sp_conflicts.specs.Declarations.{is_external}
+use Rattle.sp_joining.specs.Entries.{FunctionEntry, Joined, Numbers, nothing_joined}
 use Rattle.sp_joining.specs.Units.{units_joined}
 use Rattle.sp_link.specs.Making.{final_types, renaming, struct_made, object_made, function_made, constants_made}
 
@@ -34,10 +36,12 @@ program_made m xs rs j main = record {
   main = main;
 }
 
--- the units in order, where the matching tells which of their structs are one; F25 stands at the
--- place `first`
-abbrev pub linked : List (List ℕ) → Place → Matching → List CheckedUnit → Checked Program
-linked names first m xs =
-    and_then (units_joined m.numbers nothing_joined [] xs) (λ y.
+-- what is joined as a program; F25 stands at the place `first`
+abbrev pub linked_with : List (List ℕ) → Place → Matching → List CheckedUnit → List Numbers × Joined → Checked Program
+linked_with names first m xs y =
     where_given (main_from names 0 y.1.functions) F25 first (λ main.
-    accepted (program_made m xs (renamings y.1 y.0) y.1 main)))
+    accepted (program_made m xs (renamings y.1 y.0) y.1 main))
+
+-- the units in order, where the matching tells which of their structs are one
+abbrev pub linked : List (List ℕ) → Place → Matching → List CheckedUnit → Checked Program
+linked names first m xs = linked_with names first m xs (units_joined m.numbers ([], nothing_joined) xs)

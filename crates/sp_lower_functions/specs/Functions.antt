@@ -17,6 +17,11 @@ abbrev pub label_node : List (ℕ × ℕ) → ℕ → ℕ
 label_node [] n = 0
 label_node (l ∷ ls) n = if l.0 == n then l.1 else label_node ls n
 
+-- where a look-up of its name gave this; 0 without one
+abbrev pub node_in : Option ℕ → ℕ
+node_in None = 0
+node_in (Some n) = n
+
 -- an edge from each end that goes to a label
 abbrev pub goto_edges : List (ℕ × ℕ) → List (ℕ × ℕ) → List (ℕ × ℕ)
 goto_edges labels gotos = map (λ (g : ℕ × ℕ). (g.0, label_node labels g.1)) gotos

@@ -85,7 +85,7 @@ fn lower_body(
         Some(s) => {
             let mut body = begun(frame.scope.alloc, draft);
             statement(frame, &mut body, s)?;
-            ended(body)
+            ended(frame.scope.alloc, body)
         }
         None => Ok(draft),
     }

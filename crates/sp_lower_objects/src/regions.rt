@@ -4,11 +4,12 @@ ghost use Rattle.sp_types.specs.View.{type_of, struct_of};
 ghost use Rattle.sp_ir.specs.Programs.{object_of};
 ghost use Rattle.sp_ir.specs.Regions.{region_of, region_list};
 ghost use Rattle.sp_ir.specs.Formed.{root_count};
+ghost use Rattle.sp_layouts.specs.Summaries.{AreSummaries};
 ghost use Rattle.sp_lower_objects.specs.Regions.{is_function, typed_regions, kind_regions, object_regions, all_regions, kind_count, all_counts};
 
 use sp_draft::size_of;
 use sp_ir::{Object, ObjectKind, Region, Regions};
-use sp_layouts::{Shape, push_region};
+use sp_layouts::{Layouts, Part, add_regions, push_region, region_count, summaries_of};
 use sp_types::{CType, StructType};
 use std::alloc::{AllocError, Global};
 
@@ -29,44 +30,59 @@ fn root_count(kind: ObjectKind) -> Option<u64>
     }
 }
 
+/// The object of this number, so often.
+fn root_of<'a>(object: u32, count: Option<u64>) -> Part<'a>
+    ensures object { result.object ≡ object }
+    ensures path { result.path.now ≡ [] }
+    ensures count { result.count ≡ count }
+{
+    Part {
+        object,
+        path: &[],
+        count,
+    }
+}
+
 /// Adds the regions of an object of this type, which isn't a function.
 fn add_typed_regions(
     alloc: Global,
-    structs: &[StructType],
+    layouts: &Layouts<'_>,
     object: u32,
     count: Option<u64>,
     of: &CType,
     all: &mut Vec<Region>,
 ) -> Result<(), AllocError>
+    requires { AreSummaries (map struct_of layouts.now.structs.now) layouts.now.summaries.now }
     ensures { OnOk result (map region_of all.new.items ≡ map region_of all.old.items ++
-        typed_regions (map struct_of structs.now) object count (type_of of.now)) }
+        typed_regions (map struct_of layouts.now.structs.now) object count (type_of of.now)) }
 {
-    if size_of(structs, of) == 0 {
-        push_region(alloc, all, object, &[], None, 1, Some(0))
+    if size_of(layouts.structs, of) == 0 {
+        push_region(alloc, all, &root_of(object, Some(0)), None, 1)
     } else {
-        Shape::new(alloc, structs, of)?.add_regions(alloc, all, object, &[], count)
+        add_regions(alloc, layouts, all, &root_of(object, count), of)
     }
 }
 
 /// Adds the regions of an object of this kind and type.
 fn add_object_regions(
     alloc: Global,
-    structs: &[StructType],
+    layouts: &Layouts<'_>,
     number: u32,
     object: &Object,
     all: &mut Vec<Region>,
 ) -> Result<(), AllocError>
+    requires { AreSummaries (map struct_of layouts.now.structs.now) layouts.now.summaries.now }
     ensures { OnOk result (map region_of all.new.items ≡ map region_of all.old.items ++
-        object_regions (map struct_of structs.now) number (object_of object.now).kind
+        object_regions (map struct_of layouts.now.structs.now) number (object_of object.now).kind
         (object_of object.now).of) }
 {
     let Some(of) = &object.of else {
-        return push_region(alloc, all, number, &[], None, 1, None);
+        return push_region(alloc, all, &root_of(number, None), None, 1);
     };
     if is_function(object.kind) {
-        push_region(alloc, all, number, &[], Some(of), 1, Some(1))
+        push_region(alloc, all, &root_of(number, Some(1)), Some(of), 1)
     } else {
-        add_typed_regions(alloc, structs, number, root_count(object.kind), of, all)
+        add_typed_regions(alloc, layouts, number, root_count(object.kind), of, all)
     }
 }
 
@@ -126,46 +142,48 @@ pub fn regions_of(
     ensures { IfOk result (λ rs. region_list rs ≡
         all_regions (map struct_of structs.now) 0 (map object_of objects.now)) }
 {
+    let summaries = summaries_of(alloc, structs)?;
+    let layouts = Layouts {
+        structs,
+        summaries: summaries.as_slice(),
+    };
     let mut regions = Regions::new(alloc);
     for (k, object) in objects.iter().enumerate() {
         let Ok(number) = u32::try_from(k) else {
             return Err(AllocError);
         };
         let mut own = Vec::new(alloc);
-        add_object_regions(alloc, structs, number, object, &mut own)?;
+        add_object_regions(alloc, &layouts, number, object, &mut own)?;
         push_each(&mut regions, own)?;
     }
     Ok(regions)
 }
 
 /// How many regions an object has.
-fn region_count(alloc: Global, structs: &[StructType], object: &Object) -> Result<u64, AllocError>
-    ensures { IfOk result (λ n. n ≡ kind_count (map struct_of structs.now)
+fn object_count(layouts: &Layouts<'_>, object: &Object) -> Result<u64, AllocError>
+    requires { AreSummaries (map struct_of layouts.now.structs.now) layouts.now.summaries.now }
+    ensures { IfOk result (λ n. n ≡ kind_count (map struct_of layouts.now.structs.now)
         (object_of object.now).kind (object_of object.now).of) }
 {
     let Some(of) = &object.of else {
         return Ok(1);
     };
-    if is_function(object.kind) || size_of(structs, of) == 0 {
+    if is_function(object.kind) || size_of(layouts.structs, of) == 0 {
         Ok(1)
     } else {
-        Shape::new(alloc, structs, of)?.region_count()
+        region_count(layouts, of)
     }
 }
 
 /// Whether the objects have at most so many regions, before any is made.
-fn counts_fit(
-    alloc: Global,
-    structs: &[StructType],
-    objects: &[Object],
-    most: u64,
-) -> Result<bool, AllocError>
+fn counts_fit(layouts: &Layouts<'_>, objects: &[Object], most: u64) -> Result<bool, AllocError>
+    requires { AreSummaries (map struct_of layouts.now.structs.now) layouts.now.summaries.now }
     ensures { IfOk result (λ fit. fit ≡ nat_le
-        (all_counts (map struct_of structs.now) (map object_of objects.now)) most) }
+        (all_counts (map struct_of layouts.now.structs.now) (map object_of objects.now)) most) }
 {
     let mut left = most;
     for object in objects {
-        let count = region_count(alloc, structs, object)?;
+        let count = object_count(layouts, object)?;
         if left < count {
             return Ok(false);
         }
@@ -184,5 +202,10 @@ pub fn regions_fit(
     ensures { IfOk result (λ fit. fit ≡ nat_le (length
         (all_regions (map struct_of structs.now) 0 (map object_of objects.now))) most) }
 {
-    counts_fit(alloc, structs, objects, most)
+    let summaries = summaries_of(alloc, structs)?;
+    let layouts = Layouts {
+        structs,
+        summaries: summaries.as_slice(),
+    };
+    counts_fit(&layouts, objects, most)
 }

@@ -9,10 +9,10 @@ use Rattle.sp_octagon.specs.Entries.{Entries}
 use Rattle.sp_octagon.specs.Facts.{IsMatrix}
 use Rattle.sp_octagon.specs.Walks.{HasNegativeWalk, IsClosure, closed_entry}
 use Rattle.sp_octagon.specs.Points.{Point}
-use Rattle.sp_octagon.specs.Rounds.{round, AfterRounds, Closes}
+use Rattle.sp_octagon.specs.inner.Rounds.{AfterRounds, Closes}
+use Rattle.sp_octagon.specs.Functions.{round, rounds_to, is_natural_diagonal, settles, closed}
 use Rattle.sp_octagon.specs.Octagons.{rows, entries, OctagonHolds}
 use Rattle.sp_octagon.specs.Made.{every, every-at, with_entries}
-use Rattle.sp_octagon.specs.Functions.{rounds_to, is_natural_diagonal, settles, closed}
 use Rattle.sp_octagon.proofs.Rounds.{rounds-first, rounds-step, step_negative, rounds_proper}
 use Rattle.sp_octagon.proofs.Closures.{closed-proper, closure-from, closure_unique}
 use Rattle.sp_octagon.proofs.PointLaws.{no_point, nearest-held}

@@ -9,7 +9,7 @@ use Rattle.sp_octagon.specs.Walks.{Walk, entry, IsLeastWalk, HasNegativeWalk, cl
 use Rattle.sp_octagon.specs.Order.{Below}
 use Rattle.sp_octagon.proofs.Numbers.{below_or_not, half-is, negative_twice, negative-lt, half_sum-comm, half_sum-le, HalfCases, both, none, half_cases, cut-in_range, cut-le, cut-same, CutCases, raised, stays, taken, cut_cases}
 use Rattle.sp_octagon.proofs.WalkLaws.{walk_reversed, walk_below, least_walk-le, least_walk_unique}
-use Rattle.sp_octagon.specs.Rounds.{AfterRounds}
+use Rattle.sp_octagon.specs.inner.Rounds.{AfterRounds}
 use Rattle.sp_octagon.proofs.Rounds.{rounds-least}
 use Rattle.sp_octagon.proofs.PointLaws.{walk_holds, negative-value, parity, value_even, value_odd}
 

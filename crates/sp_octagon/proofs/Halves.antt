@@ -10,7 +10,8 @@ use Rattle.sp_octagon.specs.Facts.{IsMatrix, IsOctagon}
 use Rattle.sp_octagon.specs.Changes.{no_bounds, with_pair, is_pair}
 use Rattle.sp_octagon.specs.Octagons.{rows, entries}
 use Rattle.sp_octagon.specs.Made.{listed, bounds_of, is_octagon}
-use Rattle.sp_octagon.specs.Kept.{width, start, half_to, half_of, kept_entry, kept_entries, whole_by, whole, IsKept, IsBefore, ReadTo}
+use Rattle.sp_octagon.specs.Kept.{width, start, half_to, half_of, kept_entry, kept_entries, whole_by, whole, IsKept}
+use Rattle.sp_octagon.specs.inner.Reading.{IsBefore, ReadTo}
 use Rattle.sp_octagon.proofs.Numbers.{which, negative-lt, negative_twice}
 use Rattle.sp_octagon.proofs.Matrices.{PairCases, itself, its_equal, apart, pair_cases}
 use Rattle.sp_octagon.proofs.OrderLaws.{octagon_same}

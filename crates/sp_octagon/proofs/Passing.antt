@@ -6,7 +6,8 @@ use Rattle.std.proofs.lemmas.Int.{ints, clamps}
 use Rattle.std.proofs.lemmas.Bool.Decides.{nat_tests}
 use Rattle.std.proofs.lemmas.List.{get_or_default}
 use Rattle.sp_octagon.specs.Entries.{Entries, entries_of, unbounded, sum_of}
-use Rattle.sp_octagon.specs.Rounds.{round, reach, IsWithin, Shortened}
+use Rattle.sp_octagon.specs.inner.Rounds.{reach, IsWithin, Shortened}
+use Rattle.sp_octagon.specs.Functions.{round}
 use Rattle.sp_octagon.proofs.Numbers.{which, below_or_not, sum_of-is, sum_of-none_right}
 
 -- in this row the columns below `column` have changed, and nothing else

@@ -6,7 +6,7 @@ use Rattle.sp_octagon.specs.Entries.{Entries, IsBound, negative}
 use Rattle.sp_octagon.specs.Points.{Point, value_at, Holds}
 use Rattle.sp_octagon.specs.Walks.{Walk, entry, onward, HasNegativeWalk}
 use Rattle.sp_octagon.proofs.Numbers.{below_or_not, negative-lt}
-use Rattle.sp_octagon.specs.Rounds.{AfterRounds}
+use Rattle.sp_octagon.specs.inner.Rounds.{AfterRounds}
 
 -- what an even and an odd row stand for
 pub value_even : (p : Point) (r : ℕ) → r % 2 ≡ 0 → value_at p r ≡ p (r / 2)

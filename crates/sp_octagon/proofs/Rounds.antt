@@ -6,7 +6,8 @@ use Rattle.std.proofs.lemmas.Nat.{pow_below}
 use Rattle.sp_octagon.specs.Entries.{Entries, unbounded, IsBound}
 use Rattle.sp_octagon.specs.Facts.{IsMatrix}
 use Rattle.sp_octagon.specs.Walks.{Walk, entry, onward, IsLeastWalk, HasNegativeWalk}
-use Rattle.sp_octagon.specs.Rounds.{round, reach, IsWithin, AfterRounds}
+use Rattle.sp_octagon.specs.inner.Rounds.{reach, IsWithin, AfterRounds}
+use Rattle.sp_octagon.specs.Functions.{round}
 use Rattle.sp_octagon.proofs.Numbers.{below_or_not, sum_of-is, sum_of-none_left, sum_of-none_right}
 use Rattle.sp_octagon.proofs.WalkLaws.{walk_joined, walk_same}
 

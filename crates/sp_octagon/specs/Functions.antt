@@ -1,12 +1,12 @@
 -- What the calls make of octagons, as functions: for the contracts, and the definitions of the
 -- layers above. `specs.Changes` says what each makes of the entries.
 use Rattle.std.specs.Prelude.{ℕ, zero, suc, Bool, true, ◌&&◌, if◌then◌else◌, Option, Some, None, List, ℤ, pos, int_le}
+use Rattle.std.specs.Int.{int_min}
 use Rattle.sp_lattice.specs.declared.relations.Relation.{Relation}
 use Rattle.sp_interval.specs.declared.interval.Interval.{Interval}
 use Rattle.sp_octagon.specs.declared.octagon.Octagon.{Octagon}
-use Rattle.sp_octagon.specs.Entries.{Entries}
+use Rattle.sp_octagon.specs.Entries.{Entries, sum_of}
 use Rattle.sp_octagon.specs.Walks.{closed_entry}
-use Rattle.sp_octagon.specs.Rounds.{round}
 use Rattle.sp_octagon.specs.Order as order
 use Rattle.sp_octagon.specs.Changes as changes
 use Rattle.sp_octagon.specs.Octagons.{rows, entries}
@@ -36,6 +36,10 @@ abbrev pub snapped : List ℤ → Octagon → Octagon
 snapped points o = with_entries o (changes.snapped_entries points (entries o))
 
 -- ---- the closure
+
+-- what round k makes of the entries
+abbrev pub round : ℕ → Entries → Entries
+round k d r c = int_min (d r c) (sum_of (d r k) (d k c))
 
 -- the entries after the rounds below k, each of which lets walks pass through one more row
 unfoldable pub rounds_to : ℕ → Entries → Entries

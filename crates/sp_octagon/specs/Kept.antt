@@ -57,16 +57,3 @@ whole size kept = let bounds = bounds_of (kept_entries size kept) in whole_by si
 pub record IsKept (size : ℕ) (kept : List ℤ) : Type 0 where
   pub sized : (whole size kept).size ≡ size
   pub half : half_of (whole size kept) ≡ kept
-
--- ---- how far reading has come
-
--- (i, j) is kept in a row below r, or in row r in a column below c
-abbrev pub IsBefore : ℕ → ℕ → ℕ → ℕ → Type 0
-IsBefore r c i j = ((i < r) × (j < width i)) ⊎ ((i ≡ r) × (j < c))
-
--- what is kept before column c of row r has been read into d, with the entries that equal it; outside the first
--- `count` rows and columns there are no bounds
-pub record ReadTo (count : ℕ) (m : Entries) (r c : ℕ) (d : Entries) : Type 0 where
-  pub agree : (i j : ℕ) → i < count → j < count → IsBefore r c i j
-      → (d i j ≡ m i j) × (d (negative j) (negative i) ≡ m i j)
-  pub outside : (i j : ℕ) → i < 16 → j < 16 → count ≤ max i j → d i j ≡ no_bounds i j

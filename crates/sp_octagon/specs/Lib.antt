@@ -6,8 +6,8 @@ pub mod Changes
 pub mod Order
 pub mod Held
 pub mod Octagons
-pub mod Rounds
 pub mod Made
 pub mod Functions
 pub mod Laws
 pub mod Kept
+pub mod inner

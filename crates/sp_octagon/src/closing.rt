@@ -4,7 +4,8 @@ ghost use Rattle.std.specs.Prelude.{◌≡◌, ◌+◌, ◌*◌, ◌<◌, ◌≤
 ghost use Rattle.sp_octagon.specs.Entries.{Entries, entries_of, cut, half_sum, negative, unbounded, sum_of};
 ghost use Rattle.sp_octagon.specs.Facts.{IsInRange, IsMatrix};
 ghost use Rattle.sp_octagon.specs.Walks.{HasNegativeWalk, closed_entry};
-ghost use Rattle.sp_octagon.specs.Rounds.{AfterRounds, round, reach, IsWithin, Shortened, Closes};
+ghost use Rattle.sp_octagon.specs.inner.Rounds.{AfterRounds, reach, IsWithin, Shortened, Closes};
+ghost use Rattle.sp_octagon.specs.Functions.{round};
 
 use crate::octagon::{Clearing, Octagon, UNBOUNDED, negative};
 use crate::passes::{Change, change_entries};
@@ -127,7 +128,7 @@ impl Change for HalfSums {
     ghost use Rattle.std.specs.Prelude.{ℕ, ℤ, pos, slice_index_or};
     ghost use Rattle.std.specs.Int.{int_min};
     ghost use Rattle.sp_octagon.specs.Entries.{unbounded, half_sum, cut, negative};
-    ghost use Rattle.sp_octagon.specs.Rounds.{IsWithin, reach};
+    ghost use Rattle.sp_octagon.specs.inner.Rounds.{IsWithin, reach};
 
     ghost made = { λ pass r c z. cut (int_min z (half_sum (slice_index_or pass.unary r (pos 0)) (slice_index_or pass.unary (negative c) (pos 0)))) };
 

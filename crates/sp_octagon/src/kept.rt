@@ -2,7 +2,8 @@
 ghost use Rattle.std.specs.Prelude.{◌≡◌, ◌+◌, ◌*◌, ◌<◌, ◌≤◌, ◌++◌, length, IfOk, OnOk};
 ghost use Rattle.sp_octagon.specs.Entries.{entries_of};
 ghost use Rattle.sp_octagon.specs.Made.{listed};
-ghost use Rattle.sp_octagon.specs.Kept.{width, start, ReadTo};
+ghost use Rattle.sp_octagon.specs.Kept.{width, start};
+ghost use Rattle.sp_octagon.specs.inner.Reading.{ReadTo};
 ghost use Rattle.sp_octagon.specs.Octagons.{rows, entries};
 
 use crate::octagon::{Clearing, Octagon, set_pair};

@@ -2,6 +2,7 @@
 ghost use Rattle.std.specs.Prelude.{◌≡◌, ◌↔◌, ℕ, true, false, slice_index_or, IfOk};
 ghost use Rattle.sp_ir.specs.Programs.{lowered_of};
 ghost use Rattle.sp_ir.specs.Formed.{IsFormed};
+ghost use Rattle.sp_sets.specs.Sets.{Ascends};
 ghost use Rattle.sp_sets.specs.Reached.{row};
 ghost use Rattle.sp_tables.specs.Tables.{IsLeastClosed};
 ghost use Rattle.sp_puts.specs.Puts.{rules_of};
@@ -72,6 +73,7 @@ impl PointsTo {
 pub fn points_to(alloc: Global, lowered: &Lowered) -> Result<PointsTo, AllocError>
     requires formed { IsFormed (lowered_of lowered.now) }
     ensures least { IfOk result (λ pre. IsLeastClosed (rules_of (lowered_of lowered.now)) (row pre.rows)) }
+    ensures ascending { IfOk result (λ pre. (c : ℕ) → Ascends (row pre.rows c)) }
     ensures calls { IfOk result (λ pre. AreCalls (lowered_of lowered.now) (row pre.rows) pre.calls) }
     ensures callees { IfOk result (λ pre. AreCallees (lowered_of lowered.now) pre.calls) }
     ensures recursive { IfOk result (λ pre. (f : ℕ) → (slice_index_or pre.recursive f false ≡ true) ↔ IsRecursive (lowered_of lowered.now) pre.calls f) }

@@ -2,7 +2,7 @@
 ghost use Rattle.std.specs.Prelude.{◌≡◌, ◌⊎◌, ◌<◌, ◌≤◌, ◌^◌, ℕ, List, length, true, IfOk, OnOk};
 ghost use Rattle.sp_ir.specs.Programs.{lowered_of};
 ghost use Rattle.sp_ir.specs.Formed.{IsFormed};
-ghost use Rattle.sp_sets.specs.Sets.{has};
+ghost use Rattle.sp_sets.specs.Sets.{has, Ascends};
 ghost use Rattle.sp_sets.specs.Reached.{row};
 ghost use Rattle.sp_tables.specs.Tables.{Table, Limited, IsLeastClosed};
 ghost use Rattle.sp_tables.specs.Growing.{in_puts, size, Working};
@@ -25,7 +25,8 @@ pub(crate) fn least(
     requires formed { IsFormed (lowered_of lowered.now) }
     requires few { length (lowered_of lowered.now).objects < 2 ^ 32 }
     requires grouped { AreGroups (lowered_of lowered.now) groups.now }
-    ensures { IfOk result (λ rows. IsLeastClosed (rules_of (lowered_of lowered.now)) (row rows.items)) }
+    ensures least { IfOk result (λ rows. IsLeastClosed (rules_of (lowered_of lowered.now)) (row rows.items)) }
+    ensures ascending { IfOk result (λ rows. (c : ℕ) → Ascends (row rows.items c)) }
 {
     let mut growing = first(alloc, lowered)?;
     'nodes: while let Some(node) = growing.queue.pop() {

@@ -1,5 +1,6 @@
 -- The program that several units are together, or the fault that stands (C90 6.1.2.2, 6.1.2.6, 6.7).
-use Rattle.std.specs.Prelude.{◌≡◌, ℕ, List, map, Result, Ok, Err, ⊤}
+use Rattle.std.specs.Prelude.{◌≡◌, ℕ, List, Result, Ok, Err, ⊤}
+use Rattle.sp_tree.specs.declared.fault.FaultKind.{FaultKind}
 use Rattle.sp_tree.specs.declared.fault.Place.{Place}
 use Rattle.sp_types.specs.Programs.{Program, program_of}
 use Rattle.sp_types.specs.declared.program.Program.{Program as CodeProgram}
@@ -10,13 +11,18 @@ use Rattle.sp_operands.specs.declared.error.CheckError.TheVariants.{Fault as Fau
 use Rattle.sp_units.specs.Units.{CheckedUnit}
 use Rattle.sp_matching.specs.Matching.{Matching}
 use Rattle.sp_struct_match.specs.Matched.{AreMatched}
+use Rattle.sp_conflicts.specs.Conflicts.{tables_of, AgreeOnNames, ConflictAt}
 use Rattle.sp_link.specs.Linking.{linked}
 
--- what the units give, linked by the matching of their structs; a fault of the whole stands at `first`
-pub record Links (names : List (List ℕ)) (first : Place) (units : List CheckedUnit) (given : Checked Program) : Type 0 where
-  pub matching : Matching
-  pub matched : AreMatched (map (λ u. u.structs) units) matching
-  pub linked_by : linked names first matching units ≡ given
+-- What the units give: the first of their declarations that is in conflict refuses them; where none
+-- is, they are linked by the matching of their structs. A fault of the whole stands at `first`.
+pub data Links (names : List (List ℕ)) (first : Place) (units : List CheckedUnit) (given : Checked Program) : Type 0 where
+  in_conflict :
+      (kind : FaultKind) (place : Place) → ConflictAt units kind place
+      → refused kind place ≡ given → Links names first units given
+  in_agreement :
+      (matching : Matching) → AgreeOnNames units → AreMatched (tables_of units) matching
+      → linked names first matching units ≡ given → Links names first units given
 
 -- that as an answer of the code; want of memory says nothing
 abbrev pub LinksTo : List (List ℕ) → Place → List CheckedUnit → Result CodeProgram CheckError → Type 0

@@ -3,6 +3,7 @@ ghost use Rattle.std.specs.Prelude.{map};
 ghost use Rattle.sp_units.specs.Units.{checked_unit_of};
 ghost use Rattle.sp_program.specs.Links.{LinksTo};
 
+use sp_conflicts::check_declarations;
 use sp_link::link_by;
 use sp_operands::CheckError;
 use sp_struct_match::matching;
@@ -21,6 +22,7 @@ pub fn link(
 ) -> Result<Program, CheckError>
     ensures { LinksTo names.now first (map checked_unit_of units.now) result }
 {
+    check_declarations(alloc, units)?;
     let matching = matching(alloc, units)?;
     link_by(alloc, units, &matching, first, names)
 }

@@ -2,5 +2,6 @@ mod Laws
 mod Finding
 mod Taking
 mod Cases
-mod Ranges
+pub mod Ranges
+pub mod Reaching
 pub mod Putting

@@ -20,7 +20,7 @@ use Rattle.sp_targets.specs.Low.{IsBelow}
 use Rattle.sp_puts.specs.Paths.{step_to, descend, between, reaches, object_in, object_at, AreGroups}
 use Rattle.sp_puts.proofs.Cases.{there_low, some_same}
 
-there_element : {A : Type 0} (xs : List A) (i : ℕ) (d : A) → i < length xs → slice_get xs i ≡ Some (get_or xs i d)
+pub there_element : {A : Type 0} (xs : List A) (i : ℕ) (d : A) → i < length xs → slice_get xs i ≡ Some (get_or xs i d)
 there_element [] i d low = absurd (omega arith)
 there_element (x ∷ xs) zero d low = refl
 there_element (x ∷ xs) (suc i) d low = there_element xs i d (omega arith)
@@ -144,7 +144,7 @@ module _ (p : Lowered) (formed : IsFormed p) where
 
 -- ---- paths stay in their object
 
-descend-none : (p : Lowered) (path : List Step) → descend p None path ≡ None
+pub descend-none : (p : Lowered) (path : List Step) → descend p None path ≡ None
 descend-none p [] = refl
 descend-none p (s ∷ path) = descend-none p path
 
@@ -159,7 +159,7 @@ step_object p q s n h = by (is_bytes (slice_get p.regions q)) h
     by true g = ap (λ m. object_at p m) (sym (some_same g))
     by false g = child (slice_get p.regions q) g
 
-descend_object : (p : Lowered) (q c : ℕ) (path : List Step) → descend p (Some q) path ≡ Some c → object_at p c ≡ object_at p q
+pub descend_object : (p : Lowered) (q c : ℕ) (path : List Step) → descend p (Some q) path ≡ Some c → object_at p c ≡ object_at p q
 descend_object p q c [] h = ap (λ m. object_at p m) (sym (some_same h))
 descend_object p q c (s ∷ path) h = by (step_to p q s) refl h (λ n g. descend_object p n c path g)
   where
@@ -177,7 +177,7 @@ cell_low p c h = by (slice_get p.regions c) refl h
     by None e g = absurd (false≢true g)
     by (Some r) e g = there_low p.regions c r e
 
-same_number : (o : Option ℕ) (c : ℕ) → option_eq nat_eq o (Some c) ≡ true → o ≡ Some c
+pub same_number : (o : Option ℕ) (c : ℕ) → option_eq nat_eq o (Some c) ≡ true → o ≡ Some c
 same_number None c h = absurd (false≢true h)
 same_number (Some n) c h = ap (λ x. Some x) (eqb-true n c h)
 

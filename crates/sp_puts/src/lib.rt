@@ -34,4 +34,5 @@ pub use commands::{callees_of, puts_of};
 pub use facts::{Facts, groups_of};
 pub use gathered::Gathered;
 pub use library::{Given, Moved};
+pub use paths::{mirrored, object_at, reaches, under};
 pub use sources::{Only, Test};

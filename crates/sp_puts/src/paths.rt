@@ -71,7 +71,7 @@ fn behind(path: &[Step], from: usize) -> &[Step]
 }
 
 /// Whether a cell is under a region.
-fn reaches(lowered: &Lowered, region: u32, cell: u32) -> bool
+pub fn reaches(lowered: &Lowered, region: u32, cell: u32) -> bool
     ensures { result ≡ reaches (lowered_of lowered.now) region cell }
 {
     let path = between(lowered, region, cell);
@@ -94,7 +94,7 @@ fn only_cell(lowered: &Lowered, found: Option<u32>) -> Option<u32>
 }
 
 /// The cell to which the path from a region to a cell under it leads from another region.
-pub(crate) fn mirrored(lowered: &Lowered, region: u32, other: u32, cell: u32) -> Option<u32>
+pub fn mirrored(lowered: &Lowered, region: u32, other: u32, cell: u32) -> Option<u32>
     ensures { result ≡ mirrored (lowered_of lowered.now) region other cell }
 {
     if reaches(lowered, region, cell) {
@@ -106,7 +106,7 @@ pub(crate) fn mirrored(lowered: &Lowered, region: u32, other: u32, cell: u32) ->
 }
 
 /// The object of a region.
-pub(crate) fn object_at(lowered: &Lowered, region: u32) -> u32
+pub fn object_at(lowered: &Lowered, region: u32) -> u32
     ensures { result ≡ object_at (lowered_of lowered.now) region }
 {
     match lowered.regions.get(region) {
@@ -116,7 +116,7 @@ pub(crate) fn object_at(lowered: &Lowered, region: u32) -> u32
 }
 
 /// What may be under a region, where these are the regions of each object.
-pub(crate) fn under<'a>(lowered: &Lowered, groups: &'a [NumberSet], region: u32) -> &'a [u32]
+pub fn under<'a>(lowered: &Lowered, groups: &'a [NumberSet], region: u32) -> &'a [u32]
     ensures { result.now ≡ row groups.now (object_at (lowered_of lowered.now) region) }
 {
     match groups.get(object_at(lowered, region) as usize) {

@@ -1,21 +1,13 @@
--- Cells, region after region; and rows of points-to past the regions.
-use Rattle.std.proofs.Common.{◌≡◌, ◌⊎◌, inl, inr, ℕ, zero, suc, ◌+◌, ◌<◌, ◌≤◌, Bool, true, false, cond, nat_eq, nat_lt, ◌||◌, filter, eqb-true, List, [], ◌∷◌, ◌++◌, length, drop, Option, Some, None, refl, sym, ap, ◌∙◌, subst, arith, append_assoc}
+-- Cells, region after region; and that points-to names regions of the program alone.
+use Rattle.std.proofs.Common.{◌≡◌, ℕ, zero, suc, ◌+◌, ◌<◌, ◌≤◌, Bool, true, false, cond, nat_eq, nat_lt, ◌||◌, filter, eqb-true, List, [], ◌∷◌, ◌++◌, length, drop, Option, Some, None, refl, sym, ap, ◌∙◌, subst, arith, append_assoc}
 use Rattle.std.specs.Prelude.{slice_get}
-use Rattle.std.specs.List.Sorted.{IsStrictlyIncreasing}
 use Rattle.std.proofs.lemmas.Bool.{false≢true}
 use Rattle.std.proofs.lemmas.Bool.Decides.{nat_tests}
 use Rattle.std.proofs.lemmas.List.{append-nil}
-use Rattle.sp_sets.specs.Sets.{has, Ascends}
-use Rattle.sp_sets.specs.Reached.{row}
-use Rattle.sp_sets.proofs.Members.{eqb-refl}
+use Rattle.sp_sets.specs.Sets.{has}
 use Rattle.sp_tables.specs.Tables.{Table, Rules, AreRules, IsClosed, IsLeastClosed}
 use Rattle.sp_eval.proofs.Among.{among-filter}
 use Rattle.sp_ir.specs.Regions.{Region, is_cell, is_cell_region, numbers_of}
-use Rattle.sp_ir.specs.Programs.{Lowered}
-use Rattle.sp_ir.specs.Formed.{IsFormed}
-use Rattle.sp_puts.specs.Puts.{rules_of}
-use Rattle.sp_puts.proofs.Putting.{program_rules}
-use Rattle.sp_scenes.specs.Cells.{rising}
 
 -- ---- one region more
 
@@ -70,11 +62,7 @@ module _ (rs : List Region) (i : ℕ) (found : List ℕ) (so_far : (found ++ num
       none (x ∷ xs) zero l = absurd (omega (arith, l))
       none (x ∷ xs) (suc k) l = none xs k (omega (arith, l))
 
--- ---- rows past the regions are empty
-
-pub no-members : (xs : List ℕ) → ((x : ℕ) → has x xs ≡ true → ⊥) → xs ≡ []
-no-members [] none = refl
-no-members (x ∷ xs) none = absurd (none x (ap (λ b. b || has x xs) (eqb-refl x)))
+-- ---- the least closed table has nothing past the regions
 
 filtered : (p : ℕ → Bool) (xs : List ℕ) (r : ℕ) → has r (filter p xs) ≡ true → (p r ≡ true) × (has r xs ≡ true)
 filtered p [] r h = absurd (false≢true h)
@@ -121,29 +109,3 @@ module _ (height : ℕ) (t : Table) where
       closed n d q g =
           let low = are.low lower n d q (λ e x m. (in-lower e x m).1) g in
           to-lower d q low.0 low.1 (least.closed n d q (are.more lower t n d q (λ e x m. (in-lower e x m).2) g))
-
-past-row : (p : Lowered) (rows : List (List ℕ)) → IsFormed p → IsLeastClosed (rules_of p) (row rows) → (c : ℕ) → length p.regions ≤ c → IsStrictlyIncreasing (row rows c)
-past-row p rows formed least c past =
-    let none = no-members (row rows c) (λ r h. let low = (table-within (length p.regions) (row rows) (rules_of p) (length p.nodes) (program_rules p formed) least c r h).0 in absurd (omega (arith, low, past))) in
-    subst (λ (xs : List ℕ). IsStrictlyIncreasing xs) (sym none) (λ k low. absurd (omega (arith, low)))
-
-which : (c n : ℕ) → (c < n) ⊎ (n ≤ c)
-which c n = grind arith
-
-near : (c n : ℕ) → c < n + 1 → (c < n) ⊎ (c ≡ n)
-near c n h = grind arith
-
--- all rows that were looked at, and those past them
-pub past-regions : (p : Lowered) (rows : List (List ℕ)) → IsFormed p → IsLeastClosed (rules_of p) (row rows) → (n : ℕ) → length p.regions ≤ n → ((c : ℕ) → c < n → IsStrictlyIncreasing (row rows c)) → (c : ℕ) → IsStrictlyIncreasing (row rows c)
-past-regions p rows formed least n all looked c = by (which c n)
-  where
-    by : (c < n) ⊎ (n ≤ c) → IsStrictlyIncreasing (row rows c)
-    by (inl low) = looked c low
-    by (inr past) = past-row p rows formed least c (omega (arith, all, past))
-
-pub one-more-row : (rows : List (List ℕ)) (n : ℕ) → ((c : ℕ) → c < n → IsStrictlyIncreasing (row rows c)) → (xs : List ℕ) → xs ≡ row rows n → Ascends xs → (c : ℕ) → c < n + 1 → IsStrictlyIncreasing (row rows c)
-one-more-row rows n looked xs is ascends c low = by (near c n low)
-  where
-    by : (c < n) ⊎ (c ≡ n) → IsStrictlyIncreasing (row rows c)
-    by (inl less) = looked c less
-    by (inr e) = rising (row rows c) (subst (λ (ys : List ℕ). Ascends ys) (is ∙ ap (row rows) (sym e)) ascends)

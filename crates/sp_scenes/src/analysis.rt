@@ -3,35 +3,42 @@ ghost use Rattle.std.specs.Prelude.{◌≡◌, ◌<◌, ◌^◌, length};
 ghost use Rattle.std.proofs.Props.{props};
 ghost use Rattle.sp_lattice.specs.Ladder.{IsLadder, IsLadder-prop};
 ghost use Rattle.sp_ir.specs.Programs.{lowered_of};
+ghost use Rattle.sp_puts.specs.Paths.{AreGroups};
 ghost use Rattle.sp_scenes.specs.Analysed.{analysed, locations_of};
 ghost use Rattle.sp_scenes.specs.Whole.{IsAnalysed};
 
-use crate::ascending::look_through;
 use crate::cells::locations_of;
 use crate::summaries::{is_integer, is_summary};
 use sp_ir::Lowered;
 use sp_lattice::Ladder;
 use sp_pre::{PointsTo, points_to};
+use sp_puts::{groups_of, under};
+use sp_sets::NumberSet;
 use sp_stores::Scenery;
 use sp_value::Locations;
 use std::alloc::{AllocError, Global};
 
-/// A formed program, and what is known of it before any effect.
+/// A formed program, and what is known of it before any effect. The groups are the regions of each
+/// object.
 #[derive(Drop)]
 pub struct Analysis {
     pub lowered: Lowered,
     pub pre: PointsTo,
     pub locations: Locations,
+    pub groups: Vec<NumberSet>,
     pub ladder: Ladder,
     ghost cells: { locations.cells.items ≡ locations_of (lowered_of lowered) } by { Prim.hlevel props },
     ghost points: { IsLadder ladder } by { IsLadder-prop ladder },
+    ghost grouped: { AreGroups (lowered_of lowered) groups.items },
     ghost few: { length (lowered_of lowered).objects < 2 ^ 32 },
     ghost whole: { ∥ IsAnalysed (analysed (lowered_of lowered) pre ladder) ∥₁ },
 }
 
 impl Analysis {
-    ghost use Rattle.std.specs.Prelude.{IfOk};
+    ghost use Rattle.std.specs.Prelude.{IfOk, ◌≡◌, ℕ, true};
+    ghost use Rattle.sp_sets.specs.Sets.{has};
     ghost use Rattle.sp_ir.specs.Formed.{IsFormed};
+    ghost use Rattle.sp_puts.specs.Paths.{reaches};
     ghost use Rattle.sp_rows.specs.Setting.{count, cell_of};
     ghost use Rattle.sp_scenes.specs.Analysed.{setting_of};
     ghost use Rattle.sp_scenes.specs.View.{analysed_of};
@@ -43,15 +50,24 @@ impl Analysis {
     {
         let pre = points_to(alloc, &lowered)?;
         let locations = locations_of(alloc, &lowered)?;
+        let groups = groups_of(alloc, &lowered)?;
         let ladder = Ladder::new(alloc, lowered.constants.as_slice())?;
         let _points = ladder.points();
-        look_through(&pre, &lowered);
         Ok(Analysis {
             lowered,
             pre,
             locations,
+            groups,
             ladder,
         })
+    }
+
+    /// All that is under a region, and perhaps more of its object.
+    pub fn under(&self, region: u32) -> &[u32]
+        ensures { (c : ℕ) → reaches (analysed_of self.now).program region c ≡ true
+            → has c result.now ≡ true }
+    {
+        under(&self.lowered, &self.groups, region)
     }
 
     /// The region of a location.

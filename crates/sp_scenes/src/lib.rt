@@ -21,7 +21,6 @@
 #![tactic(auto)]
 
 mod analysis;
-mod ascending;
 mod cells;
 mod laws;
 mod summaries;

@@ -9,7 +9,8 @@ use Rattle.sp_lattice.specs.System.{Meaning}
 use Rattle.sp_lattice.specs.Bound.{sum_below, dependencies_into}
 use Rattle.sp_lattice.proofs.Ranks.{sum_below-le}
 use Rattle.sp_sparse.proofs.Summing.{sum_below-first}
-use Rattle.sp_deps.specs.Rows.{leaving, same_pair, held, total}
+use Rattle.sp_lattice.specs.Flat.{row_at}
+use Rattle.sp_deps.specs.Rows.{same_pair, held, total}
 
 -- a test of a cons, counted
 count-or : (a b : Bool) → cond {A = ℕ} (a || b) 1 0 ≤ cond a 1 0 + cond b 1 0
@@ -82,16 +83,16 @@ swap_sums ls (suc n) f = add ls ∙ ap (λ s. s + sum_by (λ l. f n l) ls) (swap
     add [] = refl
     add (k ∷ ks) = omega (arith, sum_by-cons (λ l. sum_below n (λ b. f b l) + f n l) k ks, sum_by-cons (λ l. sum_below n (λ b. f b l)) k ks, sum_by-cons (λ l. f n l) k ks, add ks)
 
-total-rows : (rows : List (List (ℕ × ℕ))) → sum_below (length rows) (λ b. length (leaving rows b)) ≡ total rows
+total-rows : (rows : List (List (ℕ × ℕ))) → sum_below (length rows) (λ b. length (row_at rows b)) ≡ total rows
 total-rows [] = refl
-total-rows (row ∷ rows) = omega (arith, sum_below-first (length rows) (λ b. length (leaving (row ∷ rows) b)), total-rows rows, sum_by-cons (λ (r : List (ℕ × ℕ)). length r) row rows)
+total-rows (row ∷ rows) = omega (arith, sum_below-first (length rows) (λ b. length (row_at (row ∷ rows) b)), total-rows rows, sum_by-cons (λ (r : List (ℕ × ℕ)). length r) row rows)
 
 pub dependencies_few : {V : Type 0} (m : Meaning V) (rows : List (List (ℕ × ℕ))) (c : ℕ) → length rows ≡ m.nodes → IsStrictlyIncreasing (m.uses c) → dependencies_into m (held rows) c ≤ total rows
 dependencies_few m rows c long rises =
     omega (
       arith,
       swap_sums (m.uses c) m.nodes (λ b l. cond (held rows b l c) 1 0),
-      sum_below-le m.nodes (λ b. sum_by (λ l. cond (held rows b l c) 1 0) (m.uses c)) (λ b. length (leaving rows b)) (λ b low. row_few (m.uses c) c (leaving rows b) rises),
-      ap (λ n. sum_below n (λ b. length (leaving rows b))) long,
+      sum_below-le m.nodes (λ b. sum_by (λ l. cond (held rows b l c) 1 0) (m.uses c)) (λ b. length (row_at rows b)) (λ b low. row_few (m.uses c) c (row_at rows b) rises),
+      ap (λ n. sum_below n (λ b. length (row_at rows b))) long,
       total-rows rows,
     )

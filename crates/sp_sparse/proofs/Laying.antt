@@ -7,7 +7,7 @@ use Rattle.sp_lattice.specs.Dependency.{Depends, IsDependencies}
 use Rattle.sp_lattice.specs.Bound.{sum_below}
 use Rattle.sp_lattice.proofs.Paths.{Path-end}
 use Rattle.sp_lattice.proofs.Ranks.{sum_below-same}
-use Rattle.sp_deps.specs.Rows.{leaving, held, same_pair}
+use Rattle.sp_deps.specs.Rows.{held, same_pair}
 use Rattle.sp_sparse.specs.inner.Grid.{IsListGrid}
 use Rattle.sp_sparse.specs.inner.Links.{AreLinks, UsedAt, definitions_before}
 use Rattle.sp_sparse.proofs.Numbers.{below_next}
@@ -71,7 +71,7 @@ module _ {V : Type 0} (m : Meaning V) where
         by n p p_low (inl less) = so_far.each n p less p_low
         by n p p_low (inr same) = subst (λ k. AreLinks m test k (get_or (m.defs k) p 0) (row_at rows (definitions_before m k + p))) (sym same) (so_far.here p (omega (arith, p_low, ap (λ k. length (m.defs k)) same, is)))
 
-  module _ (rows : List (List (ℕ × ℕ))) (node : ℕ) (pairs : List (ℕ × ℕ)) (are : pairs ≡ leaving rows node) where
+  module _ (rows : List (List (ℕ × ℕ))) (node : ℕ) (pairs : List (ℕ × ℕ)) (are : pairs ≡ row_at rows node) where
     -- the pairs that leave a node are its dependencies
     pub pairs_used : IsDependencies m (held rows) → UsedAt m pairs
     pairs_used exact k d low = by ((exact node (get_or pairs k d).0 (get_or pairs k d).1).0 (ap (λ ps. list_any (same_pair (get_or pairs k d)) ps) (sym are) ∙ found_at pairs k d low))

@@ -6,8 +6,9 @@ use Rattle.sp_lattice.specs.Lattice.{Order, IsLattice}
 use Rattle.sp_lattice.specs.System.{Meaning, IsSystem, has}
 use Rattle.sp_lattice.specs.Dense.{Table}
 use Rattle.sp_lattice.specs.Dependency.{Depends, IsDependencies}
+use Rattle.sp_lattice.specs.Laws.{SolutionLaws}
 use Rattle.sp_lattice.proofs.Paths.{Path-end}
-use Rattle.sp_sparse.specs.Sparse.{IsSent}
+use Rattle.sp_sparse.specs.inner.Sparse.{IsSent}
 use Rattle.sp_sparse.specs.inner.Links.{AreLinks}
 use Rattle.sp_sparse.specs.inner.Engine.{IsWorking, EveryBut, Raises, IsPaid}
 use Rattle.sp_sparse.proofs.Numbers.{which, below_next, same_number, apart_numbers}
@@ -56,7 +57,7 @@ lets_stay waiting now n grew lets k there = by (which k n)
     by (inl e) = subst (λ i. has i now ≡ true) (sym e) (here grew refl (ap (λ i. has i waiting) (sym e) ∙ there))
     by (inr e) = lets.others k e ∙ there
 
-module _ {V : Type 0} (o : Order V) (m : Meaning V) (laws : IsLattice o) (sys : IsSystem o m) (test : ℕ → ℕ → ℕ → Bool) (exact : IsDependencies m test) (node l : ℕ) (links : List (ℕ × ℕ)) (are : AreLinks m test node l links) where
+module _ {V : Type 0} (o : Order V) (m : Meaning V) (laws : IsLattice o) (sys : IsSystem o m) (known : SolutionLaws o m) (test : ℕ → ℕ → ℕ → Bool) (exact : IsDependencies m test) (node l : ℕ) (links : List (ℕ × ℕ)) (are : AreLinks m test node l links) where
   -- a link goes along a dependency
   pub link_depends : (k : ℕ) (d : ℕ × ℕ) → k < length links → Depends m node l (get_or links k d).0
   link_depends k d low = (exact node l (get_or links k d).0).0 (are.each k d low).depends
@@ -68,10 +69,10 @@ module _ {V : Type 0} (o : Order V) (m : Meaning V) (laws : IsLattice o) (sys : 
   module _ (due : ℕ → ℕ → ℕ → Type 0) (ins outs after : Table V) (waiting now : List ℕ) (i : ℕ) (d : ℕ × ℕ) (grew : Bool) (low : i < length links) (working : IsWorking o m test due ins outs waiting) (raises : Raises o ins after (get_or links i d).0 l (outs node l) grew) (lets : Lets waiting now (get_or links i d).0 grew) where
     pub sending_working : IsWorking o m test due after outs now
     sending_working =
-        working_sent o m laws sys test exact due ins outs after waiting now node l (get_or links i d).0 grew (are.each i d low).depends working raises lets.waits (lets_stay waiting now (get_or links i d).0 grew lets)
+        working_sent o m laws sys known test exact due ins outs after waiting now node l (get_or links i d).0 grew (are.each i d low).depends working raises lets.waits (lets_stay waiting now (get_or links i d).0 grew lets)
 
     rises : (k j : ℕ) → o.le (ins k j) (after k j) ≡ true
-    rises = raised_above o m laws sys test exact due ins outs after waiting now node l (get_or links i d).0 grew (are.each i d low).depends working raises lets.waits (lets_stay waiting now (get_or links i d).0 grew lets)
+    rises = raised_above o m laws sys known test exact due ins outs after waiting now node l (get_or links i d).0 grew (are.each i d low).depends working raises lets.waits (lets_stay waiting now (get_or links i d).0 grew lets)
 
     pub sending_reached : ((k : ℕ) (e : ℕ × ℕ) → k < i → IsSent o ins outs node l (get_or links k e).0) → (k : ℕ) (e : ℕ × ℕ) → k < i + 1 → IsSent o after outs node l (get_or links k e).0
     sending_reached so_far k e k_low = by (below_next k i k_low)
@@ -82,7 +83,7 @@ module _ {V : Type 0} (o : Order V) (m : Meaning V) (laws : IsLattice o) (sys : 
         default (x ∷ xs) (suc j) j_low = default xs j (omega arith)
 
         here : IsSent o after outs node l (get_or links i d).0
-        here = raised_sent o m laws sys test exact due ins outs after waiting now node l (get_or links i d).0 grew (are.each i d low).depends working raises lets.waits (lets_stay waiting now (get_or links i d).0 grew lets)
+        here = raised_sent o m laws sys known test exact due ins outs after waiting now node l (get_or links i d).0 grew (are.each i d low).depends working raises lets.waits (lets_stay waiting now (get_or links i d).0 grew lets)
 
         by : (k < i) ⊎ (k ≡ i) → IsSent o after outs node l (get_or links k e).0
         by (inl less) = laws.transitive (outs node l) (ins (get_or links k e).0 l) (after (get_or links k e).0 l) (so_far k e less) (rises (get_or links k e).0 l)
@@ -95,7 +96,7 @@ module _ {V : Type 0} (o : Order V) (m : Meaning V) (laws : IsLattice o) (sys : 
   -- when every link is done, the location isn't pending any more
   pub sending_done : (ins outs : Table V) (waiting pending : List ℕ) → IsWorking o m test (EveryBut test node (l ∷ pending)) ins outs waiting → ((k : ℕ) (d : ℕ × ℕ) → k < length links → IsSent o ins outs node l (get_or links k d).0) → IsWorking o m test (EveryBut test node pending) ins outs waiting
   sending_done ins outs waiting pending working all =
-      working_location o m laws sys test ins outs waiting pending node l working (λ c is. by c (are.all c is))
+      working_location o m laws sys known test ins outs waiting pending node l working (λ c is. by c (are.all c is))
     where
       by : (c : ℕ) → (k : ℕ) × (k < length links) × ((d : ℕ × ℕ) → (get_or links k d).0 ≡ c) → IsSent o ins outs node l c
       by c at = subst (λ j. IsSent o ins outs node l j) (at.2 (0, 0)) (all at.0 (0, 0) at.1)

@@ -5,13 +5,12 @@ use Rattle.sp_lattice.specs.Lattice.{Order, IsLattice}
 use Rattle.sp_lattice.specs.System.{Meaning, IsSystem, Below, Held, has, store_at, values_at}
 use Rattle.sp_lattice.specs.Dense.{Table, input, Under, Above, BelowTable, IsLeast, Partial}
 use Rattle.sp_lattice.specs.Dependency.{Passing, Path, direct, onward, IsDependencies}
-use Rattle.sp_lattice.proofs.Joins.{joined_least}
-use Rattle.sp_lattice.proofs.Tables.{edge_below, input_below, input_under, input_held, least_from_partial}
+use Rattle.sp_lattice.specs.Laws.{SolutionLaws}
+use Rattle.sp_lattice.proofs.Tables.{edge_below}
 use Rattle.sp_lattice.proofs.Stores.{written-values_at, written_elsewhere, effect_from_uses, kept_held}
-use Rattle.sp_sparse.specs.Sparse.{IsStanding, EqualsDense}
-use Rattle.sp_lattice.proofs.Chains.{standing}
+use Rattle.sp_sparse.specs.inner.Sparse.{IsStanding, EqualsDense}
 
-module _ {V : Type 0} (o : Order V) (m : Meaning V) (laws : IsLattice o) (sys : IsSystem o m) (test : ℕ → ℕ → ℕ → Bool) (exact : IsDependencies m test) (ins outs : Table V) (done : IsStanding o m test ins outs) where
+module _ {V : Type 0} (o : Order V) (m : Meaning V) (laws : IsLattice o) (sys : IsSystem o m) (known : SolutionLaws o m) (test : ℕ → ℕ → ℕ → Bool) (exact : IsDependencies m test) (ins outs : Table V) (done : IsStanding o m test ins outs) where
   -- the outputs at the definitions, and elsewhere what has come in so many steps
   abbrev spread : ℕ → Table V
   spread zero n l = o.bottom
@@ -23,8 +22,8 @@ module _ {V : Type 0} (o : Order V) (m : Meaning V) (laws : IsLattice o) (sys : 
     where
       by : ((n : ℕ) → n < m.nodes → Held m (spread k n)) × Under o m (spread k) → ((n : ℕ) → n < m.nodes → Held m (spread (suc k) n)) × Under o m (spread (suc k))
       by so_far = (
-        λ n low l l_low. either (m.held) n l (done.part.out_held n low l l_low) (input_held o m laws sys (spread k) so_far.0 so_far.1 n low l l_low),
-        λ n low l l_low. either (λ v. o.le v (m.ceiling l) ≡ true) n l (done.part.out_under n low l l_low) (input_under o m laws sys (spread k) so_far.1 n low l l_low),
+        λ n low l l_low. either (m.held) n l (done.part.out_held n low l l_low) (known.inputs_held (spread k) so_far.0 so_far.1 n low l l_low),
+        λ n low l l_low. either (λ v. o.le v (m.ceiling l) ≡ true) n l (done.part.out_under n low l l_low) (known.inputs_under (spread k) so_far.1 n low l l_low),
       )
         where
           either : (P : V → Type 0) (n l : ℕ) → P (outs n l) → P (input o m (spread k) n l) → P (cond (has l (m.defs n)) (outs n l) (input o m (spread k) n l))
@@ -32,7 +31,7 @@ module _ {V : Type 0} (o : Order V) (m : Meaning V) (laws : IsLattice o) (sys : 
 
   spread_rises : (k : ℕ) → BelowTable o m (spread k) (spread (suc k))
   spread_rises zero n low l l_low = laws.bottom (spread (suc zero) n l)
-  spread_rises (suc k) n low l l_low = by (has l (m.defs n)) (input_below o m laws sys (spread k) (spread (suc k)) (spread_rises k) n low l l_low)
+  spread_rises (suc k) n low l l_low = by (has l (m.defs n)) (known.lessers_inputs (spread k) (spread (suc k)) (spread_rises k) n low l l_low)
     where
       by : (b : Bool) → o.le (input o m (spread k) n l) (input o m (spread (suc k)) n l) ≡ true → o.le (cond b (outs n l) (input o m (spread k) n l)) (cond b (outs n l) (input o m (spread (suc k)) n l)) ≡ true
       by true more = laws.reflexive (outs n l)
@@ -40,19 +39,19 @@ module _ {V : Type 0} (o : Order V) (m : Meaning V) (laws : IsLattice o) (sys : 
 
   spread_below : (other : Table V) → Under o m other → Above o m other → (k : ℕ) → BelowTable o m (spread k) other
   spread_below other under above zero n low l l_low = laws.bottom (other n l)
-  spread_below other under above (suc k) n low l l_low = by (has l (m.defs n)) refl (input_below o m laws sys (spread k) other (spread_below other under above k) n low l l_low)
+  spread_below other under above (suc k) n low l l_low = by (has l (m.defs n)) refl (known.lessers_inputs (spread k) other (spread_below other under above k) n low l l_low)
     where
       by : (b : Bool) → has l (m.defs n) ≡ b → o.le (input o m (spread k) n l) (input o m other n l) ≡ true → o.le (cond b (outs n l) (input o m (spread k) n l)) (other n l) ≡ true
       by true is more = done.part.out_below other under above n low l l_low
       by false is more =
           laws.transitive (input o m (spread k) n l) (input o m other n l) (other n l) more
-          (subst (λ v. o.le v (other n l) ≡ true) (sys.frame n l (input o m other n) low l_low (input_under o m laws sys other under n low) is) (above n low l l_low))
+          (subst (λ v. o.le v (other n l) ≡ true) (sys.frame n l (input o m other n) low l_low (known.inputs_under other under n low) is) (above n low l l_low))
 
   -- what is above each output that has a path to a node is above what has come to the node
   reached : (k n l : ℕ) (v : V) → n < m.nodes → ((b : ℕ) → has l (m.defs b) ≡ true → Path m l b n → o.le (outs b l) v ≡ true) → o.le (input o m (spread k) n l) v ≡ true
-  reached zero n l v low each = joined_least o laws (λ p. m.passes p n l) (λ p. spread zero p l) o.bottom (m.into n) v (laws.bottom v) (λ p h passes. laws.bottom v)
+  reached zero n l v low each = known.least_above (spread zero) n l v (λ p h passes. laws.bottom v)
   reached (suc k) n l v low each =
-      joined_least o laws (λ p. m.passes p n l) (λ p. spread (suc k) p l) o.bottom (m.into n) v (laws.bottom v)
+      known.least_above (spread (suc k)) n l v
       (λ p h passes.
       let step : Passing m l p n = record { there = low; edge = h; passes = passes } in
       by p (has l (m.defs p)) refl step (λ free. reached k p l v (edge_below o m laws sys n p low h) (λ b defined path. each b defined (onward path free step))))
@@ -87,7 +86,7 @@ module _ {V : Type 0} (o : Order V) (m : Meaning V) (laws : IsLattice o) (sys : 
 
   -- the step at which the spread stands still
   still : (j : ℕ) × BelowTable o m (spread (suc j)) (spread j)
-  still = standing o m laws sys spread (λ k. (spread_fine k).0) (λ k. (spread_fine k).1) spread_rises
+  still = known.chains_stand spread (λ k. (spread_fine k).0) (λ k. (spread_fine k).1) spread_rises
 
   module _ (j : ℕ) (stands : BelowTable o m (spread (suc j)) (spread j)) where
     spread_is : (n l : ℕ) → n < m.nodes → l < m.locations → spread j n l ≡ cond (has l (m.defs n)) (outs n l) (input o m (spread j) n l)
@@ -107,18 +106,18 @@ module _ {V : Type 0} (o : Order V) (m : Meaning V) (laws : IsLattice o) (sys : 
     spread_above n low l l_low = by (has l (m.defs n)) refl
       where
         reaches : Below o m (input o m (spread j) n) m.ceiling
-        reaches = input_under o m laws sys (spread j) (spread_fine j).1 n low
+        reaches = known.inputs_under (spread j) (spread_fine j).1 n low
 
         by : (b : Bool) → has l (m.defs n) ≡ b → o.le (m.effect n (input o m (spread j) n) l) (spread j n l) ≡ true
         by true is =
             subst (λ v. o.le (m.effect n (input o m (spread j) n) l) v ≡ true) (sym (spread_defined n l low l_low is))
-            (effect_below n l (input o m (spread j) n) low l_low (input_held o m laws sys (spread j) (spread_fine j).0 (spread_fine j).1 n low) reaches (λ u used. reached_use j n u low used) is)
+            (effect_below n l (input o m (spread j) n) low l_low (known.inputs_held (spread j) (spread_fine j).0 (spread_fine j).1 n low) reaches (λ u used. reached_use j n u low used) is)
         by false is =
             subst (λ v. o.le (m.effect n (input o m (spread j) n) l) v ≡ true) (sym (spread_free n l low l_low is))
             (subst (λ v. o.le v (input o m (spread j) n l) ≡ true) (sym (sys.frame n l (input o m (spread j) n) low l_low reaches is)) (laws.reflexive (input o m (spread j) n l)))
 
     spread_least : IsLeast o m (spread j)
-    spread_least = least_from_partial o m laws sys (spread j) spread_part spread_above
+    spread_least = known.ends (spread j) spread_part spread_above
 
     spread_equals : EqualsDense o m ins outs
     spread_equals = record {

@@ -7,10 +7,11 @@ use Rattle.std.proofs.lemmas.List.{get_or_default}
 use Rattle.sp_lattice.specs.Lattice.{Order, IsLattice}
 use Rattle.sp_lattice.specs.System.{Meaning, IsSystem, has}
 use Rattle.sp_lattice.specs.Dense.{Table}
+use Rattle.sp_lattice.specs.Laws.{SolutionLaws}
 use Rattle.sp_lattice.specs.Bound.{sum_below, dependencies_into, all_evaluations}
 use Rattle.sp_deps.specs.Rows.{held, total, most_dependencies}
 use Rattle.sp_deps.specs.Answer.{AreDependencies}
-use Rattle.sp_sparse.specs.Sparse.{EqualsDense}
+use Rattle.sp_sparse.specs.inner.Sparse.{EqualsDense}
 use Rattle.sp_sparse.specs.inner.Engine.{IsWorking, Every, IsPaid}
 use Rattle.sp_sparse.specs.Solution.{IsWithinBounds}
 use Rattle.sp_sparse.specs.inner.Queue.{Removes, most_shown}
@@ -108,5 +109,5 @@ module _ {V : Type 0} (o : Order V) (m : Meaning V) (laws : IsLattice o) (sys : 
     }
 
   -- and the tables are those of the dense least solution
-  pub turns_done : (ins outs : Table V) → IsWorking o m (held rows) (Every (held rows)) ins outs [] → EqualsDense o m ins outs
-  turns_done ins outs working = equals_dense o m laws sys (held rows) deps.exact ins outs (standing_last o m laws sys (held rows) ins outs working)
+  pub turns_done : SolutionLaws o m → (ins outs : Table V) → IsWorking o m (held rows) (Every (held rows)) ins outs [] → EqualsDense o m ins outs
+  turns_done known ins outs working = equals_dense o m laws sys known (held rows) deps.exact ins outs (standing_last o m laws sys known (held rows) ins outs working)

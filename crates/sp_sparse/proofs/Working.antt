@@ -8,9 +8,10 @@ use Rattle.sp_lattice.specs.Lattice.{Order, IsLattice}
 use Rattle.sp_lattice.specs.System.{Meaning, IsSystem, Below, has}
 use Rattle.sp_lattice.specs.Dense.{Table, input, Under, Above}
 use Rattle.sp_lattice.specs.Dependency.{Path, direct, onward, Depends, IsDependencies}
-use Rattle.sp_lattice.proofs.Tables.{edge_below, input_under, effect_under}
-use Rattle.sp_lattice.proofs.Paths.{Path-end, along}
-use Rattle.sp_sparse.specs.Sparse.{SparsePartial, IsEvaluated, IsSent, IsStanding}
+use Rattle.sp_lattice.specs.Laws.{SolutionLaws}
+use Rattle.sp_lattice.proofs.Tables.{edge_below}
+use Rattle.sp_lattice.proofs.Paths.{Path-end}
+use Rattle.sp_sparse.specs.inner.Sparse.{SparsePartial, IsEvaluated, IsSent, IsStanding}
 use Rattle.sp_sparse.specs.inner.Engine.{IsWorking, Every, EveryBut, Evaluates, Raises}
 use Rattle.sp_sparse.specs.inner.Queue.{Removes}
 use Rattle.sp_sparse.proofs.Numbers.{which, apart_numbers}
@@ -43,7 +44,7 @@ module _ {V : Type 0} (o : Order V) (m : Meaning V) (laws : IsLattice o) (sys : 
   effect_agrees : (n l : ℕ) (s t : ℕ → V) → n < m.nodes → Below o m s m.ceiling → Below o m t m.ceiling → ((u : ℕ) → s u ≡ t u) → has l (m.defs n) ≡ true → m.effect n s l ≡ m.effect n t l
   effect_agrees n l s t low under_s under_t same defined = sys.support n l s t low under_s under_t (λ u h. same u) defined
 
-  module _ (test : ℕ → ℕ → ℕ → Bool) where
+  module _ (known : SolutionLaws o m) (test : ℕ → ℕ → ℕ → Bool) where
     -- where no node waits, the way is at its end
     pub standing_last : (ins outs : Table V) → IsWorking o m test (Every test) ins outs [] → IsStanding o m test ins outs
     standing_last ins outs working = record {
@@ -60,7 +61,7 @@ module _ {V : Type 0} (o : Order V) (m : Meaning V) (laws : IsLattice o) (sys : 
         in_under = working.part.in_under;
         in_below = working.part.in_below;
         out_held = λ k k_low l l_low. split k l m.held (working.part.out_held k k_low l l_low) (sys.effect_held n (ins n) low (working.part.in_held n low) (working.part.in_under n low) l l_low);
-        out_under = λ k k_low l l_low. split k l (λ v. o.le v (m.ceiling l) ≡ true) (working.part.out_under k k_low l l_low) (effect_under o m laws sys n (ins n) low (working.part.in_held n low) (working.part.in_under n low) l l_low);
+        out_under = λ k k_low l l_low. split k l (λ v. o.le v (m.ceiling l) ≡ true) (working.part.out_under k k_low l l_low) (known.effects_under n (ins n) low (working.part.in_held n low) (working.part.in_under n low) l l_low);
         out_below = λ other under above k k_low l l_low. elim (which k n) [
           | inl e ↦ subst (λ i. o.le (after i l) (other i l) ≡ true) (sym e) (here_below other under above l l_low)
           | inr e ↦ subst (λ v. o.le v (other k l) ≡ true) (sym (evaluates.others k l e)) (working.part.out_below other under above k k_low l l_low)
@@ -89,7 +90,7 @@ module _ {V : Type 0} (o : Order V) (m : Meaning V) (laws : IsLattice o) (sys : 
         here_below other under above l l_low =
             at l (λ v. o.le v (other n l) ≡ true) (has l grown) refl (working.part.out_below other under above n low l l_low)
             (laws.transitive (m.effect n (ins n) l) (m.effect n (input o m other n) l) (other n l)
-            (sys.monotone n (ins n) (input o m other n) low (working.part.in_held n low) (working.part.in_below other under above n low) (input_under o m laws sys other under n low) l l_low)
+            (sys.monotone n (ins n) (input o m other n) low (working.part.in_held n low) (working.part.in_below other under above n low) (known.inputs_under other under n low) l l_low)
             (above n low l l_low))
 
         here_evaluated : (l : ℕ) → has l (m.defs n) ≡ true → (b : Bool) → has l grown ≡ b → o.le (m.effect n (ins n) l) (after n l) ≡ true
@@ -159,7 +160,7 @@ module _ {V : Type 0} (o : Order V) (m : Meaning V) (laws : IsLattice o) (sys : 
             (laws.least (ins c l) (outs b l) (m.ceiling l) (working.part.in_under c c_low l l_low) (working.part.out_under b b_low l l_low));
         in_below = λ other under above k k_low j j_low. split k j (λ i h v. o.le v (input o m other i h) ≡ true) (working.part.in_below other under above k k_low j j_low)
             (laws.least (ins c l) (outs b l) (input o m other c l) (working.part.in_below other under above c c_low l l_low)
-            (laws.transitive (outs b l) (other b l) (input o m other c l) (working.part.out_below other under above b b_low l l_low) (along o m laws sys other under above l b c l_low depends.path)));
+            (laws.transitive (outs b l) (other b l) (input o m other c l) (working.part.out_below other under above b b_low l l_low) (known.along other under above l b c l_low depends.path)));
         out_held = working.part.out_held;
         out_under = working.part.out_under;
         out_below = working.part.out_below;

@@ -1,3 +1,2 @@
-pub mod Sparse
 pub mod Solution
 pub mod inner

@@ -2,6 +2,7 @@
 use Rattle.std.specs.Prelude.{◌≡◌, ◌<◌, ◌≤◌, ◌&&◌, ℕ, Bool, nat_eq, nat_lt, cond, if◌then◌else◌, List, [], ◌∷◌, length, Option, Some, None, slice_index_or}
 use Rattle.std.specs.List.Sorted.{IsStrictlyIncreasing}
 use Rattle.sp_lattice.specs.Lattice.{Order}
+use Rattle.sp_lattice.specs.Flat.{row_at}
 use Rattle.sp_lattice.specs.System.{Meaning, has}
 use Rattle.sp_lattice.specs.Dense.{Table, input, IsLeast}
 use Rattle.sp_lattice.specs.Bound.{most_evaluations}
@@ -25,13 +26,13 @@ value_at (p ∷ places) (v ∷ values) l = cond (nat_eq l p) (Some v) (value_at 
 
 -- the value of a node at a location, where there is one
 abbrev pub cell : {V : Type 0} → Cells V → ℕ → ℕ → Option V
-cell cells n l = value_at (slice_index_or cells.places n []) (slice_index_or cells.values n []) l
+cell cells n l = value_at (row_at cells.places n) (row_at cells.values n) l
 
 -- the locations of each row ascend, and there are as many values
 pub record IsFormed {V : Type 0} (cells : Cells V) : Type 0 where
   pub rows : length cells.values ≡ length cells.places
-  pub ascends : (n : ℕ) → IsStrictlyIncreasing (slice_index_or cells.places n [])
-  pub long : (n : ℕ) → length (slice_index_or cells.values n []) ≡ length (slice_index_or cells.places n [])
+  pub ascends : (n : ℕ) → IsStrictlyIncreasing (row_at cells.places n)
+  pub long : (n : ℕ) → length (row_at cells.values n) ≡ length (row_at cells.places n)
 
 -- a value at the locations of a node's list, and none elsewhere or past the nodes
 abbrev pub within_list : {V : Type 0} → Meaning V → (ℕ → List ℕ) → ℕ → ℕ → V → Option V

@@ -12,7 +12,7 @@ ghost use Rattle.sp_sparse.specs.inner.Engine.{IsWorking, Every, EveryBut, Evalu
 use crate::links::Links;
 use crate::waiting::WaitingNodes;
 use sp_lattice::rows::Rows;
-use sp_lattice::{Lattice, Steps, System};
+use sp_lattice::{Lattice, Steps, System, solution_laws};
 use std::alloc::{AllocError, Global};
 use std::sync::ledger::Ledger;
 
@@ -138,6 +138,7 @@ pub(crate) fn send_grown<S: System>(
         IsPaid S.Value.order (S.meaning system.now)
         (table_at S.Value.order.bottom (S.meaning system.now).uses inputs.new) waiting.new.waiting counts) }
 {
+    solution_laws(system);
     let first = outputs.first(node as usize);
     let output = outputs.row(node as usize);
     'places: for place in grown {

@@ -4,7 +4,7 @@ ghost use Rattle.sp_lattice.specs.Bound.{all_evaluations};
 ghost use Rattle.sp_lattice.specs.Flat.{row_at};
 ghost use Rattle.sp_deps.specs.Rows.{held};
 ghost use Rattle.sp_deps.specs.Answer.{AreDependencies};
-ghost use Rattle.sp_sparse.specs.Sparse.{EqualsDense};
+ghost use Rattle.sp_sparse.specs.inner.Sparse.{EqualsDense};
 ghost use Rattle.sp_sparse.specs.Solution.{IsSolved, IsWithinBounds};
 ghost use Rattle.sp_sparse.specs.inner.Grid.{IsListGrid, AreLists, table_at};
 ghost use Rattle.sp_sparse.specs.inner.Links.{HasLinks};
@@ -16,7 +16,7 @@ use crate::tables::SparseTable;
 use crate::waiting::WaitingNodes;
 use sp_deps::Deps;
 use sp_lattice::rows::{Rows, bottoms};
-use sp_lattice::{Lattice, Steps, System};
+use sp_lattice::{Lattice, Steps, System, solution_laws};
 use std::alloc::{AllocError, Global};
 use std::sync::ledger::Ledger;
 
@@ -96,6 +96,7 @@ fn solve<S: System, P: Picker, L: Ledger>(
     let mut waiting = WaitingNodes::all(alloc, system.nodes())?;
     let mut evaluations = vec![in alloc; 0u64; system.nodes() as usize]?;
     'turns: while !waiting.is_empty() {
+        solution_laws(system);
         let index = picker.pick(waiting.front());
         let node = waiting.take(index);
         evaluate(
@@ -113,6 +114,7 @@ fn solve<S: System, P: Picker, L: Ledger>(
             &grown,
         )?;
     }
+    solution_laws(system);
     Ok(evaluations)
 }
 

@@ -11,7 +11,7 @@ use Rattle.sp_verdicts.specs.declared.alarm.Alarm.{Alarm}
 use Rattle.sp_verdicts.specs.Alarms.{through_alarms, divisor_alarms, access_alarms, address_alarms, expression_alarms}
 
 module _ (g : Terrain) (points : PointsTo) (s t : ℕ → Known) (below : PointWithin points s) where
-  two : (us vs : List ℕ) (a b c d : List Alarm) → AgreeOn (us ++ vs) s t → (AgreeOn us s t → a ≡ b) → (AgreeOn vs s t → c ≡ d) → a ++ c ≡ b ++ d
+  pub two : (us vs : List ℕ) (a b c d : List Alarm) → AgreeOn (us ++ vs) s t → (AgreeOn us s t → a ≡ b) → (AgreeOn vs s t → c ≡ d) → a ++ c ≡ b ++ d
   two us vs a b c d h f k = ap (λ xs. xs ++ c) (f (agree-left s t us vs h)) ∙ ap (λ xs. b ++ xs) (k (agree-right s t us vs h))
 
   mutual

@@ -2,5 +2,6 @@ pub mod Lists
 pub mod Leaving
 pub mod Views
 pub mod AgreeLaws
+pub mod NodeLaws
 pub mod ProperCommands
 mod Examples

@@ -1,3 +1,4 @@
 pub mod Alarms
 pub mod Commands
+pub mod Uses
 pub mod Laws

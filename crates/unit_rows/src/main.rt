@@ -8,7 +8,6 @@
 //! `tables` does the same, and counts what is in the tables of the unit.
 #![tactic(auto)]
 
-mod field;
 mod unit;
 
 use std::alloc::{AllocError, Global};

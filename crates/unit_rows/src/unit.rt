@@ -1,77 +1,14 @@
 //! Texts that are scanned, parsed and checked.
-use crate::field::unescaped;
-use sp_decl_check::check_unit;
-use sp_decl_parser::{ParseError, is_ended, parse_unit};
-use sp_lexer::{ScanError, scan};
+use row_texts::{checked_unit, name_shown, refused, unescaped};
 use sp_operands::CheckError;
-use sp_syntax::Unit;
-use sp_tree::{Fault, Names, Place, Token};
+use sp_tree::Names;
 use sp_types::{ObjectDef, Storage};
 use sp_units::CheckedUnit;
 use std::alloc::{AllocError, Global};
 
-/// The longest text that a row may hold, in bytes.
-const MAX_TEXT: usize = 65_536;
-
-/// More tokens than a text of a row has.
-const MAX_TOKENS: u64 = 100_000;
-
-/// The tokens of a text. One that is too long counts as one that memory runs out for.
-fn tokens_of(alloc: Global, text: &[u8], names: &mut Names) -> Result<Vec<Token>, CheckError> {
-    if text.len() > MAX_TEXT || names.len() > MAX_TEXT {
-        return Err(CheckError::NoMemory);
-    }
-    let name = names.add(b"a.c".as_slice())?;
-    match scan(alloc, text, name, MAX_TOKENS, names) {
-        Ok(tokens) => Ok(tokens),
-        Err(ScanError::Fault(fault)) => Err(CheckError::Fault(fault)),
-        Err(ScanError::NoMemory) => Err(CheckError::NoMemory),
-    }
-}
-
-/// The tree of a text's tokens, which the scanner ends as the parser wants them.
-fn tree_of(alloc: Global, tokens: &[Token]) -> Result<Unit, CheckError> {
-    if !is_ended(tokens) {
-        return Err(CheckError::NoMemory);
-    }
-    match parse_unit(alloc, tokens) {
-        Ok(unit) => Ok(unit),
-        Err(ParseError::Fault(fault)) => Err(CheckError::Fault(fault)),
-        Err(ParseError::NoMemory) => Err(CheckError::NoMemory),
-    }
-}
-
 /// The checked unit of a text.
 fn unit_of(alloc: Global, field: &str, names: &mut Names) -> Result<CheckedUnit, CheckError> {
-    let text = unescaped(alloc, field)?;
-    let tokens = tokens_of(alloc, &text, names)?;
-    let unit = tree_of(alloc, &tokens)?;
-    check_unit(alloc, &unit, names)
-}
-
-fn name_shown(names: &Names, number: u32) -> &str {
-    str::from_utf8(names.get(number).unwrap_or(b"?".as_slice())).unwrap_or("?")
-}
-
-/// A place, with the name of its file where that isn't the text's own.
-fn place_shown(alloc: Global, names: &Names, place: Place) -> Result<String, AllocError> {
-    let Place { name, line, column } = place;
-    if name == 0 {
-        return format!(in alloc; "{line}:{column}");
-    }
-    let name = name_shown(names, name);
-    format!(in alloc; "{name}:{line}:{column}")
-}
-
-/// Why a text is no checked unit.
-fn refused(alloc: Global, names: &Names, error: CheckError) -> Result<String, AllocError> {
-    match error {
-        CheckError::Fault(Fault { kind, place }) => {
-            let place = place_shown(alloc, names, place)?;
-            format!(in alloc; "{place}: {}", kind.code())
-        }
-        CheckError::NoMemory => String::from_str(alloc, "out of memory"),
-    }
+    checked_unit(alloc, b"a.c".as_slice(), &unescaped(alloc, field)?, names)
 }
 
 /// `TEXT`: `ok`, or the fault.

@@ -1,6 +1,7 @@
 //! The answers to rows.
 ghost use Rattle.std.specs.Prelude.{◌≡◌, true};
-ghost use Rattle.sp_ir.specs.View.{command_of};
+ghost use Rattle.sp_ir.specs.View.{command_of, expression_of};
+ghost use Rattle.sp_eval.specs.Evaluation.{is_proper};
 ghost use Rattle.sp_verdicts.specs.Commands.{is_proper_command};
 
 use crate::forms::{Stack, is_proper, is_proper_lvalue};
@@ -8,10 +9,10 @@ use crate::scene::Scene;
 use crate::words::{mark_of, type_of};
 use sp_eval::{address_of, evaluate, evaluation_is_lawful, every_number, relation_of, resolve};
 use sp_interval::Interval;
-use sp_ir::{Command, Node};
+use sp_ir::{Command, Expr, Node};
 use sp_lattice::Relation;
 use sp_tree::Place;
-use sp_value::{Target, Value};
+use sp_value::{Target, Value, values_are_lawful};
 use sp_verdicts::{AlarmKind, alarms_are_lawful, verdicts};
 use std::alloc::{AllocError, Global};
 
@@ -97,6 +98,26 @@ fn relation_text(relation: Option<Relation>) -> &'static str {
     }
 }
 
+// The alarms of a call, with the value on top of the stack as its argument where there is one.
+fn called(
+    alloc: Global,
+    scene: &Scene,
+    callee: Expr,
+    stack: &mut Stack,
+) -> Result<String, AllocError>
+    requires { is_proper (expression_of callee) ≡ true }
+{
+    let mut args = Vec::new(alloc);
+    let Some(arg) = stack.value() else {
+        return alarms(alloc, scene, Command::Call { callee, args });
+    };
+    if !is_proper(&arg) {
+        return String::from_str(alloc, "improper");
+    }
+    args.push(arg)?;
+    alarms(alloc, scene, Command::Call { callee, args })
+}
+
 // The answer of a call on a value.
 fn of_value(
     alloc: Global,
@@ -115,10 +136,7 @@ fn of_value(
             let value = evaluate(alloc, &scene.lowered, &scene.locations, &expr, &scene.store)?;
             value_text(alloc, &value)?
         }
-        "call" => {
-            let args = Vec::new(alloc);
-            alarms(alloc, scene, Command::Call { callee: expr, args })?
-        }
+        "call" => called(alloc, scene, expr, stack)?,
         _ => alarms(alloc, scene, Command::Eval(expr))?,
     }))
 }
@@ -152,6 +170,7 @@ fn of_place(
 
 /// The answer to a row.
 pub(crate) fn answer(alloc: Global, scene: &Scene, row: &str) -> Result<String, AllocError> {
+    values_are_lawful();
     evaluation_is_lawful();
     alarms_are_lawful();
     let (call, words) = row.split_once('\t').unwrap_or((row, ""));
@@ -161,6 +180,13 @@ pub(crate) fn answer(alloc: Global, scene: &Scene, row: &str) -> Result<String, 
             None => None,
         };
         return String::from_str(alloc, relation_text(relation));
+    }
+    if call == "many" {
+        let is_many = match words.parse::<u32>() {
+            Ok(region) => scene.lowered.regions.is_summary_shape(region),
+            Err(_) => false,
+        };
+        return String::from_str(alloc, if is_many { "yes" } else { "no" });
     }
     if call == "every" {
         return match type_of(alloc, words)? {

@@ -4,7 +4,7 @@ use Rattle.sp_lattice.specs.Lattice.{Order}
 use Rattle.sp_lattice.specs.Flat.{row_at}
 use Rattle.sp_lattice.specs.System.{Meaning, has}
 use Rattle.sp_lattice.specs.Dense.{Table}
-use Rattle.sp_sparse.specs.Sparse.{SparsePartial, IsEvaluated, IsSent}
+use Rattle.sp_sparse.specs.inner.Sparse.{SparsePartial, IsEvaluated, IsSent}
 
 -- inputs and outputs on the way to the solution: each node that doesn't wait is evaluated, the values that are due have
 -- been sent, and an input into which no dependency leads is the least value

@@ -5,4 +5,4 @@ use Rattle.sp_conflicts.proofs.checked.any_defines.Given as goal
 
 abbrev pub invariant-earlier : goal.invariant-earlier
 invariant-earlier l =
-    any_defines (map seen_declaration (drop l.i l.earlier)) ≡ any_defines (map seen_declaration l.earlier)
+    any_defines (map seen_declaration (drop l.other-index l.earlier)) ≡ any_defines (map seen_declaration l.earlier)

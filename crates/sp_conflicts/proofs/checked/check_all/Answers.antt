@@ -18,27 +18,27 @@ pub returns-in_err-judge_next : goal.returns-in_err-judge_next
 returns-in_err-judge_next c =
     let p = err_from_is_err_and c.from_residual.result c.from_residual.ensures.1 in
     let es = map declaration_of c.args.all.now in
-    let e = declaration_of c.index-all-i.result in
-    let inside : c.all.i < length c.args.all.now = omega arith in
-    let there : slice_get es c.all.i ≡ Some e =
-    get_mapped declaration_of c.args.all.now c.all.i c.index-all-i.result inside ∙ ap (λ z. Some (declaration_of z)) (sym c.index-all-i.is) in
-    rw (p.1, p.2) (judged_wrong (tables c.args.units.now) es c.all.i e _ there (c.all.invariant.earlier e.name) c.all.invariant.proper c.in_err-judge_next.field-0.0 c.in_err-judge_next.ensures.answer)
+    let e = declaration_of c.declaration-item.result in
+    let inside : c.all.declaration-index < length c.args.all.now = omega arith in
+    let there : slice_get es c.all.declaration-index ≡ Some e =
+    get_mapped declaration_of c.args.all.now c.all.declaration-index c.declaration-item.result inside ∙ ap (λ z. Some (declaration_of z)) (sym c.declaration-item.is) in
+    rw (p.1, p.2) (judged_wrong (tables c.args.units.now) es c.all.declaration-index e _ there (c.all.invariant.earlier e.name) c.all.invariant.proper c.in_err-judge_next.field-0.0 c.in_err-judge_next.ensures.answer)
 
 pub all-preserved : goal.all-preserved
 all-preserved c =
     let us = tables c.args.units.now in
     let es = map declaration_of c.args.all.now in
-    let e = declaration_of c.index-all-i.result in
-    let inside : c.all.i < length c.args.all.now = omega arith in
-    let there : slice_get es c.all.i ≡ Some e =
-    get_mapped declaration_of c.args.all.now c.all.i c.index-all-i.result inside ∙ ap (λ z. Some (declaration_of z)) (sym c.index-all-i.is) in
+    let e = declaration_of c.declaration-item.result in
+    let inside : c.all.declaration-index < length c.args.all.now = omega arith in
+    let there : slice_get es c.all.declaration-index ≡ Some e =
+    get_mapped declaration_of c.args.all.now c.all.declaration-index c.declaration-item.result inside ∙ ap (λ z. Some (declaration_of z)) (sym c.declaration-item.is) in
     let is = c.all.invariant.earlier e.name in record {
       known = c.in_ok-judge_next.ensures.known;
-      earlier = earlier_more us es c.all.i e _ there is c.all.invariant.proper c.all.earlier c.add.new.self c.all.invariant.earlier c.in_ok-add.ensures;
-      proper = judged_right us es c.all.i e _ there is c.all.invariant.proper c.in_ok-judge_next.field-0 c.in_ok-judge_next.ensures.answer;
+      earlier = earlier_more us es c.all.declaration-index e _ there is c.all.invariant.proper c.all.earlier c.add.new.self c.all.invariant.earlier c.in_ok-add.ensures;
+      proper = judged_right us es c.all.declaration-index e _ there is c.all.invariant.proper c.in_ok-judge_next.field-0 c.in_ok-judge_next.ensures.answer;
     }
 
 pub returns : goal.returns
 returns c =
-    let past : length (map declaration_of c.args.all.now) ≤ c.all.i = omega (arith, length-map c.args.all.now declaration_of) in
-    all_past (tables c.args.units.now) (map declaration_of c.args.all.now) c.all.i past c.all.invariant.proper
+    let past : length (map declaration_of c.args.all.now) ≤ c.all.declaration-index = omega (arith, length-map c.args.all.now declaration_of) in
+    all_past (tables c.args.units.now) (map declaration_of c.args.all.now) c.all.declaration-index past c.all.invariant.proper

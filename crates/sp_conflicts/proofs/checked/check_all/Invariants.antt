@@ -9,6 +9,6 @@ use Rattle.sp_conflicts.proofs.checked.check_all.Given as goal
 abbrev pub invariant-all : goal.invariant-all
 invariant-all l = record {
   known : IsKnown (tables l.units) l.known;
-  earlier : AreEarlier (take l.i (map declaration_of l.all)) l.earlier;
-  proper : AreProperBelow (tables l.units) (map declaration_of l.all) l.i;
+  earlier : AreEarlier (take l.declaration-index (map declaration_of l.all)) l.earlier;
+  proper : AreProperBelow (tables l.units) (map declaration_of l.all) l.declaration-index;
 }

@@ -7,10 +7,10 @@ use Rattle.sp_conflicts.proofs.checked.fits.Goals as goal
 
 pub returns-then-not-branch-clause-answer : goal.returns-then-not-branch-clause-answer
 returns-then-not-branch-clause-answer c =
-    let inside : c.earlier.i < length c.args.earlier.now = omega arith in (
-      c.earlier.i,
-      seen_declaration (get_or c.args.earlier.now c.earlier.i c.index-earlier-i.result),
-      get_mapped seen_declaration c.args.earlier.now c.earlier.i c.index-earlier-i.result inside,
+    let inside : c.earlier.other-index < length c.args.earlier.now = omega arith in (
+      c.earlier.other-index,
+      seen_declaration (get_or c.args.earlier.now c.earlier.other-index c.other-item.result),
+      get_mapped seen_declaration c.args.earlier.now c.earlier.other-index c.other-item.result inside,
       (λ a.
-          true≢false (sym (c.in_ok-types_agree.ensures.answer.1 (subst (λ z. AreCompatible (tables c.args.units.now) (seen_declaration z) (declaration_of c.args.declaration.now)) (sym c.index-earlier-i.is) a)) ∙ c.if-not-branch.true)),
+          true≢false (sym (c.in_ok-types_agree.ensures.answer.1 (subst (λ z. AreCompatible (tables c.args.units.now) (seen_declaration z) (declaration_of c.args.declaration.now)) (sym c.other-item.is) a)) ∙ c.if-not-branch.true)),
     )

@@ -8,6 +8,6 @@ use Rattle.sp_conflicts.proofs.checked.fits.Given as goal
 abbrev pub invariant-earlier : goal.invariant-earlier
 invariant-earlier l = record {
   known : IsKnown (tables l.units) l.known;
-  rest : AllFit (tables l.units) (map seen_declaration (drop l.i l.earlier)) (declaration_of l.declaration)
+  rest : AllFit (tables l.units) (map seen_declaration (drop l.other-index l.earlier)) (declaration_of l.declaration)
       → AllFit (tables l.units) (map seen_declaration l.earlier) (declaration_of l.declaration);
 }

@@ -6,5 +6,5 @@ use Rattle.sp_conflicts.proofs.declarations.add_functions.Given as goal
 
 abbrev pub invariant-functions : goal.invariant-functions
 invariant-functions l =
-    map declaration_of l.all.items ++ functions_declared l.unit (map function_of (drop l.i l.functions))
+    map declaration_of l.all.items ++ functions_declared l.unit (map function_of (drop l.function-index l.functions))
     ≡ map declaration_of l.initial.all.items ++ functions_declared l.unit (map function_of l.functions)

@@ -6,5 +6,5 @@ use Rattle.sp_conflicts.proofs.declarations.add_objects.Given as goal
 
 abbrev pub invariant-objects : goal.invariant-objects
 invariant-objects l =
-    map declaration_of l.all.items ++ objects_declared l.unit (map object_of (drop l.i l.objects))
+    map declaration_of l.all.items ++ objects_declared l.unit (map object_of (drop l.object-index l.objects))
     ≡ map declaration_of l.initial.all.items ++ objects_declared l.unit (map object_of l.objects)

@@ -8,7 +8,7 @@ pub apply_effect-requires-clause-under : goal.apply_effect-requires-clause-under
 apply_effect-requires-clause-under g c =
     let o = g.S.Value.Lattice.order in
     let m = g.S.System.meaning c.args.system.now in
-    reached_below o m g.met.S.Value.Lattice.lawful (g.met.S.System.lawful c.args.system.now) c.args.rows.now.items c.args.node c.in_ok-effect.effect.items c.requires.node c.requires.part c.in_ok-effect.ensures
+    reached_below o m g.met.S.Value.Lattice.lawful (g.met.S.System.lawful c.args.system.now) c.solution_laws.ensures.laws c.args.rows.now.items c.args.node c.in_ok-effect.effect.items c.requires.node c.requires.part c.in_ok-effect.ensures
 
 pub raise-requires : goal.raise-requires
 raise-requires g c =
@@ -22,6 +22,6 @@ returns-clause-visited g c =
     let m = g.S.System.meaning c.args.system.now in
     let old = c.index_mut-row.result.now in
     let effect = c.apply_effect.new.row.items in
-    visits o m g.met.S.Value.Lattice.lawful (g.met.S.System.lawful c.args.system.now) c.args.rows.now.items c.args.node old c.raise.new.row c.in_ok-effect.effect.items effect
+    visits o m g.met.S.Value.Lattice.lawful (g.met.S.System.lawful c.args.system.now) c.solution_laws.ensures.laws c.args.rows.now.items c.args.node old c.raise.new.row c.in_ok-effect.effect.items effect
     c.requires.node c.requires.grid c.requires.part c.index_mut-row.ensures.value c.in_ok-effect.ensures c.in_ok-apply_effect.ensures.effect
     (c.in_ok-grew.ensures.raised ∙ ap (λ ys. joined_rows o old.items ys) c.deref.ensures.value) c.in_ok-grew.grew (c.in_ok-grew.ensures.grew ∙ ap (λ ys. any_grows o old.items ys) c.deref.ensures.value)

@@ -1,7 +1,6 @@
 use Rattle.std.proofs.Common.{◌+◌, ◌*◌, ap, length, subst, arith}
 use Rattle.sp_lattice.specs.Dense.{table_of}
 use Rattle.sp_lattice.specs.Bound.{total_rank}
-use Rattle.sp_lattice.proofs.Ranks.{total_rank-bound}
 use Rattle.sp_dense.specs.inner.Visit.{IsWorking}
 use Rattle.sp_dense.proofs.Counting.{bounded, falls}
 use Rattle.sp_dense.proofs.Visiting.{least_when_done}
@@ -16,7 +15,7 @@ visits-smaller g c =
     let after = table_of o.bottom c.work.new.rows.items in
     falls m.nodes (total_rank m before) (total_rank m after) (m.nodes * (m.locations * m.height)) (length c.visits.waiting.waiting) (length c.take.new.self.waiting) (length c.work.new.waiting.waiting)
     (omega (arith, ap length c.in-Some.ensures.taken)) worked.paid worked.higher
-    (total_rank-bound o m g.met.S.Value.Lattice.lawful (g.met.S.System.lawful c.args.system.now) after worked.working.part.held worked.working.part.under)
+    (c.solution_laws.ensures.laws.bounded after worked.working.part.held worked.working.part.under)
 
 pub returns-in_err-work-clause-bound : goal.returns-in_err-work-clause-bound
 returns-in_err-work-clause-bound g c =
@@ -26,14 +25,14 @@ returns-in_err-work-clause-bound g c =
     let table = table_of o.bottom c.visits.rows.items in
     bounded m.nodes (c.visits.steps + length c.visits.waiting.waiting) c.work.new.steps c.args.steps.now (total_rank m table) (m.nodes * (m.locations * m.height)) so_far.counted
     (omega (arith, c.work.ensures.ticked, ap length c.in-Some.ensures.taken))
-    (total_rank-bound o m g.met.S.Value.Lattice.lawful (g.met.S.System.lawful c.args.system.now) table so_far.working.part.held so_far.working.part.under)
+    (c.solution_laws.ensures.laws.bounded table so_far.working.part.held so_far.working.part.under)
 
 pub returns-clause-least : goal.returns-clause-least
 returns-clause-least g c =
     let o = g.S.Value.Lattice.order in
     let m = g.S.System.meaning c.args.system.now in
     let table = table_of o.bottom c.visits.rows.items in
-    least_when_done o m g.met.S.Value.Lattice.lawful (g.met.S.System.lawful c.args.system.now) table (subst (λ waiting. IsWorking o m table waiting) c.in_default.ensures.empty c.visits.invariant.working)
+    least_when_done o m g.met.S.Value.Lattice.lawful (g.met.S.System.lawful c.args.system.now) c.solution_laws.ensures.laws table (subst (λ waiting. IsWorking o m table waiting) c.in_default.ensures.empty c.visits.invariant.working)
 
 pub returns-clause-bound : goal.returns-clause-bound
 returns-clause-bound g c =
@@ -43,4 +42,4 @@ returns-clause-bound g c =
     let table = table_of o.bottom c.visits.rows.items in
     bounded m.nodes (c.visits.steps + length c.visits.waiting.waiting) c.visits.steps c.args.steps.now (total_rank m table) (m.nodes * (m.locations * m.height)) so_far.counted
     (omega arith)
-    (total_rank-bound o m g.met.S.Value.Lattice.lawful (g.met.S.System.lawful c.args.system.now) table so_far.working.part.held so_far.working.part.under)
+    (c.solution_laws.ensures.laws.bounded table so_far.working.part.held so_far.working.part.under)

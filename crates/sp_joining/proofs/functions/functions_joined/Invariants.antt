@@ -6,5 +6,5 @@ use Rattle.sp_joining.proofs.functions.functions_joined.Given as goal
 
 abbrev pub invariant-functions : goal.invariant-functions
 invariant-functions l =
-    functions_joined l.structs l.unit (joined_of l.joined) l.numbers.items (map function_of (drop l.i l.functions))
-    ≡ functions_joined l.structs l.unit (joined_of l.initial.joined) [] (map function_of l.functions)
+    functions_joined l.structs l.unit (l.numbers.items, joined_of l.joined) (map function_of (drop l.function-index l.functions))
+    ≡ functions_joined l.structs l.unit ([], joined_of l.initial.joined) (map function_of l.functions)

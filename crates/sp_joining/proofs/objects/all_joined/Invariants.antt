@@ -6,5 +6,5 @@ use Rattle.sp_joining.proofs.objects.all_joined.Given as goal
 
 abbrev pub invariant-objects : goal.invariant-objects
 invariant-objects l =
-    objects_joined l.structs l.formals.keys l.unit (joined_of l.joined) l.numbers.items (map object_of (drop l.i l.objects))
-    ≡ objects_joined l.structs l.formals.keys l.unit (joined_of l.initial.joined) [] (map object_of l.objects)
+    objects_joined l.structs l.formals.keys l.unit (l.numbers.items, joined_of l.joined) (map object_of (drop l.object-index l.objects))
+    ≡ objects_joined l.structs l.formals.keys l.unit ([], joined_of l.initial.joined) (map object_of l.objects)

@@ -6,5 +6,5 @@ use Rattle.sp_joining.proofs.units.join_units.Given as goal
 
 abbrev pub invariant-units : goal.invariant-units
 invariant-units l =
-    units_joined (map (λ ns. ns.items) l.structs) (joined_of l.joined) (map numbers_of l.done.items) (map checked_unit_of (drop l.i l.units))
-    ≡ units_joined (map (λ ns. ns.items) l.structs) (joined_of l.initial.joined) [] (map checked_unit_of l.units)
+    units_joined (map (λ ns. ns.items) l.structs) (map numbers_of l.done.items, joined_of l.joined) (map checked_unit_of (drop l.unit-index l.units))
+    ≡ units_joined (map (λ ns. ns.items) l.structs) ([], joined_of l.initial.joined) (map checked_unit_of l.units)

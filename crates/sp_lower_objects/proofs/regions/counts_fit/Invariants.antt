@@ -6,5 +6,5 @@ use Rattle.sp_lower_objects.proofs.regions.counts_fit.Given as goal
 
 abbrev pub invariant-loop-object : goal.invariant-loop-object
 invariant-loop-object l =
-    nat_le (all_counts (map struct_of l.structs) (map object_of (drop l.object-index l.objects))) l.left
-    ≡ nat_le (all_counts (map struct_of l.structs) (map object_of l.objects)) l.most
+    nat_le (all_counts (map struct_of l.layouts.structs.now) (map object_of (drop l.object-index l.objects))) l.left
+    ≡ nat_le (all_counts (map struct_of l.layouts.structs.now) (map object_of l.objects)) l.most

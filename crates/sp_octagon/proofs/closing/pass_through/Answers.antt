@@ -2,7 +2,7 @@ use Rattle.std.proofs.Common.{◌≡◌, ◌+◌, ◌*◌, ◌<◌, pos, length,
 use Rattle.std.specs.Int.{w128}
 use Rattle.std.proofs.lemmas.Int.{to_z-of_z}
 use Rattle.sp_octagon.specs.Entries.{entries_of}
-use Rattle.sp_octagon.specs.Rounds.{Shortened}
+use Rattle.sp_octagon.specs.inner.Rounds.{Shortened}
 use Rattle.sp_octagon.proofs.Passing.{default_entry, round-next}
 use Rattle.sp_octagon.proofs.closing.pass_through.Goals as goal
 

@@ -2,7 +2,7 @@ use Rattle.std.proofs.Common.{◌≡◌, ◌∙◌, ◌+◌, ◌*◌, ◌<◌, p
 use Rattle.std.specs.Int.{int_min, w128}
 use Rattle.std.proofs.lemmas.Int.{to_z-of_z}
 use Rattle.sp_octagon.specs.Entries.{entries_of, sum_of}
-use Rattle.sp_octagon.specs.Rounds.{IsWithin, reach}
+use Rattle.sp_octagon.specs.inner.Rounds.{IsWithin, reach}
 use Rattle.sp_octagon.proofs.Passing.{default_entry, short_last, shorten-next}
 use Rattle.sp_octagon.proofs.closing.shorten_row.Goals as goal
 

@@ -1,5 +1,5 @@
 use Rattle.sp_octagon.specs.Entries.{entries_of}
-use Rattle.sp_octagon.specs.Rounds.{Shortened}
+use Rattle.sp_octagon.specs.inner.Rounds.{Shortened}
 use Rattle.sp_octagon.proofs.closing.shorten_row.Given as goal
 
 abbrev pub invariant-columns : goal.invariant-columns

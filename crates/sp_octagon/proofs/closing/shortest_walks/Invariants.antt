@@ -1,6 +1,6 @@
 use Rattle.std.proofs.Common.{◌≡◌, ◌<◌, ◌≤◌, max, ℕ}
 use Rattle.sp_octagon.specs.Entries.{entries_of}
-use Rattle.sp_octagon.specs.Rounds.{AfterRounds}
+use Rattle.sp_octagon.specs.inner.Rounds.{AfterRounds}
 use Rattle.sp_octagon.proofs.closing.shortest_walks.Given as goal
 
 abbrev pub invariant-rounds : goal.invariant-rounds

@@ -11,7 +11,8 @@ returns c =
     let rows = c.in_ok-rows.rows.items in
     let calls = subst (λ rs. AreCalls p (row rs) c.in_ok-calls.calls) c.deref-3.ensures.value c.in_ok-calls.ensures in
     record {
-      least = c.in_ok-rows.ensures;
+      least = c.in_ok-rows.ensures.least;
+      ascending = c.in_ok-rows.ensures.ascending;
       calls = calls;
       callees = are_callees p (row rows) c.in_ok-calls.calls calls;
       recursive = c.in_ok-recursive.ensures;

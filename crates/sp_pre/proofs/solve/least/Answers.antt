@@ -26,4 +26,7 @@ nodes-smaller c =
 pub returns : goal.returns
 returns c =
     let p = lowered_of c.args.lowered.now in
-    done (rules_of p) (length p.regions) (length p.nodes) (program_rules p c.requires.formed) c.nodes.growing c.nodes.invariant c.in_default.ensures.numbers.0
+    record {
+      least = done (rules_of p) (length p.regions) (length p.nodes) (program_rules p c.requires.formed) c.nodes.growing c.nodes.invariant c.in_default.ensures.numbers.0;
+      ascending = c.nodes.invariant.ascending;
+    }

@@ -102,7 +102,7 @@ raise_at-requires-clause-row g c =
     let are : AreLinks m (held deps) node l links = subst (AreLinks m (held deps) node l) links_is (c.requires.links.each node place c.requires.node p_low) in
     let j = c.targets.target-index in
     let link = get_or links j (0, 0) in
-    omega (arith, link_low o m laws sys (held deps) c.requires.deps.exact node l links are j (0, 0) c.targets-test.true, c.targets.invariant.grid.long)
+    omega (arith, link_low o m laws sys c.solution_laws.ensures.laws (held deps) c.requires.deps.exact node l links are j (0, 0) c.targets-test.true, c.targets.invariant.grid.long)
 
 pub raise_at-requires-clause-place : goal.raise_at-requires-clause-place
 raise_at-requires-clause-place g c =
@@ -126,7 +126,7 @@ raise_at-requires-clause-place g c =
     let are : AreLinks m (held deps) node l links = subst (AreLinks m (held deps) node l) links_is (c.requires.links.each node place c.requires.node p_low) in
     let j = c.targets.target-index in
     let link = get_or links j (0, 0) in
-    let low = link_low o m laws sys (held deps) c.requires.deps.exact node l links are j (0, 0) c.targets-test.true in
+    let low = link_low o m laws sys c.solution_laws.ensures.laws (held deps) c.requires.deps.exact node l links are j (0, 0) c.targets-test.true in
     omega (arith, (are.each j (0, 0) c.targets-test.true).within, c.targets.invariant.grid.rows_long link.0 low)
 
 pub add-requires : goal.add-requires
@@ -151,7 +151,7 @@ add-requires g c =
     let are : AreLinks m (held deps) node l links = subst (AreLinks m (held deps) node l) links_is (c.requires.links.each node place c.requires.node p_low) in
     let j = c.targets.target-index in
     let link = get_or links j (0, 0) in
-    omega (arith, link_low o m laws sys (held deps) c.requires.deps.exact node l links are j (0, 0) c.targets-test.true, c.targets.invariant.same_nodes)
+    omega (arith, link_low o m laws sys c.solution_laws.ensures.laws (held deps) c.requires.deps.exact node l links are j (0, 0) c.targets-test.true, c.targets.invariant.same_nodes)
 
 pub targets-preserved : goal.targets-preserved
 targets-preserved g c =
@@ -177,7 +177,7 @@ targets-preserved g c =
     let link = get_or links j (0, 0) in
     let low = c.targets-test.true in
     let is_link = are.each j (0, 0) low in
-    let to_low = link_low o m laws sys (held deps) c.requires.deps.exact node l links are j (0, 0) low in
+    let to_low = link_low o m laws sys c.solution_laws.ensures.laws (held deps) c.requires.deps.exact node l links are j (0, 0) low in
     let before = c.targets.inputs in
     let later = c.raise_at.new.self in
     let ins = table_at o.bottom m.uses before in
@@ -204,10 +204,10 @@ targets-preserved g c =
     record {
       grid = raised_grid o m before link.0 l link.1 v (o.join (get_or (row_at before link.0) link.1 o.bottom) v) to_low (sys.uses_ascend link.0 to_low) so_far.grid is_link.within is_link.there refl later c.in_ok-grew.ensures.raised;
       same_nodes = elim c.if-grew.branch [ then-grew w ↦ ap (λ x. x.nodes) w.waiting-is ∙ w.add.ensures.nodes ∙ so_far.same_nodes | else-grew w ↦ ap (λ x. x.nodes) w.waiting-is ∙ so_far.same_nodes ];
-      working = sending_working o m laws sys (held deps) c.requires.deps.exact node l links are due ins outs after waiting now j (0, 0) grew low so_far.working raised lets;
-      reached = sending_reached o m laws sys (held deps) c.requires.deps.exact node l links are due ins outs after waiting now j (0, 0) grew low so_far.working raised lets so_far.reached;
+      working = sending_working o m laws sys c.solution_laws.ensures.laws (held deps) c.requires.deps.exact node l links are due ins outs after waiting now j (0, 0) grew low so_far.working raised lets;
+      reached = sending_reached o m laws sys c.solution_laws.ensures.laws (held deps) c.requires.deps.exact node l links are due ins outs after waiting now j (0, 0) grew low so_far.working raised lets so_far.reached;
       still = λ n h. lets_stay waiting now link.0 grew lets n (so_far.still n h);
-      paid = λ counts h. sending_paid o m laws sys (held deps) c.requires.deps.exact node l links are due ins outs after waiting now j (0, 0) grew low so_far.working raised lets counts (so_far.paid counts h);
+      paid = λ counts h. sending_paid o m laws sys c.solution_laws.ensures.laws (held deps) c.requires.deps.exact node l links are due ins outs after waiting now j (0, 0) grew low so_far.working raised lets counts (so_far.paid counts h);
     }
 
 pub places-preserved : goal.places-preserved
@@ -239,7 +239,7 @@ places-preserved g c =
     record {
       grid = so_far.grid;
       same_nodes = so_far.same_nodes;
-      working = sending_done o m laws sys (held deps) c.requires.deps.exact node l links are ins outs waiting (locations_at m node (drop (i + 1) grown))
+      working = sending_done o m laws sys c.solution_laws.ensures.laws (held deps) c.requires.deps.exact node l links are ins outs waiting (locations_at m node (drop (i + 1) grown))
           (subst (λ ls. IsWorking o m (held deps) (EveryBut (held deps) node ls) ins outs waiting) (pending_next m node grown i i_low) so_far.working)
           (λ k d low. so_far.reached k d (omega (arith, low, c.targets-test.false)));
       still = so_far.still;
@@ -260,4 +260,4 @@ returns-clause-working g c =
     let outs = table_at o.bottom m.defs c.args.outputs.now in
     let waiting = c.places.waiting.waiting in
     let past : length grown < i + 1 = omega (arith, c.places-test.false, ap length c.deref-place-items.ensures.value) in
-    working_all o m laws sys (held deps) ins outs waiting node (subst (λ ls. IsWorking o m (held deps) (EveryBut (held deps) node ls) ins outs waiting) (pending_none m node grown i past) c.places.invariant.working)
+    working_all o m laws sys c.solution_laws.ensures.laws (held deps) ins outs waiting node (subst (λ ls. IsWorking o m (held deps) (EveryBut (held deps) node ls) ins outs waiting) (pending_none m node grown i past) c.places.invariant.working)

@@ -1,7 +1,7 @@
 use Rattle.std.proofs.Common.{◌≡◌, ◌<◌, ℕ, true, drop, get_or}
 use Rattle.sp_lattice.specs.System.{has}
 use Rattle.sp_deps.specs.Rows.{held}
-use Rattle.sp_sparse.specs.Sparse.{IsSent}
+use Rattle.sp_sparse.specs.inner.Sparse.{IsSent}
 use Rattle.sp_sparse.specs.inner.Grid.{IsListGrid, table_at}
 use Rattle.sp_sparse.specs.inner.Engine.{IsWorking, EveryBut, IsPaid, locations_at}
 use Rattle.sp_sparse.proofs.evaluation.send_grown.Given as goal

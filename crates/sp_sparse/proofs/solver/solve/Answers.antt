@@ -58,7 +58,7 @@ send_grown-requires-clause-working g c =
     let node = c.take-node.result in
     let low : node < m.nodes = omega (arith, c.take-node.ensures.there, so_far.same_nodes) in
     let there : has node waiting ≡ true = has-at node waiting c.pick-index.result (shown_low waiting c.pick-index.result (subst (λ xs. c.pick-index.result < length xs) c.front.ensures c.pick-index.ensures)) (sym c.take-node.ensures.value) in
-    working_evaluated o m laws sys (held rows) ins outs (table_at o.bottom m.defs c.evaluate.new.outputs) waiting c.take-node.new.self.waiting (locations_at m node c.evaluate.new.grown.items) node low so_far.working c.in_ok-evaluate.ensures.evaluated c.take-node.ensures.removed
+    working_evaluated o m laws sys c.solution_laws.ensures.laws (held rows) ins outs (table_at o.bottom m.defs c.evaluate.new.outputs) waiting c.take-node.new.self.waiting (locations_at m node c.evaluate.new.grown.items) node low so_far.working c.in_ok-evaluate.ensures.evaluated c.take-node.ensures.removed
 
 pub turns-smaller : goal.turns-smaller
 turns-smaller g c =
@@ -138,7 +138,7 @@ returns-clause-solved g c =
     let counts = c.turns.evaluations.items in
     let so_far = c.turns.invariant in
     let none : waiting ≡ [] = nothing_waits waiting (sym c.is_empty.ensures ∙ c.turns-test.false) in
-    turns_done o m laws sys rows c.requires.deps ins outs (subst (λ xs. IsWorking o m (held rows) (Every (held rows)) ins outs xs) none so_far.working)
+    turns_done o m laws sys rows c.requires.deps c.solution_laws-2.ensures.laws ins outs (subst (λ xs. IsWorking o m (held rows) (Every (held rows)) ins outs xs) none so_far.working)
 
 pub returns-clause-few : goal.returns-clause-few
 returns-clause-few g c =

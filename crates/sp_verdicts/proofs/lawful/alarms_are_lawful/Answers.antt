@@ -1,4 +1,5 @@
 use Rattle.sp_verdicts.proofs.AgreeLaws.{alarms-agree, access-agrees}
+use Rattle.sp_verdicts.proofs.NodeLaws.{node-agrees}
 use Rattle.sp_verdicts.proofs.ProperCommands.{command-proper}
 use Rattle.sp_verdicts.proofs.lawful.alarms_are_lawful.Goals as goal
 
@@ -7,6 +8,7 @@ returns c = record {
   laws = record {
     expression_agrees = alarms-agree;
     access_agrees = access-agrees;
+    node_agrees = node-agrees;
     proper = λ p rs n f k h. command-proper p f rs n k h;
   };
 }

@@ -2,7 +2,7 @@ use Rattle.std.proofs.Common.{cond, FitsSigned, ap, ◌∙◌, rules}
 use Rattle.std.specs.Int.{w128}
 use Rattle.std.proofs.lemmas.Int.{to_z-of_z}
 use Rattle.sp_interval.specs.declared.interval.Interval.TheVariants.{Of}
-use Rattle.sp_interval.specs.Wide.{number_of}
+use Rattle.sp_interval.specs.inner.Wide.{number_of}
 use Rattle.sp_interval.specs.Interval.{wrapped}
 use Rattle.sp_interval.proofs.interval.Interval.ranged.Goals as goal
 

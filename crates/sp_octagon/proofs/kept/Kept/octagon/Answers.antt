@@ -3,7 +3,8 @@ use Rattle.sp_octagon.specs.declared.octagon.Octagon.{Octagon}
 use Rattle.sp_octagon.specs.Entries.{entries_of}
 use Rattle.sp_octagon.specs.Facts.{IsOctagon}
 use Rattle.sp_octagon.specs.Octagons.{rows, entries}
-use Rattle.sp_octagon.specs.Kept.{width, start, ReadTo}
+use Rattle.sp_octagon.specs.Kept.{width, start}
+use Rattle.sp_octagon.specs.inner.Reading.{ReadTo}
 use Rattle.sp_octagon.proofs.OrderLaws.{octagon_same}
 use Rattle.sp_octagon.proofs.Halves.{start-zero, start-next, place-small, read-first, read-all, octagon-equal}
 use Rattle.sp_octagon.proofs.kept.Kept.octagon.Goals as goal

@@ -1,6 +1,7 @@
 use Rattle.std.proofs.Common.{◌≡◌, length}
 use Rattle.sp_octagon.specs.Entries.{entries_of}
-use Rattle.sp_octagon.specs.Kept.{start, ReadTo}
+use Rattle.sp_octagon.specs.Kept.{start}
+use Rattle.sp_octagon.specs.inner.Reading.{ReadTo}
 use Rattle.sp_octagon.specs.Octagons.{rows, entries}
 use Rattle.sp_octagon.proofs.kept.Kept.octagon.Given as goal
 

@@ -3,7 +3,8 @@ use Rattle.std.specs.Int.{w128}
 use Rattle.std.proofs.lemmas.Int.{to_z-of_z}
 use Rattle.sp_octagon.specs.Entries.{entries_of}
 use Rattle.sp_octagon.specs.Octagons.{rows, entries}
-use Rattle.sp_octagon.specs.Kept.{width, half_of, ReadTo}
+use Rattle.sp_octagon.specs.Kept.{width, half_of}
+use Rattle.sp_octagon.specs.inner.Reading.{ReadTo}
 use Rattle.sp_octagon.proofs.Halves.{place-small, kept-room, kept-value, read-next, read-next_row}
 use Rattle.sp_octagon.proofs.kept.Kept.read_row.Goals as goal
 

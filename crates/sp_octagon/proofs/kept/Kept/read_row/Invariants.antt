@@ -1,5 +1,5 @@
 use Rattle.sp_octagon.specs.Entries.{entries_of}
-use Rattle.sp_octagon.specs.Kept.{ReadTo}
+use Rattle.sp_octagon.specs.inner.Reading.{ReadTo}
 use Rattle.sp_octagon.specs.Octagons.{rows, entries}
 use Rattle.sp_octagon.proofs.kept.Kept.read_row.Given as goal
 

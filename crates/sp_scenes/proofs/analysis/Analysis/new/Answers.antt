@@ -1,6 +1,8 @@
 use Rattle.std.proofs.Common.{subst}
 use Rattle.sp_lattice.specs.Ladder.{IsLadderOf}
 use Rattle.sp_ir.specs.Programs.{lowered_of}
+use Rattle.sp_sets.specs.Reached.{row}
+use Rattle.sp_scenes.specs.Cells.{rising}
 use Rattle.sp_scenes.proofs.Past.{objects-few}
 use Rattle.sp_scenes.proofs.analysis.Analysis.new.Goals as goal
 
@@ -11,11 +13,12 @@ pub invariant_of-result : goal.invariant_of-result
 invariant_of-result c = record {
   cells = c.in_ok-locations.ensures;
   points = c.points-points.ensures.ladder;
+  grouped = c.in_ok-groups.ensures;
   few = objects-few (lowered_of c.args.lowered) c.requires;
   whole = ∣ record {
     formed = c.requires;
     points_to = c.in_ok-pre.ensures.least;
-    ascending = c.look_through.ensures;
+    ascending = λ k. rising (row c.in_ok-pre.pre.rows k) (c.in_ok-pre.ensures.ascending k);
     calls = c.in_ok-pre.ensures.calls;
     callees = c.in_ok-pre.ensures.callees;
     recursive = c.in_ok-pre.ensures.recursive;

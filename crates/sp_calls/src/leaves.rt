@@ -1,0 +1,285 @@
+//! A store to the cells of an lvalue, on a row of slots.
+ghost use Rattle.std.specs.Prelude.{◌≡◌, ◌≢◌, ◌<◌, ◌&&◌, ℕ, true, cond, nat_eq, Some, length, IfOk, OnOk};
+ghost use Rattle.std.specs.List.Sorted.{IsStrictlyIncreasing};
+ghost use Rattle.sp_types.specs.View.{type_of};
+ghost use Rattle.sp_lattice.specs.System.{has, AllBelow};
+ghost use Rattle.sp_ir.specs.Commands.{lvalue_type};
+ghost use Rattle.sp_ir.specs.Formed.{is_scalar};
+ghost use Rattle.sp_ir.specs.Programs.{lowered_of};
+ghost use Rattle.sp_ir.specs.Terrain.{terrain_of};
+ghost use Rattle.sp_ir.specs.View.{lvalue_of};
+ghost use Rattle.sp_value.specs.declared.slots.Slot.{Slot};
+ghost use Rattle.sp_value.specs.declared.slots.Slot.TheVariants.{Nothing};
+ghost use Rattle.sp_value.specs.Slots.{slot_join};
+ghost use Rattle.sp_rows.specs.Rows.{joins, kept_if, applied};
+ghost use Rattle.sp_rows.specs.Setting.{count, cell_of};
+ghost use Rattle.sp_rows.specs.Storing.{may_hit, kept_by};
+ghost use Rattle.sp_updates.specs.Rows.{store_of};
+ghost use Rattle.sp_stores.specs.Destinations.{bottom_accepts, region_under};
+ghost use Rattle.sp_scenes.specs.Analysed.{setting_of};
+ghost use Rattle.sp_scenes.specs.View.{analysed_of};
+ghost use Rattle.sp_calls.specs.Copied.{has_cell};
+ghost use Rattle.sp_calls.specs.Copies.{leaf_destination};
+ghost use Rattle.sp_calls.specs.Slots.{cell_slot, bottom_slot, stored_leaves};
+
+use sp_entries::join_to;
+use sp_ir::{Lowered, Lvalue};
+use sp_puts::reaches;
+use sp_scenes::Analysis;
+use sp_stores::{Scenery, region_under};
+use sp_types::CType;
+use sp_updates::put_at;
+use sp_value::{Slot, Target};
+use std::alloc::{AllocError, Global};
+
+/// What goes to the cells of an lvalue.
+pub(crate) trait Gives {
+    ghost slots: { Self → ℕ → ℕ → Slot };
+
+    /// What is stored in a cell, from a region that the lvalue may have.
+    fn slot(&self, alloc: Global, region: u32, cell: u32) -> Result<Slot, AllocError>
+        ensures { IfOk result (λ slot. slot ≡ slots self.now region cell) };
+}
+
+// ---- which cells
+
+pub(crate) fn is_scalar(of: &CType) -> bool
+    ensures { result ≡ is_scalar (type_of of.now) }
+{
+    match of {
+        CType::Int(_) | CType::Pointer(_) => true,
+        CType::Void
+        | CType::Float(_)
+        | CType::Struct(_)
+        | CType::Array(_, _)
+        | CType::Function(_) => false,
+    }
+}
+
+/// Whether a value of the type that stands at a region has the cell.
+pub(crate) fn has_cell(lowered: &Lowered, of: &CType, region: u32, cell: u32) -> bool
+    ensures { result ≡ has_cell (lowered_of lowered.now) (Some (type_of of.now)) region cell }
+{
+    if is_scalar(of) {
+        region == cell
+    } else {
+        reaches(lowered, region, cell)
+    }
+}
+
+/// Whether an access matches in a region at the bottom of an lvalue.
+fn bottom_accepts(lowered: &Lowered, lvalue: &Lvalue, region: u32) -> bool
+    ensures { result ≡
+        bottom_accepts (terrain_of (lowered_of lowered.now)) (lvalue_of lvalue.now) region }
+{
+    match lvalue {
+        Lvalue::Direct(_, _) => true,
+        Lvalue::Through(_, access, _) => lowered.accepts(region, access),
+        Lvalue::Field(of, _, _) => bottom_accepts(lowered, of, region),
+    }
+}
+
+/// Whether a store at a region of the bottom goes to a location.
+fn hits(analysis: &Analysis, to: &Lvalue, region: u32, location: u32) -> bool
+    requires { location < count (setting_of (analysed_of analysis.now)) }
+    ensures { result ≡ (leaf_destination (analysed_of analysis.now) (lvalue_of to.now)).hits
+        region location }
+{
+    let lowered = &analysis.lowered;
+    bottom_accepts(lowered, to, region)
+        && {
+            let cell = analysis.region(location);
+            has_cell(lowered, to.of(), region_under(lowered, to, region), cell)
+        }
+}
+
+// ---- what is kept
+
+/// Whether a location that may be hit keeps what it holds.
+fn is_kept(analysis: &Analysis, to: &Lvalue, targets: &[Target], location: u32) -> bool
+    requires low { location < count (setting_of (analysed_of analysis.now)) }
+    requires hit { may_hit (leaf_destination (analysed_of analysis.now) (lvalue_of to.now)) location
+        ≡ true }
+    ensures { result ≡ kept_by (leaf_destination (analysed_of analysis.now) (lvalue_of to.now))
+        targets.now location }
+{
+    if targets.len() == 0 {
+        false
+    } else if targets.len() == 1 {
+        let is_hit = hits(analysis, to, targets[0].region, location);
+        !(is_hit && !analysis.is_summary(location))
+    } else {
+        true
+    }
+}
+
+/// Empties a place of a row, unless it keeps what it holds.
+fn clear_at(
+    analysis: &Analysis,
+    to: &Lvalue,
+    targets: &[Target],
+    place: u32,
+    row: &mut [Slot],
+    places: &[u32],
+)
+    requires ascend { IsStrictlyIncreasing places.now }
+    requires low { place < count (setting_of (analysed_of analysis.now)) }
+    requires hit { may_hit (leaf_destination (analysed_of analysis.now) (lvalue_of to.now)) place
+        ≡ true }
+    requires there { has place places.now ≡ true }
+    requires long { length row.old ≡ length places.now }
+    ensures there { store_of places.now row.new place ≡
+        kept_if (kept_by (leaf_destination (analysed_of analysis.now) (lvalue_of to.now))
+        targets.now place) (store_of places.now row.old place) }
+    ensures others { (l : ℕ) → l ≢ place →
+        store_of places.now row.new l ≡ store_of places.now row.old l }
+{
+    if !is_kept(analysis, to, targets, place) {
+        put_at(row, places, place, Slot::Nothing);
+    }
+}
+
+/// Empties a row at its places, unless they keep what they hold.
+fn clear(analysis: &Analysis, to: &Lvalue, targets: &[Target], row: &mut [Slot], places: &[u32])
+    requires ascend { IsStrictlyIncreasing places.now }
+    requires low { AllBelow (count (setting_of (analysed_of analysis.now))) places.now }
+    requires long { length row.old ≡ length places.now }
+    requires defs { (l : ℕ) → has l places.now ≡
+        may_hit (leaf_destination (analysed_of analysis.now) (lvalue_of to.now)) l }
+    ensures { (l : ℕ) → has l places.now ≡ true → store_of places.now row.new l ≡
+        kept_if (kept_by (leaf_destination (analysed_of analysis.now) (lvalue_of to.now))
+        targets.now l) (store_of places.now row.old l) }
+{
+    for place in places {
+        clear_at(analysis, to, targets, *place, row, places);
+    }
+}
+
+// ---- what is put
+
+/// Joins to a row what a cell gets.
+fn join_cell<G: Gives>(
+    alloc: Global,
+    analysis: &Analysis,
+    of: &CType,
+    region: u32,
+    cell: u32,
+    gives: &G,
+    row: &mut [Slot],
+    places: &[u32],
+) -> Result<(), AllocError>
+    requires ascend { IsStrictlyIncreasing places.now }
+    requires long { length row.old ≡ length places.now }
+    ensures { OnOk result ((l : ℕ) → has l places.now ≡ true → store_of places.now row.new l ≡
+        slot_join (store_of places.now row.old l)
+        (cell_slot (analysed_of analysis.now) (Some (type_of of.now)) (G.slots gives.now) region l
+        cell)) }
+{
+    if has_cell(&analysis.lowered, of, region, cell) {
+        let slot = gives.slot(alloc, region, cell)?;
+        join_to(alloc, analysis, cell, &slot, row, places)?;
+        Ok(())
+    } else {
+        Ok(())
+    }
+}
+
+/// Joins to a row what each of these cells gets.
+fn join_cells<G: Gives>(
+    alloc: Global,
+    analysis: &Analysis,
+    of: &CType,
+    region: u32,
+    cells: &[u32],
+    gives: &G,
+    row: &mut [Slot],
+    places: &[u32],
+) -> Result<(), AllocError>
+    requires ascend { IsStrictlyIncreasing places.now }
+    requires long { length row.old ≡ length places.now }
+    ensures { OnOk result ((l : ℕ) → has l places.now ≡ true → store_of places.now row.new l ≡
+        slot_join (store_of places.now row.old l)
+        (joins (cell_slot (analysed_of analysis.now) (Some (type_of of.now)) (G.slots gives.now)
+        region l) cells.now)) }
+{
+    for cell in cells {
+        join_cell(alloc, analysis, of, region, *cell, gives, row, places)?;
+    }
+    Ok(())
+}
+
+/// Joins to a row what the cells of an lvalue get at a region of its bottom.
+fn join_target<G: Gives>(
+    alloc: Global,
+    analysis: &Analysis,
+    to: &Lvalue,
+    region: u32,
+    gives: &G,
+    row: &mut [Slot],
+    places: &[u32],
+) -> Result<(), AllocError>
+    requires ascend { IsStrictlyIncreasing places.now }
+    requires low { AllBelow (count (setting_of (analysed_of analysis.now))) places.now }
+    requires long { length row.old ≡ length places.now }
+    ensures { OnOk result ((l : ℕ) → has l places.now ≡ true → store_of places.now row.new l ≡
+        slot_join (store_of places.now row.old l)
+        (bottom_slot (analysed_of analysis.now) (lvalue_of to.now) (G.slots gives.now) l region)) }
+{
+    if bottom_accepts(&analysis.lowered, to, region) {
+        let region = region_under(&analysis.lowered, to, region);
+        let cells = analysis.under(region);
+        join_cells(alloc, analysis, to.of(), region, cells, gives, row, places)?;
+        Ok(())
+    } else {
+        Ok(())
+    }
+}
+
+/// Joins to a row what the cells of an lvalue get at each target.
+fn join_targets<G: Gives>(
+    alloc: Global,
+    analysis: &Analysis,
+    to: &Lvalue,
+    targets: &[Target],
+    gives: &G,
+    row: &mut [Slot],
+    places: &[u32],
+) -> Result<(), AllocError>
+    requires ascend { IsStrictlyIncreasing places.now }
+    requires low { AllBelow (count (setting_of (analysed_of analysis.now))) places.now }
+    requires long { length row.old ≡ length places.now }
+    ensures { OnOk result ((l : ℕ) → has l places.now ≡ true → store_of places.now row.new l ≡
+        slot_join (store_of places.now row.old l)
+        (joins (λ x. bottom_slot (analysed_of analysis.now) (lvalue_of to.now) (G.slots gives.now) l
+        x.region) targets.now)) }
+{
+    for target in targets {
+        join_target(alloc, analysis, to, target.region, gives, row, places)?;
+    }
+    Ok(())
+}
+
+/// Stores what is given to the cells of an lvalue whose bottom has these targets. The places are the
+/// locations that may be hit.
+pub(crate) fn store_leaves<G: Gives>(
+    alloc: Global,
+    analysis: &Analysis,
+    to: &Lvalue,
+    targets: &[Target],
+    gives: &G,
+    row: &mut [Slot],
+    places: &[u32],
+) -> Result<(), AllocError>
+    requires ascend { IsStrictlyIncreasing places.now }
+    requires low { AllBelow (count (setting_of (analysed_of analysis.now))) places.now }
+    requires long { length row.old ≡ length places.now }
+    requires defs { (l : ℕ) → has l places.now ≡
+        may_hit (leaf_destination (analysed_of analysis.now) (lvalue_of to.now)) l }
+    ensures { OnOk result ((l : ℕ) → has l places.now ≡ true → store_of places.now row.new l ≡
+        applied (stored_leaves (analysed_of analysis.now) (lvalue_of to.now) (G.slots gives.now)
+        targets.now) (store_of places.now row.old) l) }
+{
+    clear(analysis, to, targets, row, places);
+    join_targets(alloc, analysis, to, targets, gives, row, places)?;
+    Ok(())
+}

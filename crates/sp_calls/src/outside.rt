@@ -1,0 +1,147 @@
+//! The result of a function that isn't defined.
+ghost use Rattle.std.specs.Prelude.{◌≡◌, ℕ, true, length, option_map, Some, IfOk, OnOk};
+ghost use Rattle.std.specs.List.Sorted.{IsStrictlyIncreasing};
+ghost use Rattle.sp_types.specs.View.{type_of};
+ghost use Rattle.sp_lattice.specs.System.{has, AllBelow};
+ghost use Rattle.sp_ir.specs.Programs.{lowered_of};
+ghost use Rattle.sp_ir.specs.View.{lvalue_of};
+ghost use Rattle.sp_value.specs.Slots.{known_of};
+ghost use Rattle.sp_eval.specs.Evaluation.{is_proper_lvalue};
+ghost use Rattle.sp_rows.specs.Rows.{applied};
+ghost use Rattle.sp_rows.specs.Setting.{count};
+ghost use Rattle.sp_rows.specs.Storing.{may_hit};
+ghost use Rattle.sp_updates.specs.Rows.{store_of};
+ghost use Rattle.sp_scenes.specs.Analysed.{setting_of};
+ghost use Rattle.sp_scenes.specs.View.{analysed_of};
+ghost use Rattle.sp_calls.specs.Copies.{leaf_destination, result_defines, is_proper_result};
+ghost use Rattle.sp_calls.specs.Outside.{foreign_as, from_outside};
+
+use crate::leaves::{Gives, store_leaves};
+use sp_entries::{foreign_type, foreign_value, site_value};
+use sp_interval::Interval;
+use sp_ir::{Lowered, Lvalue};
+use sp_lattice::{HIGHEST, LOWEST};
+use sp_scenes::Analysis;
+use sp_stores::bottom_of;
+use sp_types::CType;
+use sp_value::{Slot, Value, View};
+use std::alloc::{AllocError, Global};
+
+/// Every number that is stored.
+const WHOLE: Interval = Interval::Of {
+    lo: LOWEST,
+    hi: HIGHEST,
+};
+
+/// Every number, or the site, in a cell that is written with a type. Bytes may hold both.
+fn foreign_as(
+    alloc: Global,
+    lowered: &Lowered,
+    of: &CType,
+    cell: u32,
+    site: &Value,
+) -> Result<Value, AllocError>
+    ensures { IfOk result (λ value. known_of value ≡
+        foreign_as (lowered_of lowered.now) (type_of of.now) site.now.targets cell) }
+{
+    match of {
+        CType::Pointer(_) => foreign_type(alloc, of, site),
+        CType::Int(_) => match lowered.regions.get(cell) {
+            Some(found) => match &found.element {
+                Some(_) => foreign_type(alloc, of, site),
+                None => site.with_numbers(alloc, WHOLE),
+            },
+            None => site.with_numbers(alloc, WHOLE),
+        },
+        CType::Void
+        | CType::Float(_)
+        | CType::Struct(_)
+        | CType::Array(_, _)
+        | CType::Function(_) => foreign_value(alloc, lowered, cell, site),
+    }
+}
+
+/// What comes to the cells of an lvalue.
+#[derive(Drop)]
+struct FromOutside<'a> {
+    analysis: &'a Analysis,
+    to: &'a Lvalue,
+    site: &'a Value,
+}
+
+impl Gives for FromOutside<'_> {
+    ghost use Rattle.sp_ir.specs.View.{lvalue_of};
+    ghost use Rattle.sp_value.specs.Held.{stored};
+    ghost use Rattle.sp_scenes.specs.View.{analysed_of};
+    ghost use Rattle.sp_calls.specs.Outside.{foreign_leaf};
+
+    ghost slots = { λ s q c. stored s.analysis.now.ladder
+        (foreign_leaf (analysed_of s.analysis.now).program (lvalue_of s.to.now) s.site.now.targets c) };
+
+    fn slot(&self, alloc: Global, _region: u32, cell: u32) -> Result<Slot, AllocError> {
+        let value = foreign_as(alloc, &self.analysis.lowered, self.to.of(), cell, self.site)?;
+        let slot = value.stored(alloc, &self.analysis.ladder)?;
+        Ok(slot)
+    }
+}
+
+/// Changes a row by what comes from outside to an lvalue.
+fn come_to<V: View>(
+    alloc: Global,
+    analysis: &Analysis,
+    view: &V,
+    to: &Lvalue,
+    site: Option<u32>,
+    row: &mut [Slot],
+    places: &[u32],
+) -> Result<(), AllocError>
+    requires proper { is_proper_lvalue (lvalue_of to.now) ≡ true }
+    requires ascend { IsStrictlyIncreasing places.now }
+    requires low { AllBelow (count (setting_of (analysed_of analysis.now))) places.now }
+    requires long { length row.old ≡ length places.now }
+    requires defs { (l : ℕ) → has l places.now ≡
+        may_hit (leaf_destination (analysed_of analysis.now) (lvalue_of to.now)) l }
+    ensures { OnOk result ((l : ℕ) → has l places.now ≡ true → store_of places.now row.new l ≡
+        applied (from_outside (analysed_of analysis.now) (Some (lvalue_of to.now)) site
+        (V.store view.now)) (store_of places.now row.old) l) }
+{
+    let bottom = bottom_of(alloc, &analysis.lowered, &analysis.locations, to, view)?;
+    let site = site_value(alloc, &analysis.lowered, site)?;
+    let gives = FromOutside {
+        analysis,
+        to,
+        site: &site,
+    };
+    let targets = bottom.targets.as_slice();
+    store_leaves(alloc, analysis, to, targets, &gives, row, places)?;
+    Ok(())
+}
+
+/// Changes a row by what comes from a function that isn't defined, to where its result goes, as a
+/// store gives that. `site` stands for what its pointers point to. The places are the locations that
+/// may be hit.
+pub fn come_from_outside<V: View>(
+    alloc: Global,
+    analysis: &Analysis,
+    view: &V,
+    to: Option<&Lvalue>,
+    site: Option<u32>,
+    row: &mut [Slot],
+    places: &[u32],
+) -> Result<(), AllocError>
+    requires proper { is_proper_result (option_map (λ l. lvalue_of l.now) to) ≡ true }
+    requires ascend { IsStrictlyIncreasing places.now }
+    requires low { AllBelow (count (setting_of (analysed_of analysis.now))) places.now }
+    requires long { length row.old ≡ length places.now }
+    requires defs { (l : ℕ) → has l places.now ≡ result_defines (analysed_of analysis.now)
+        (option_map (λ l. lvalue_of l.now) to) l }
+    ensures { OnOk result ((l : ℕ) → has l places.now ≡ true → store_of places.now row.new l ≡
+        applied (from_outside (analysed_of analysis.now)
+        (option_map (λ l. lvalue_of l.now) to.entry) site (V.store view.now))
+        (store_of places.now row.old) l) }
+{
+    match to {
+        Some(to) => come_to(alloc, analysis, view, to, site, row, places),
+        None => Ok(()),
+    }
+}

@@ -1,0 +1,2 @@
+-- How products are kept on the way; no public contract cites it.
+pub mod Wide

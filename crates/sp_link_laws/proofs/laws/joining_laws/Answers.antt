@@ -1,0 +1,12 @@
+use Rattle.sp_link_laws.proofs.Numbered.{names_have_one_object, names_have_one_function}
+use Rattle.sp_link_laws.proofs.Own.{others_stay_apart}
+use Rattle.sp_link_laws.proofs.laws.joining_laws.Goals as goal
+
+pub returns-clause-objects : goal.returns-clause-objects
+returns-clause-objects c = names_have_one_object
+
+pub returns-clause-functions : goal.returns-clause-functions
+returns-clause-functions c = names_have_one_function
+
+pub returns-clause-apart : goal.returns-clause-apart
+returns-clause-apart c = others_stay_apart

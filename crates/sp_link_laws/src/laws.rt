@@ -1,0 +1,14 @@
+//! The laws.
+ghost use Rattle.sp_link_laws.specs.Names.{
+  NamesHaveOneObject,
+  NamesHaveOneFunction,
+  OthersStayApart,
+};
+
+/// Each external object, and each external function, has the number that the program has for its
+/// name; an object whose name isn't external has an entry of its own.
+pub fn joining_laws()
+    ensures objects { NamesHaveOneObject }
+    ensures functions { NamesHaveOneFunction }
+    ensures apart { OthersStayApart }
+{}

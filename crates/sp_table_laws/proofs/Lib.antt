@@ -1,0 +1,4 @@
+pub mod Linked
+pub mod Lists
+pub mod Same
+pub mod Stays
