@@ -5,38 +5,14 @@ Usage: checks_texts.py FOLDER. A kind of a size is a folder KIND-SIZE of files.
 import os
 import sys
 
+from parse_texts import ORDINARY
+
 MAIN = "int main(void){return 0;}\n"
 
-FUNCTION = """
-int f%d(int n, char *s)
-{
-    int i, total = 0;
-    struct pair p;
-    for (i = 0; i < n; i++) {
-        if (s[i] == 'a')
-            total += i * 2;
-        else if (s[i] == 'b')
-            total--;
-        else {
-            p.left = total;
-            g(&p, "text", n - 1);
-        }
-    }
-    while (total > 10 && n)
-        total = total / 2;
-    switch (n) {
-    case 1: return 0;
-    default: break;
-    }
-    return total + p.right;
-}
-"""
-
-
 def ordinary(size):
-    """Functions of some 120 tokens, this many tokens in all."""
+    """Functions of 128 tokens, this many tokens in all."""
     head = "struct pair { int left; int right; };\nint g(struct pair *p, char *s, int n);\n"
-    return [head + "".join(FUNCTION % k for k in range(size // 120)) + MAIN]
+    return [head + "".join(ORDINARY % k for k in range(size // 128)) + MAIN]
 
 
 def names(size):

@@ -1,8 +1,7 @@
 """Times middle_rows on large programs, each beside one of a tenth: bench/lowering.sh runs it."""
-import os
-import subprocess
 import sys
-import tempfile
+
+from rows import measured
 
 MAIN = (1, "int main(void){return 0;}")
 
@@ -26,25 +25,16 @@ PROGRAMS = [
 ]
 
 
-def measured(program, pieces):
-    """The seconds of the program on a row of these pieces, its peak memory in KiB, and its answer."""
-    row = "built\t" + "\t".join(f"{count} {text}" for count, text in pieces) + "\n"
-    with tempfile.TemporaryFile() as rows, tempfile.TemporaryFile() as out:
-        rows.write(row.encode())
-        rows.seek(0)
-        child = subprocess.Popen([program], stdin=rows, stdout=out)
-        _, status, usage = os.wait4(child.pid, 0)
-        if status != 0:
-            sys.exit(f"{program} ended with {status}")
-        out.seek(0)
-        return usage.ru_utime + usage.ru_stime, usage.ru_maxrss, out.read().decode().strip()
+def row_of(pieces):
+    """The row of these pieces."""
+    return "built\t" + "\t".join(f"{count} {text}" for count, text in pieces)
 
 
 def main():
     print(f"{'program':12}{'size':>8}{'s':>8}{'ratio':>7}{'KiB':>9}  lowering")
     for name, size, pieces in PROGRAMS:
-        small, _, _ = measured(sys.argv[1], pieces(size // 10))
-        large, peak, answer = measured(sys.argv[1], pieces(size))
+        small, _, _ = measured(sys.argv[1], row_of(pieces(size // 10)))
+        large, peak, answer = measured(sys.argv[1], row_of(pieces(size)))
         print(f"{name:12}{size:8}{large:8.2f}{large / max(small, 0.01):7.1f}{peak:9}  {answer}", flush=True)
 
 

@@ -93,8 +93,13 @@ def texts(tokens):
     yield "parameters", "declarator", repeated("f(" + ", ".join(["int *p"] * 50000) + ")", tokens, 200003)
 
 
-for size in (1, 2):
-    named = [(name, "unit", text) for name, text in units(size * 1000000)]
-    for name, entry, text in [*texts(size * 1000000), *named]:
-        with open(f"{sys.argv[1]}/{name}-{size}-{entry}", "w", encoding="ascii") as file:
-            file.write(text)
+def main():
+    for size in (1, 2):
+        named = [(name, "unit", text) for name, text in units(size * 1000000)]
+        for name, entry, text in [*texts(size * 1000000), *named]:
+            with open(f"{sys.argv[1]}/{name}-{size}-{entry}", "w", encoding="ascii") as file:
+                file.write(text)
+
+
+if __name__ == "__main__":
+    main()

@@ -1,0 +1,5 @@
+pub mod Expressions
+pub mod Commands
+pub mod Places
+pub mod Programs
+pub mod Values

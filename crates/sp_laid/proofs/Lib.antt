@@ -1,0 +1,5 @@
+pub mod Tests
+pub mod FormedTypes
+pub mod FormedTables
+pub mod FormedRegions
+pub mod FormedOutside

@@ -1,0 +1,5 @@
+pub mod Lists
+pub mod Types
+pub mod Tables
+pub mod Regions
+pub mod Outside
