@@ -14,7 +14,8 @@ use Rattle.sp_eval.proofs.Among.{among-left}
 use Rattle.sp_rows.proofs.Choices.{or_left, or_right}
 use Rattle.sp_puts.specs.declared.sources.Test.{Test}
 use Rattle.sp_puts.specs.declared.sources.Test.TheVariants.{Aggregate}
-use Rattle.sp_puts.specs.Sources.{is_of, type_in, typed_root, root_where, formal_in, formal_at, Calls}
+use Rattle.sp_puts.specs.Leaves.{type_in}
+use Rattle.sp_puts.specs.Sources.{is_of, typed_root, root_where, formal_in, formal_at, Calls}
 use Rattle.sp_puts.specs.Puts.{struct_in, struct_read, as_struct, CallsBy}
 use Rattle.sp_entries.specs.Starts.{formals_in}
 use Rattle.sp_entries.proofs.Lists.{all_from}

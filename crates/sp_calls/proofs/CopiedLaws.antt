@@ -9,14 +9,15 @@ use Rattle.sp_ir.specs.Terrain.{Terrain, IsTerrain, terrain_of}
 use Rattle.sp_ir.specs.Denoted.{PointsTo, cells_of, pointer_uses}
 use Rattle.sp_ir.specs.Programs.{Lowered}
 use Rattle.sp_interval.specs.Interval.{whole}
+use Rattle.sp_interval.specs.Inclusion.{interval_le-refl}
 use Rattle.sp_value.specs.Known.{Known, none, known_le, known_join, has_numbers, gathered, is_ordered_within}
-use Rattle.sp_value.specs.KnownLaws.{numbers_le, the_targets_le, known_made, known_join-monotone, gathered-monotone}
+use Rattle.sp_value.specs.KnownLaws.{numbers_le, the_targets_le, known_made, known-refl, known_join-monotone, gathered-monotone}
 use Rattle.sp_value.specs.FormedLaws.{IsFormedKnown, none-formed, known_join-formed, gathered-formed, Within, within-join, within-more, within-gathered, gathered-agrees, test_from_formed}
 use Rattle.sp_eval.specs.Laws.{AreFormed, AreBelow, PointWithin, AgreeOn}
 use Rattle.sp_eval.specs.Evaluation.{matched, address_of, is_proper_lvalue}
 use Rattle.sp_eval.proofs.Among.{chosen}
 use Rattle.sp_eval.proofs.FormLaws.{matched-formed, address-formed}
-use Rattle.sp_eval.proofs.MonotoneLaws.{address-monotone}
+use Rattle.sp_eval.proofs.MonotoneLaws.{address-monotone, matched-monotone, rising_choice, same_choice, same_numbers, has_numbers-rises}
 use Rattle.sp_eval.proofs.RegionLaws.{matched-address-within}
 use Rattle.sp_eval.proofs.SupportLaws.{address-agrees}
 use Rattle.sp_puts.specs.Paths.{reaches, mirrored}
@@ -28,8 +29,8 @@ use Rattle.sp_entries.specs.Given.{every_in}
 use Rattle.sp_entries.proofs.Lists.{all_from}
 use Rattle.sp_entries.proofs.JoinedLaws.{joined-formed, joined-monotone, joined-within, joined-agrees}
 use Rattle.sp_entries.proofs.GivenLaws.{every_in-formed, of_numbers-formed}
-use Rattle.sp_calls.specs.Copied.{cells_in, every_of, copied_cell, copied_some, copied_from, copied_at, copied_of}
-use Rattle.sp_calls.proofs.Rising.{same-choice, same-numbers, where-numbers, matched-monotone}
+use Rattle.sp_entries.specs.Entries.{every_value}
+use Rattle.sp_calls.specs.Copied.{cells_in, copied_cell, copied_some, copied_from, copied_at, copied_of}
 
 -- what is kept of a list passes the test
 kept-at : (test : ℕ → Bool) (xs : List ℕ) (i x : ℕ) → slice_get (filter test xs) i ≡ Some x → test x ≡ true
@@ -75,12 +76,12 @@ module _ (p : Lowered) where
         (λ e. joined-formed (copied_cell p cells c) (cells_in p s) (λ k d low. cell-formed c (get_or (cells_in p s) k d)))
         (λ e. some-formed c (mirrored p q s c))
 
-    pub every-formed : (c : ℕ) → IsFormedKnown (every_of p c)
+    pub every-formed : (c : ℕ) → IsFormedKnown (every_value p c)
     every-formed c = of_numbers-formed (every_in (element_of p c)) (every_in-formed (element_of p c))
 
     pub at-formed : (q c : ℕ) (v : Known) → IsFormedKnown v → IsFormedKnown (copied_at p cells q c v)
-    at-formed q c v h = known_join-formed (cond (has_numbers v) (every_of p c) none) (gathered (λ x. copied_from p cells q c x.region) v.targets)
-        (chosen IsFormedKnown (has_numbers v) (every_of p c) none (λ e. every-formed c) (λ e. none-formed))
+    at-formed q c v h = known_join-formed (cond (has_numbers v) (every_value p c) none) (gathered (λ x. copied_from p cells q c x.region) v.targets)
+        (chosen IsFormedKnown (has_numbers v) (every_value p c) none (λ e. every-formed c) (λ e. none-formed))
         (gathered-formed (λ x. copied_from p cells q c x.region) (λ x k. from-formed q c x.region) v.targets h.targets)
 
     pub of-formed : IsTerrain g → (q c : ℕ) (l : Lvalue) → is_proper_lvalue l ≡ true → IsFormedKnown (copied_of p cells q c l)
@@ -91,7 +92,7 @@ module _ (p : Lowered) where
   module _ (s t : ℕ → Known) (below : AreBelow s t) where
     cell-monotone : (c b : ℕ) → known_le (copied_cell p s c b) (copied_cell p t c b) ≡ true
     cell-monotone c b = known_made (copied_cell p s c b) (copied_cell p t c b)
-        (same-numbers (g.collapsed b) (every_in (element_of p c)) (s b).numbers (t b).numbers (numbers_le (s b) (t b) (below b)))
+        (same_numbers (g.collapsed b) (every_in (element_of p c)) (s b).numbers (every_in (element_of p c)) (t b).numbers (λ e. interval_le-refl (every_in (element_of p c))) (numbers_le (s b) (t b) (below b)))
         (the_targets_le (s b) (t b) (below b))
 
     some-monotone : (c : ℕ) (o : Option ℕ) → known_le (copied_some p s c o) (copied_some p t c o) ≡ true
@@ -99,16 +100,16 @@ module _ (p : Lowered) where
     some-monotone c (Some b) = cell-monotone c b
 
     pub from-monotone : (q c r : ℕ) → known_le (copied_from p s q c r) (copied_from p t q c r) ≡ true
-    from-monotone q c r = same-choice (g.collapsed q)
+    from-monotone q c r = same_choice (g.collapsed q)
         (joined (copied_cell p s c) (cells_in p r)) (copied_some p s c (mirrored p q r c)) (joined (copied_cell p t c) (cells_in p r)) (copied_some p t c (mirrored p q r c))
         (joined-monotone (copied_cell p s c) (copied_cell p t c) (cells_in p r) (λ k d low. cell-monotone c (get_or (cells_in p r) k d)))
         (some-monotone c (mirrored p q r c))
 
     pub at-monotone : (q c : ℕ) (v w : Known) → known_le v w ≡ true → known_le (copied_at p s q c v) (copied_at p t q c w) ≡ true
     at-monotone q c v w h = known_join-monotone
-        (cond (has_numbers v) (every_of p c) none) (gathered (λ x. copied_from p s q c x.region) v.targets)
-        (cond (has_numbers w) (every_of p c) none) (gathered (λ x. copied_from p t q c x.region) w.targets)
-        (where-numbers v w (every_of p c) h)
+        (cond (has_numbers v) (every_value p c) none) (gathered (λ x. copied_from p s q c x.region) v.targets)
+        (cond (has_numbers w) (every_value p c) none) (gathered (λ x. copied_from p t q c x.region) w.targets)
+        (rising_choice (has_numbers v) (has_numbers w) (every_value p c) none (every_value p c) none (has_numbers-rises v w h) (known-refl (every_value p c)) refl refl)
         (gathered-monotone (λ x. copied_from p s q c x.region) (λ x. copied_from p t q c x.region)
         (λ x y same less. subst (λ n. known_le (copied_from p s q c x.region) (copied_from p t q c n) ≡ true) same (from-monotone q c x.region))
         v.targets w.targets (the_targets_le v w h))
@@ -143,8 +144,8 @@ module _ (p : Lowered) where
             bytes-mirror p q s b bytes cell there ∙ ap (λ n. Some n) same
 
     pub at-within : (S : ℕ → Type 0) (v : Known) → Within S v.targets → ((s : ℕ) → S s → Closes s) → Within P (copied_at p cells q c v).targets
-    at-within S v h closes = within-join P (cond (has_numbers v) (every_of p c) none).targets (gathered (λ x. copied_from p cells q c x.region) v.targets).targets
-        (chosen (λ (w : Known). Within P w.targets) (has_numbers v) (every_of p c) none (λ e. tt) (λ e. tt))
+    at-within S v h closes = within-join P (cond (has_numbers v) (every_value p c) none).targets (gathered (λ x. copied_from p cells q c x.region) v.targets).targets
+        (chosen (λ (w : Known). Within P w.targets) (has_numbers v) (every_value p c) none (λ e. tt) (λ e. tt))
         (within-gathered S P (λ x. copied_from p cells q c x.region) (λ x m. from-within x.region (closes x.region m)) v.targets h)
 
     pub of-within : (l : Lvalue) → ((s : ℕ) → has s (cells_of g points l) ≡ true → Closes s) → Within P (copied_of p cells q c l).targets
@@ -168,7 +169,7 @@ module _ (p : Lowered) where
         by false = some (mirrored p q r c) refl
 
     at-agrees : (S : ℕ → Type 0) (q c : ℕ) (v : Known) → Within S v.targets → ((r b : ℕ) → S r → reaches p r b ≡ true → s b ≡ t b) → copied_at p s q c v ≡ copied_at p t q c v
-    at-agrees S q c v h same = ap (known_join (cond (has_numbers v) (every_of p c) none))
+    at-agrees S q c v h same = ap (known_join (cond (has_numbers v) (every_value p c) none))
         (gathered-agrees S (λ x. copied_from p s q c x.region) (λ x. copied_from p t q c x.region) (λ x m. from-agrees q c x.region (λ b there. same x.region b m there)) v.targets h)
 
     pub of-agrees : (points : PointsTo) → PointWithin points s → (q c : ℕ) (l : Lvalue) → AgreeOn (pointer_uses g points l) s t

@@ -152,3 +152,7 @@ outside_p = refl
 
 outside_y : after (from_outside analysed (Some (direct 8 int)) None store) 10 ≡ of_numbers (Of (neg_ℤ (pos 2147483648)) (pos 2147483647))
 outside_y = refl
+
+-- a union that is itself assigned gets the site
+outside_v : after (from_outside analysed (Some (direct 2 (structure 1))) (Some 9) store) 4 ≡ record { numbers = whole; targets = record { region = 13; offset = exactly (pos 0); size = every_size } ∷ [] }
+outside_v = refl

@@ -42,7 +42,7 @@ accepted-fits None t h = tt
 accepted-fits (Some e) t h = inr h
 
 -- where a pointer is accepted, pointers are held
-pointer-matched : (e t : CType) → is_pointer t ≡ true → matches e t ≡ true → pointer_element (Some e) ≡ true
+pointer-matched : (e t : CType) → is_pointer t ≡ true → matches e t ≡ true → pointer_element true (Some e) ≡ true
 pointer-matched (pointer v) t h g = refl
 pointer-matched void t h g = absurd (false≢true g)
 pointer-matched (integer k) void h g = absurd (false≢true h)
@@ -69,7 +69,7 @@ pointer-matched (structure n) (structure m) h g = absurd (false≢true h)
 pointer-matched (structure n) (function s) h g = absurd (false≢true h)
 pointer-matched (function s) t h g = absurd (false≢true g)
 
-a-pointer : (t : CType) → is_pointer t ≡ true → pointer_element (Some t) ≡ true
+a-pointer : (t : CType) → is_pointer t ≡ true → pointer_element true (Some t) ≡ true
 a-pointer (pointer v) h = refl
 a-pointer void h = absurd (false≢true h)
 a-pointer (integer k) h = absurd (false≢true h)
@@ -78,7 +78,7 @@ a-pointer (array v n) h = absurd (false≢true h)
 a-pointer (structure n) h = absurd (false≢true h)
 a-pointer (function s) h = absurd (false≢true h)
 
-pub pointer-fits : (of : Option CType) (t : CType) → is_pointer t ≡ true → FitsIn of t → pointer_element of ≡ true
+pub pointer-fits : (of : Option CType) (t : CType) → is_pointer t ≡ true → FitsIn of t → pointer_element true of ≡ true
 pointer-fits None t h fits = refl
 pointer-fits (Some e) t h (inl same) = a-pointer e (ap is_pointer same ∙ h)
 pointer-fits (Some e) t h (inr g) = pointer-matched e t h g

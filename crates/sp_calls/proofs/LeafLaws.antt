@@ -23,7 +23,7 @@ use Rattle.sp_rows.proofs.SettingLaws.{cells-formed, cells-monotone, cells-withi
 use Rattle.sp_rows.proofs.StoringLaws.{storing-lawful, storing-plain}
 use Rattle.sp_stores.specs.Scene.{IsScene, known_in_regions}
 use Rattle.sp_stores.specs.Destinations.{bottom_of, bottom_regions, bottom_accepts, region_under, is_direct}
-use Rattle.sp_stores.proofs.AssignLaws.{bottom-within}
+use Rattle.sp_stores.proofs.AssignLaws.{bottom-monotone, bottom-within, bottom-agrees, direct-one}
 use Rattle.sp_scenes.specs.Analysed.{Analysed, setting_of, scene_of, is_summary}
 use Rattle.sp_calls.specs.Copied.{has_cell}
 use Rattle.sp_calls.specs.Copies.{leaf_destination, storing_leaves, keeps_leaves}
@@ -51,28 +51,12 @@ module _ (a : Analysed) (is : IsScene (scene_of a)) where
   abbrev cells : Store → ℕ → Known
   cells s = known_in_regions (scene_of a) s
 
-  bottom-monotone : (s t : Store) → BelowStore (setting_of a) s t → (p : Lvalue) → is_proper_lvalue p ≡ true → known_le (bottom_of g (cells s) p) (bottom_of g (cells t) p) ≡ true
-  bottom-monotone s t below (direct o c) h = known-refl (of_target (whole_of g (g.root o)))
-  bottom-monotone s t below (through e c at) h = value-monotone g is.terrain (cells s) (cells t) (cells-formed (setting_of a) is.setting s) (cells-monotone (setting_of a) is.setting s t below) e h
-  bottom-monotone s t below (field p k c) h = bottom-monotone s t below p h
-
-  bottom-agrees : (s t : Store) → UnderCeiling (setting_of a) s → (p : Lvalue) → ((r : ℕ) → has r (pointer_uses g u p) ≡ true → cells s r ≡ cells t r) → bottom_of g (cells s) p ≡ bottom_of g (cells t) p
-  bottom-agrees s t under (direct o c) h = refl
-  bottom-agrees s t under (through e c at) h = value-agrees g u (cells s) (cells t) (cells-within (setting_of a) is.setting s under) e h
-  bottom-agrees s t under (field p k c) h = bottom-agrees s t under p h
-
-  -- a direct lvalue has one target, in its root
-  direct-one : (s : Store) (p : Lvalue) → is_direct p ≡ true → (x : Target) × ((bottom_of g (cells s) p).targets ≡ x ∷ []) × (bottom_regions g u p ≡ x.region ∷ [])
-  direct-one s (direct o c) h = (whole_of g (g.root o), refl, refl)
-  direct-one s (through e c at) h = absurd (false≢true h)
-  direct-one s (field p k c) h = direct-one s p h
-
   module _ (to : Lvalue) (proper : is_proper_lvalue to ≡ true) (uses : ℕ → Bool) (finds : (l : ℕ) → has (cell_of (setting_of a) l) (pointer_uses g u to) ≡ true → uses l ≡ true) (keeps : (l : ℕ) → keeps_leaves a to l ≡ true → uses l ≡ true) where
     the_destination : IsLawfulDestination (setting_of a) uses (leaf_destination a to)
     the_destination = record {
-      rise = λ s t below under. the_targets_le (bottom_of g (cells s) to) (bottom_of g (cells t) to) (bottom-monotone s t below to proper);
+      rise = λ s t below under. the_targets_le (bottom_of g (cells s) to) (bottom_of g (cells t) to) (bottom-monotone (scene_of a) is s t below to proper);
       within = λ s under. bottom-within (scene_of a) is s under to;
-      agree = λ s t under under' agree. ap (λ (v : Known). v.targets) (bottom-agrees s t under to (cells-agree (setting_of a) is.setting s t (pointer_uses g u to) (λ l m. agree l (finds l m))));
+      agree = λ s t under under' agree. ap (λ (v : Known). v.targets) (bottom-agrees (scene_of a) is s t under to (cells-agree (setting_of a) is.setting s t (pointer_uses g u to) (λ l m. agree l (finds l m))));
     }
 
     -- what is kept is used: of a direct lvalue only summaries
@@ -91,7 +75,7 @@ module _ (a : Analysed) (is : IsScene (scene_of a)) where
 
         by : (is_direct to ≡ true) ⊎ (is_direct to ≡ false) → keeps_leaves a to l ≡ true
         by (inr h) = both (may_hit (leaf_destination a to) l) (not (is_direct to) || is_summary a.program a.told (cell_of (setting_of a) l)) hit (ap (λ b. not b || is_summary a.program a.told (cell_of (setting_of a) l)) h)
-        by (inl h) = both (may_hit (leaf_destination a to) l) (not (is_direct to) || is_summary a.program a.told (cell_of (setting_of a) l)) hit (ap (λ b. not b || is_summary a.program a.told (cell_of (setting_of a) l)) h ∙ summary (direct-one s to h))
+        by (inl h) = both (may_hit (leaf_destination a to) l) (not (is_direct to) || is_summary a.program a.told (cell_of (setting_of a) l)) hit (ap (λ b. not b || is_summary a.program a.told (cell_of (setting_of a) l)) h ∙ summary (direct-one (scene_of a) is s to h))
 
     module _ (value : Store → ℕ → ℕ → Known) (fine : IsLeafValue a to uses value) where
       the_value : IsLawfulValue (setting_of a) uses (leaf_destination a to) (λ s r l. value s (region_under g to r) (cell_of (setting_of a) l))

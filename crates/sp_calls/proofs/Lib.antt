@@ -1,5 +1,4 @@
 mod Examples
-pub mod Rising
 pub mod Fits
 pub mod ReadCells
 pub mod Callees
@@ -9,6 +8,7 @@ pub mod CopyLaws
 pub mod OutsideLaws
 pub mod ReturnLaws
 pub mod PassedLaws
-mod AllLaws
-mod StoringSteps
-mod OutsideSteps
+pub mod AllLaws
+mod Joins
+mod PassedSteps
+pub mod StoringSteps

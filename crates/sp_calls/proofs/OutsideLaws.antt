@@ -16,9 +16,11 @@ use Rattle.sp_value.specs.FormedLaws.{IsFormedKnown, Within}
 use Rattle.sp_eval.proofs.Among.{chosen, among-right}
 use Rattle.sp_eval.proofs.ProperLaws.{lvalue-proper}
 use Rattle.sp_puts.specs.Paths.{reaches, pointer_element, pointer_region}
+use Rattle.sp_puts.specs.Leaves.{leaf_points}
 use Rattle.sp_puts.specs.Sources.{region, cells as cells_source}
 use Rattle.sp_puts.specs.Puts.{command_at}
 use Rattle.sp_puts.proofs.Reaching.{reaches-self, reached-cell}
+use Rattle.sp_sets.proofs.Members.{eqb-refl}
 use Rattle.sp_rows.specs.Rows.{Store}
 use Rattle.sp_rows.specs.Setting.{cell_of}
 use Rattle.sp_rows.specs.Laws.{IsLawful, IsPlain}
@@ -42,35 +44,40 @@ use Rattle.sp_calls.proofs.LeafLaws.{Points, IsLeafValue, leaves-lawful, leaves-
 
 -- ---- cells that may hold a pointer
 
-element-cell : (of : Option CType) → pointer_element of ≡ true → is_cell_type of ≡ true
-element-cell None h = refl
-element-cell (Some (pointer t)) h = refl
-element-cell (Some void) h = absurd (false≢true h)
-element-cell (Some (integer k)) h = absurd (false≢true h)
-element-cell (Some (floating k)) h = absurd (false≢true h)
-element-cell (Some (array t n)) h = absurd (false≢true h)
-element-cell (Some (structure n)) h = absurd (false≢true h)
-element-cell (Some (function s)) h = absurd (false≢true h)
+element-cell : (bytes : Bool) (of : Option CType) → pointer_element bytes of ≡ true → is_cell_type of ≡ true
+element-cell bytes None h = refl
+element-cell bytes (Some (pointer t)) h = refl
+element-cell bytes (Some void) h = absurd (false≢true h)
+element-cell bytes (Some (integer k)) h = absurd (false≢true h)
+element-cell bytes (Some (floating k)) h = absurd (false≢true h)
+element-cell bytes (Some (array t n)) h = absurd (false≢true h)
+element-cell bytes (Some (structure n)) h = absurd (false≢true h)
+element-cell bytes (Some (function s)) h = absurd (false≢true h)
 
-region-cell : (o : Option Region) → pointer_region o ≡ true → is_cell_region o ≡ true
-region-cell None h = absurd (false≢true h)
-region-cell (Some r) h = element-cell r.element h
+region-cell : (bytes : Bool) (o : Option Region) → pointer_region bytes o ≡ true → is_cell_region o ≡ true
+region-cell bytes None h = absurd (false≢true h)
+region-cell bytes (Some r) h = element-cell bytes r.element h
 
 -- of a region that is there
-there-points : (o : Option Region) → is_cell_region o ≡ true → pointer_element (element_in o) ≡ true → pointer_region o ≡ true
-there-points None cell h = absurd (false≢true cell)
-there-points (Some r) cell h = h
+there-points : (bytes : Bool) (o : Option Region) → is_cell_region o ≡ true → pointer_element bytes (element_in o) ≡ true → pointer_region bytes o ≡ true
+there-points bytes None cell h = absurd (false≢true cell)
+there-points bytes (Some r) cell h = h
+
+-- bytes hold a pointer at most
+most-points : (bytes : Bool) (of : Option CType) → pointer_element bytes of ≡ true → pointer_element true of ≡ true
+most-points bytes None h = refl
+most-points bytes (Some t) h = h
 
 -- what is written as an integer points nowhere
-written-points : (t : CType) (of : Option CType) → is_pointer t ≡ false → pointer_element (written_as t of) ≡ true → pointer_element of ≡ true
-written-points t None h g = refl
-written-points (integer k) (Some e) h g = absurd (false≢true g)
-written-points (pointer v) (Some e) h g = absurd (false≢true (sym h))
-written-points void (Some e) h g = g
-written-points (floating k) (Some e) h g = g
-written-points (array v n) (Some e) h g = g
-written-points (structure n) (Some e) h g = g
-written-points (function s) (Some e) h g = g
+written-points : (bytes : Bool) (t : CType) (of : Option CType) → is_pointer t ≡ false → pointer_element bytes (written_as t of) ≡ true → pointer_element bytes of ≡ true
+written-points bytes (integer k) None h g = g
+written-points bytes (integer k) (Some e) h g = absurd (false≢true g)
+written-points bytes (pointer v) of h g = absurd (false≢true (sym h))
+written-points bytes void of h g = g
+written-points bytes (floating k) of h g = g
+written-points bytes (array v n) of h g = g
+written-points bytes (structure n) of h g = g
+written-points bytes (function s) of h g = g
 
 where-true : {A : Type 0} (P : List A → Type 0) (b : Bool) (xs : List A) → P [] → (b ≡ true → P xs) → P (cond b xs [])
 where-true P true xs none h = h refl
@@ -92,24 +99,29 @@ module _ (a : Analysed) (whole : IsAnalysed a) (n : ℕ) (to : Lvalue) (args : L
   to_formed : IsLvalue (table_of a.program) formed.0 to
   to_formed = formed.1.1.0.0
 
+  -- whether bytes at the cell c, under the region q of the lvalue, hold a pointer
+  abbrev bytes_hold : ℕ → ℕ → Bool
+  bytes_hold q c = nat_eq q c || leaf_points a.program c
+
   -- a cell of the lvalue that may hold a pointer may point to the site
-  points-there : (q c : ℕ) → has q (cells_of g u to) ≡ true → reaches a.program q c ≡ true → pointer_region (slice_get a.program.regions c) ≡ true → (s : Option ℕ) → site ≡ s → Within (Points a c) (site_targets g s)
+  points-there : (q c : ℕ) → has q (cells_of g u to) ≡ true → reaches a.program q c ≡ true → pointer_region (bytes_hold q c) (slice_get a.program.regions c) ≡ true → (s : Option ℕ) → site ≡ s → Within (Points a c) (site_targets g s)
   points-there q c m under points None e = tt
   points-there q c m under points (Some k) e = (
     put-closed a whole n (outside (Some to) args (Some k)) (is ∙ ap (outside (Some to) args) e) c (g.root k) (
-      record { of = q; there = m; narrowed = both (reaches a.program q c) (pointer_region (slice_get a.program.regions c)) under points },
+      record { of = q; there = m; narrowed = both (reaches a.program q c) (pointer_region (bytes_hold q c) (slice_get a.program.regions c)) under points },
       in-all a.program u (region (g.root k)) (g.root k) refl,
     ),
     tt,
   )
 
   -- the cell of a scalar is where the lvalue is
-  scalar-points : (q c : ℕ) → has q (cells_of g u to) ≡ true → q ≡ c → pointer_region (slice_get a.program.regions q) ≡ true → Within (Points a c) (site_targets g site)
+  scalar-points : (q c : ℕ) → has q (cells_of g u to) ≡ true → q ≡ c → pointer_region true (slice_get a.program.regions q) ≡ true → Within (Points a c) (site_targets g site)
   scalar-points q c m same points = subst (λ k. Within (Points a k) (site_targets g site)) same
-      (points-there q q m (reaches-self a.program q (region-cell (slice_get a.program.regions q) points)) points site refl)
+      (points-there q q m (reaches-self a.program q (region-cell true (slice_get a.program.regions q) points))
+      (ap (λ b. pointer_region (b || leaf_points a.program q) (slice_get a.program.regions q)) (eqb-refl q) ∙ points) site refl)
 
-  fit-points : (q : ℕ) (fit : HasFit a.program q (lvalue_type to)) → pointer_element fit.region.element ≡ true → pointer_region (slice_get a.program.regions q) ≡ true
-  fit-points q fit h = ap pointer_region fit.there ∙ h
+  fit-points : (q : ℕ) (fit : HasFit a.program q (lvalue_type to)) → pointer_element true fit.region.element ≡ true → pointer_region true (slice_get a.program.regions q) ≡ true
+  fit-points q fit h = ap (pointer_region true) fit.there ∙ h
 
   module _ (r c : ℕ) (m : has r (bottom_regions g u to) ≡ true) (accepts : bottom_accepts g to r ≡ true) (h : has_cell a.program (Some (lvalue_type to)) (region_under g to r) c ≡ true) where
     abbrev q : ℕ
@@ -131,32 +143,32 @@ module _ (a : Analysed) (whole : IsAnalysed a) (n : ℕ) (to : Lvalue) (args : L
     pointer-within e = scalar-points q c there (scalar-here (or_right (is_integer (lvalue_type to)) (is_pointer (lvalue_type to)) e))
         (fit-points q fit (pointer-fits fit.region.element (lvalue_type to) e fit.fits))
 
-    other-within : pointer_element (element_of a.program c) ≡ true → Within (Points a c) (site_targets g site)
+    other-within : pointer_element (bytes_hold q c) (element_of a.program c) ≡ true → Within (Points a c) (site_targets g site)
     other-within e = by (which (is_scalar (lvalue_type to)))
       where
         by : (is_scalar (lvalue_type to) ≡ true) ⊎ (is_scalar (lvalue_type to) ≡ false) → Within (Points a c) (site_targets g site)
         by (inl s) =
             let same : q ≡ c = scalar-here s in
             let of : element_of a.program c ≡ fit.region.element = ap (element_of a.program) (sym same) ∙ ap element_in fit.there in
-            scalar-points q c there same (fit-points q fit (ap pointer_element (sym of) ∙ e))
+            scalar-points q c there same (fit-points q fit (ap (pointer_element true) (sym of) ∙ most-points (bytes_hold q c) (element_of a.program c) e))
         by (inr s) =
             let under = struct-here s in
-            points-there q c there under (there-points (slice_get a.program.regions c) (reached-cell a.program q c under) e) site refl
+            points-there q c there under (there-points (bytes_hold q c) (slice_get a.program.regions c) (reached-cell a.program q c under) e) site refl
 
-    leaf-within : Within (Points a c) (foreign_leaf a.program to (site_targets g site) c).targets
+    leaf-within : Within (Points a c) (foreign_leaf a.program to (site_targets g site) q c).targets
     leaf-within = by (is_pointer (lvalue_type to)) refl
       where
         by : (b : Bool) → is_pointer (lvalue_type to) ≡ b
-            → Within (Points a c) (cond b (foreign_value (Some (lvalue_type to)) (site_targets g site)) (foreign_value (written_as (lvalue_type to) (element_of a.program c)) (site_targets g site))).targets
-        by true e = where-true (Within (Points a c)) (pointer_element (Some (lvalue_type to))) (site_targets g site) tt (λ k. pointer-within e)
-        by false e = where-true (Within (Points a c)) (pointer_element (written_as (lvalue_type to) (element_of a.program c))) (site_targets g site) tt
-            (λ k. other-within (written-points (lvalue_type to) (element_of a.program c) e k))
+            → Within (Points a c) (cond b (foreign_value true (Some (lvalue_type to)) (site_targets g site)) (foreign_value (bytes_hold q c) (written_as (lvalue_type to) (element_of a.program c)) (site_targets g site))).targets
+        by true e = where-true (Within (Points a c)) (pointer_element true (Some (lvalue_type to))) (site_targets g site) tt (λ k. pointer-within e)
+        by false e = where-true (Within (Points a c)) (pointer_element (bytes_hold q c) (written_as (lvalue_type to) (element_of a.program c))) (site_targets g site) tt
+            (λ k. other-within (written-points (bytes_hold q c) (lvalue_type to) (element_of a.program c) e k))
 
-  the_value : IsLeafValue a to (outside_uses a (Some to) args) (λ s q c. foreign_leaf a.program to (site_targets g site) c)
+  the_value : IsLeafValue a to (outside_uses a (Some to) args) (λ s q c. foreign_leaf a.program to (site_targets g site) q c)
   the_value = record {
-    formed = λ s q c. chosen IsFormedKnown (is_pointer (lvalue_type to)) (foreign_value (Some (lvalue_type to)) (site_targets g site)) (foreign_value (written_as (lvalue_type to) (element_of a.program c)) (site_targets g site))
-        (λ e. foreign-formed (Some (lvalue_type to)) g site) (λ e. foreign-formed (written_as (lvalue_type to) (element_of a.program c)) g site);
-    rises = λ s t q c below. known-refl (foreign_leaf a.program to (site_targets g site) c);
+    formed = λ s q c. chosen IsFormedKnown (is_pointer (lvalue_type to)) (foreign_value true (Some (lvalue_type to)) (site_targets g site)) (foreign_value (bytes_hold q c) (written_as (lvalue_type to) (element_of a.program c)) (site_targets g site))
+        (λ e. foreign-formed true (Some (lvalue_type to)) g site) (λ e. foreign-formed (bytes_hold q c) (written_as (lvalue_type to) (element_of a.program c)) g site);
+    rises = λ s t q c below. known-refl (foreign_leaf a.program to (site_targets g site) q c);
     within = leaf-within;
     agree = λ s t q c under same. refl;
   }
@@ -165,13 +177,13 @@ module _ (a : Analysed) (whole : IsAnalysed a) (n : ℕ) (to : Lvalue) (args : L
   came_to = leaves-lawful a (scene-is a whole) to (lvalue-proper (table_of a.program) formed.0 to to_formed) (outside_uses a (Some to) args)
       (λ l m. or_right (result_keeps a (Some to) l) (has (cell_of (setting_of a) l) reads) (among-right (arguments_read a args) (result_found a (Some to)) (cell_of (setting_of a) l) m))
       (λ l k. or_left (result_keeps a (Some to) l) (has (cell_of (setting_of a) l) reads) k)
-      (λ s q c. foreign_leaf a.program to (site_targets g site) c) the_value
+      (λ s q c. foreign_leaf a.program to (site_targets g site) q c) the_value
 
   came-plain : IsPlain (setting_of a) (from_outside a (Some to) site)
   came-plain = leaves-plain a (scene-is a whole) to (lvalue-proper (table_of a.program) formed.0 to to_formed) (outside_uses a (Some to) args)
       (λ l m. or_right (result_keeps a (Some to) l) (has (cell_of (setting_of a) l) reads) (among-right (arguments_read a args) (result_found a (Some to)) (cell_of (setting_of a) l) m))
       (λ l k. or_left (result_keeps a (Some to) l) (has (cell_of (setting_of a) l) reads) k)
-      (λ s q c. foreign_leaf a.program to (site_targets g site) c) the_value
+      (λ s q c. foreign_leaf a.program to (site_targets g site) q c) the_value
 
 pub outside-plain : (a : Analysed) → IsAnalysed a → (n : ℕ) (to : Option Lvalue) (args : List Expression) (site : Option ℕ) → command_at a.program n ≡ outside to args site → IsPlain (setting_of a) (from_outside a to site)
 outside-plain a whole n None args site is = λ s t l low below under. refl

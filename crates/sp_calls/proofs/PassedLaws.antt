@@ -20,13 +20,14 @@ use Rattle.sp_eval.specs.Evaluation.{value_of, is_proper, is_proper_lvalue}
 use Rattle.sp_eval.specs.Steps.{converted}
 use Rattle.sp_eval.proofs.Among.{chosen, among-left, among-right}
 use Rattle.sp_eval.proofs.FormLaws.{value-formed}
-use Rattle.sp_eval.proofs.MonotoneLaws.{value-monotone}
+use Rattle.sp_eval.proofs.MonotoneLaws.{value-monotone, same_choice}
 use Rattle.sp_eval.proofs.RegionLaws.{value-within}
 use Rattle.sp_eval.proofs.SupportLaws.{value-agrees}
 use Rattle.sp_eval.proofs.ProperLaws.{expression-proper}
 use Rattle.sp_puts.specs.declared.sources.Test.TheVariants.{KeptScalar, Aggregate}
 use Rattle.sp_puts.specs.Paths.{reaches}
-use Rattle.sp_puts.specs.Sources.{is_of, type_in, root_where, formal_at, Calls, regions, cells as cells_source, formals}
+use Rattle.sp_puts.specs.Leaves.{type_in}
+use Rattle.sp_puts.specs.Sources.{is_of, root_where, formal_at, Calls, regions, cells as cells_source, formals}
 use Rattle.sp_puts.specs.Puts.{Corresponds, as_struct, PassesAs, CallsBy, as_call, command_at}
 use Rattle.sp_rows.specs.Rows.{Store}
 use Rattle.sp_rows.specs.Setting.{cell_of, ceiling}
@@ -44,10 +45,10 @@ use Rattle.sp_scenes.proofs.Closed.{in-all}
 use Rattle.sp_entries.proofs.Lists.{all_first, all_rest, all_from, all_at, among-each}
 use Rattle.sp_entries.proofs.JoinedLaws.{joined-formed, joined-monotone, joined-within, joined-agrees}
 use Rattle.sp_entries.proofs.GivenLaws.{where-formed, where-monotone, where-within}
-use Rattle.sp_calls.specs.Copied.{has_cell, every_of, copied_of}
+use Rattle.sp_entries.specs.Entries.{every_value}
+use Rattle.sp_calls.specs.Copied.{has_cell, copied_of}
 use Rattle.sp_calls.specs.Copies.{struct_reads, argument_reads, arguments_read}
 use Rattle.sp_calls.specs.Passed.{passed_as, passed_typed, formal_has, passed_to, passed_each, formals_of, passed_value, call_defines, calling, call_uses}
-use Rattle.sp_calls.proofs.Rising.{same-choice}
 use Rattle.sp_calls.proofs.ReadCells.{struct-found, struct-held}
 use Rattle.sp_calls.proofs.Fits.{lvalue-struct, root-struct, struct-pairs}
 use Rattle.sp_calls.proofs.Callees.{each-member, root-found, typed-there, formal-there, of-struct, struct-argument}
@@ -60,7 +61,7 @@ kept-parts true rs x h = (refl, h)
 kept-parts false rs x h = absurd (false≢true h)
 
 -- an argument that is a struct is read from a proper lvalue
-struct-proper : (e : Expression) (s : ℕ × Lvalue) → as_struct e ≡ Some s → is_proper e ≡ true → is_proper_lvalue s.1 ≡ true
+pub struct-proper : (e : Expression) (s : ℕ × Lvalue) → as_struct e ≡ Some s → is_proper e ≡ true → is_proper_lvalue s.1 ≡ true
 struct-proper e s h proper = subst (λ x. is_proper x ≡ true) (struct-argument e s h).0 proper
 
 -- ---- one argument
@@ -71,23 +72,23 @@ module _ (p : Lowered) (is : IsTerrain (terrain_of p)) where
 
   module _ (cells : ℕ → Known) (each : AreFormed cells) (e : Expression) (proper : is_proper e ≡ true) (c : ℕ) where
     as-formed : (t : CType) (q : ℕ) (s : Option (ℕ × Lvalue)) → as_struct e ≡ s → IsFormedKnown (passed_as p cells t q c e s)
-    as-formed t q None h = chosen IsFormedKnown (is_scalar t) (converted t (value_of g cells e)) (every_of p c) (λ k. value-formed g is cells each (convert t e) proper) (λ k. every-formed p cells each c)
-    as-formed t q (Some s) h = chosen IsFormedKnown (is_of (Aggregate s.0) t) (copied_of p cells q c s.1) (every_of p c) (λ k. of-formed p cells each is q c s.1 (struct-proper e s h proper)) (λ k. every-formed p cells each c)
+    as-formed t q None h = chosen IsFormedKnown (is_scalar t) (converted t (value_of g cells e)) (every_value p c) (λ k. value-formed g is cells each (convert t e) proper) (λ k. every-formed p cells each c)
+    as-formed t q (Some s) h = chosen IsFormedKnown (is_of (Aggregate s.0) t) (copied_of p cells q c s.1) (every_value p c) (λ k. of-formed p cells each is q c s.1 (struct-proper e s h proper)) (λ k. every-formed p cells each c)
 
     typed-formed : (of : Option CType) (q : ℕ) → IsFormedKnown (passed_typed p cells of q c e)
     typed-formed None q = every-formed p cells each c
     typed-formed (Some t) q = as-formed t q (as_struct e) refl
 
-    to-formed : (o : ℕ) → IsFormedKnown (passed_to p cells o e c)
+    pub to-formed : (o : ℕ) → IsFormedKnown (passed_to p cells o e c)
     to-formed o = where-formed (formal_has p o c) (passed_typed p cells (type_in (slice_get p.objects o)) (g.root o) c e) (typed-formed (type_in (slice_get p.objects o)) (g.root o))
 
   module _ (s t : ℕ → Known) (each : AreFormed s) (below : AreBelow s t) (e : Expression) (proper : is_proper e ≡ true) (c : ℕ) where
     as-monotone : (of : CType) (q : ℕ) (x : Option (ℕ × Lvalue)) → as_struct e ≡ x → known_le (passed_as p s of q c e x) (passed_as p t of q c e x) ≡ true
-    as-monotone of q None h = same-choice (is_scalar of) (converted of (value_of g s e)) (every_of p c) (converted of (value_of g t e)) (every_of p c) (value-monotone g is s t each below (convert of e) proper) (known-refl (every_of p c))
-    as-monotone of q (Some x) h = same-choice (is_of (Aggregate x.0) of) (copied_of p s q c x.1) (every_of p c) (copied_of p t q c x.1) (every_of p c) (of-monotone p s t below is each q c x.1 (struct-proper e x h proper)) (known-refl (every_of p c))
+    as-monotone of q None h = same_choice (is_scalar of) (converted of (value_of g s e)) (every_value p c) (converted of (value_of g t e)) (every_value p c) (value-monotone g is s t each below (convert of e) proper) (known-refl (every_value p c))
+    as-monotone of q (Some x) h = same_choice (is_of (Aggregate x.0) of) (copied_of p s q c x.1) (every_value p c) (copied_of p t q c x.1) (every_value p c) (of-monotone p s t below is each q c x.1 (struct-proper e x h proper)) (known-refl (every_value p c))
 
     typed-monotone : (of : Option CType) (q : ℕ) → known_le (passed_typed p s of q c e) (passed_typed p t of q c e) ≡ true
-    typed-monotone None q = known-refl (every_of p c)
+    typed-monotone None q = known-refl (every_value p c)
     typed-monotone (Some of) q = as-monotone of q (as_struct e) refl
 
     to-monotone : (o : ℕ) → known_le (passed_to p s o e c) (passed_to p t o e c) ≡ true
@@ -96,7 +97,7 @@ module _ (p : Lowered) (is : IsTerrain (terrain_of p)) where
   -- ---- the arguments of one function
 
   module _ (cells : ℕ → Known) (each : AreFormed cells) (c : ℕ) where
-    each-formed : (os : List ℕ) (es : List Expression) → All (λ e. is_proper e ≡ true) es → IsFormedKnown (passed_each p cells os es c)
+    pub each-formed : (os : List ℕ) (es : List Expression) → All (λ e. is_proper e ≡ true) es → IsFormedKnown (passed_each p cells os es c)
     each-formed [] es h = none-formed
     each-formed (o ∷ os) [] h = none-formed
     each-formed (o ∷ os) (e ∷ es) h = known_join-formed (passed_to p cells o e c) (passed_each p cells os es c) (to-formed cells each e (all_first (λ x. is_proper x ≡ true) e es h) c o) (each-formed os es (all_rest (λ x. is_proper x ≡ true) e es h))
@@ -129,8 +130,8 @@ module _ (a : Analysed) (s t : Store) (inside : PointWithin (setting_of a).point
 
   module _ (e : Expression) (same : (r : ℕ) → has r (argument_reads a e (as_struct e)) ≡ true → cells s r ≡ cells t r) where
     as-agrees : (of : CType) (q c : ℕ) (x : Option (ℕ × Lvalue)) → as_struct e ≡ x → ((r : ℕ) → has r (argument_reads a e x) ≡ true → cells s r ≡ cells t r) → passed_as a.program (cells s) of q c e x ≡ passed_as a.program (cells t) of q c e x
-    as-agrees of q c None h alike = ap (λ v. cond (is_scalar of) (converted of v) (every_of a.program c)) (value-agrees (terrain_of a.program) (setting_of a).points_to (cells s) (cells t) inside e alike)
-    as-agrees of q c (Some x) h alike = ap (λ v. cond (is_of (Aggregate x.0) of) v (every_of a.program c))
+    as-agrees of q c None h alike = ap (λ v. cond (is_scalar of) (converted of v) (every_value a.program c)) (value-agrees (terrain_of a.program) (setting_of a).points_to (cells s) (cells t) inside e alike)
+    as-agrees of q c (Some x) h alike = ap (λ v. cond (is_of (Aggregate x.0) of) v (every_value a.program c))
         (of-agrees a.program (cells s) (cells t) (setting_of a).points_to inside q c x.1 (λ r m. alike r (struct-found a x.1 r m)) (λ r b m there. alike b (struct-held a x.1 r b m there)))
 
     typed-agrees : (of : Option CType) (q c : ℕ) → passed_typed a.program (cells s) of q c e ≡ passed_typed a.program (cells t) of q c e
@@ -222,10 +223,10 @@ module _ (a : Analysed) (whole : IsAnalysed a) (n : ℕ) (callee : Expression) (
             }))
 
       as-within : (s : Option (ℕ × Lvalue)) → as_struct e ≡ s → Within (Points a c) (passed_as a.program (at_cells top) t q c e s).targets
-      as-within None plain = chosen (λ (v : Known). Within (Points a c) v.targets) (is_scalar t) (converted t (value_of h (at_cells top) e)) (every_of a.program c)
+      as-within None plain = chosen (λ (v : Known). Within (Points a c) v.targets) (is_scalar t) (converted t (value_of h (at_cells top) e)) (every_value a.program c)
           (λ scalar. within-more (λ x. has x (regions_of h u (convert t e)) ≡ true) (Points a c) (scalar-closed plain scalar) (value_of h (at_cells top) (convert t e)).targets (value-within h u (at_cells top) top_inside (convert t e)))
           (λ k. tt)
-      as-within (Some s) is_one = chosen (λ (v : Known). Within (Points a c) v.targets) (is_of (Aggregate s.0) t) (copied_of a.program (at_cells top) q c s.1) (every_of a.program c)
+      as-within (Some s) is_one = chosen (λ (v : Known). Within (Points a c) v.targets) (is_of (Aggregate s.0) t) (copied_of a.program (at_cells top) q c s.1) (every_value a.program c)
           (λ same. of-within a.program u (at_cells top) top_inside (Points a c) q c (under s is_one same) s.1 (struct-closed s is_one same))
           (λ k. tt)
 

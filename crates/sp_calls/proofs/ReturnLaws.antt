@@ -21,11 +21,13 @@ use Rattle.sp_eval.specs.Laws.{Among, AreFormed, AreBelow, PointWithin}
 use Rattle.sp_eval.proofs.Among.{chosen, among-left, among-right, among-flat_map}
 use Rattle.sp_eval.proofs.FormLaws.{converted-formed}
 use Rattle.sp_eval.proofs.StepLaws.{converted-within}
+use Rattle.sp_eval.proofs.MonotoneLaws.{converted-monotone, same_choice}
 use Rattle.sp_eval.proofs.ProperLaws.{lvalue-proper}
 use Rattle.sp_puts.specs.declared.sources.Test.TheVariants.{AnyScalar, Aggregate}
 use Rattle.sp_puts.specs.declared.sources.Only.TheVariants.{Every}
 use Rattle.sp_puts.specs.Paths.{reaches}
-use Rattle.sp_puts.specs.Sources.{is_of, type_in, root_where, result_of, Calls, cells as cells_source, results}
+use Rattle.sp_puts.specs.Leaves.{type_in}
+use Rattle.sp_puts.specs.Sources.{is_of, root_where, result_of, Calls, cells as cells_source, results}
 use Rattle.sp_puts.specs.Puts.{Corresponds, struct_in, ReturnsAs, ReturnsTo, as_call, Returns, CallsBy, command_at}
 use Rattle.sp_puts.proofs.Reaching.{reaches-self}
 use Rattle.sp_rows.specs.Rows.{Store}
@@ -50,7 +52,6 @@ use Rattle.sp_calls.specs.Copied.{has_cell, cells_in, copied_from}
 use Rattle.sp_calls.specs.Copies.{result_defines, result_keeps, result_found}
 use Rattle.sp_calls.specs.Outside.{written_as, every_written}
 use Rattle.sp_calls.specs.Returns.{same_struct, result_as, result_typed, result_value, results_value, returning, result_cells, result_reads, return_uses}
-use Rattle.sp_calls.proofs.Rising.{same-choice, converted-monotone}
 use Rattle.sp_calls.proofs.ReadCells.{in-cells, read-alike}
 use Rattle.sp_calls.proofs.Fits.{lvalue-struct, root-struct, struct-pairs}
 use Rattle.sp_calls.proofs.Callees.{each-member, root-found, typed-there, struct-in, of-struct}
@@ -81,11 +82,11 @@ module _ (p : Lowered) (to : Lvalue) (q c : ℕ) where
 
   module _ (s t : ℕ → Known) (each : AreFormed s) (below : AreBelow s t) where
     as-monotone : (r : ℕ) (of : CType) → known_le (result_as p s to q c r of) (result_as p t to q c r of) ≡ true
-    as-monotone r of = same-choice (is_scalar (lvalue_type to) && is_scalar of)
+    as-monotone r of = same_choice (is_scalar (lvalue_type to) && is_scalar of)
         (converted (lvalue_type to) (s r)) (cond (same_struct (struct_in (lvalue_type to)) of) (copied_from p s q c r) (every_written p to c))
         (converted (lvalue_type to) (t r)) (cond (same_struct (struct_in (lvalue_type to)) of) (copied_from p t q c r) (every_written p to c))
         (converted-monotone (lvalue_type to) (s r) (t r) (each r) (below r))
-        (same-choice (same_struct (struct_in (lvalue_type to)) of) (copied_from p s q c r) (every_written p to c) (copied_from p t q c r) (every_written p to c) (from-monotone p s t below q c r) (known-refl (every_written p to c)))
+        (same_choice (same_struct (struct_in (lvalue_type to)) of) (copied_from p s q c r) (every_written p to c) (copied_from p t q c r) (every_written p to c) (from-monotone p s t below q c r) (known-refl (every_written p to c)))
 
     typed-monotone : (r : ℕ) (of : Option CType) → known_le (result_typed p s to q c r of) (result_typed p t to q c r of) ≡ true
     typed-monotone r None = known-refl (every_written p to c)

@@ -1,5 +1,5 @@
 -- Slots stored at the cells of an lvalue, step by step.
-use Rattle.std.proofs.Common.{◌≡◌, ◌≢◌, ◌⊎◌, inl, inr, ℕ, zero, suc, ◌+◌, ◌<◌, ◌≤◌, ◌^◌, Bool, true, false, cond, not, nat_eq, ◌&&◌, ◌||◌, List, [], ◌∷◌, length, take, get_or, Some, refl, sym, ap, ◌∙◌, subst, arith, eqb-true}
+use Rattle.std.proofs.Common.{◌≡◌, ◌≢◌, ◌⊎◌, inl, inr, ℕ, zero, suc, ◌+◌, ◌<◌, ◌≤◌, ◌^◌, Bool, true, false, cond, not, nat_eq, ◌&&◌, ◌||◌, List, [], ◌∷◌, length, take, get_or, Option, None, Some, refl, sym, ap, ◌∙◌, subst, arith, eqb-true}
 use Rattle.std.specs.Prelude.{All}
 use Rattle.std.proofs.lemmas.Bool.{false≢true, or_cases}
 use Rattle.sp_lattice.specs.System.{has, AllBelow}
@@ -12,7 +12,10 @@ use Rattle.sp_ir.specs.Terrain.{terrain_of}
 use Rattle.sp_value.specs.declared.targets.Target.{Target}
 use Rattle.sp_value.specs.declared.slots.Slot.{Slot}
 use Rattle.sp_value.specs.declared.slots.Slot.TheVariants.{Nothing, Plain}
+use Rattle.sp_value.specs.Known.{Known}
 use Rattle.sp_value.specs.Slots.{slot_join}
+use Rattle.sp_value.specs.Held.{stored}
+use Rattle.sp_value.specs.Locations.{cells_at}
 use Rattle.sp_value.specs.SlotLaws.{slot-refl, slot-antisym, slot-left, slot-least}
 use Rattle.sp_puts.specs.Paths.{reaches}
 use Rattle.sp_puts.proofs.Reaching.{reaches-self}
@@ -21,11 +24,12 @@ use Rattle.sp_rows.specs.Setting.{count, cell_of}
 use Rattle.sp_rows.specs.Storing.{may_hit, kept_by}
 use Rattle.sp_updates.proofs.Numbers.{which, same_number, apart_numbers}
 use Rattle.sp_updates.proofs.UpdateLaws.{join-nothing, join-assoc}
-use Rattle.sp_stores.specs.Destinations.{bottom_accepts, region_under}
+use Rattle.sp_stores.specs.Destinations.{bottom_of, bottom_accepts, region_under}
 use Rattle.sp_scenes.specs.Analysed.{Analysed, setting_of, locations_of}
+use Rattle.sp_entries.proofs.JoinedLaws.{joins-same}
 use Rattle.sp_entries.proofs.Steps.{joins-next}
 use Rattle.sp_calls.specs.Copied.{has_cell}
-use Rattle.sp_calls.specs.Copies.{leaf_destination}
+use Rattle.sp_calls.specs.Copies.{leaf_destination, storing_leaves}
 use Rattle.sp_calls.specs.Slots.{cell_slot, bottom_slot, stored_leaves}
 use Rattle.sp_calls.proofs.ReadCells.{location-cell}
 
@@ -79,33 +83,37 @@ module _ (T : ℕ → Bool) (F : ℕ → Slot) (d : ℕ) where
           ∙ rest
           ∙ ap (λ b. cond (T d && (b || has d xs)) (F d) Nothing) (sym (apart_numbers d x (λ e. apart (sym e))))
 
-module _ (a : Analysed) (of : CType) (slots : ℕ → ℕ → Slot) (q l : ℕ) (low : l < count (setting_of a)) (cells : List ℕ) (all : (c : ℕ) → reaches a.program q c ≡ true → has c cells ≡ true) where
+module _ (a : Analysed) (of : Option CType) (slots : ℕ → ℕ → Slot) (q l : ℕ) (low : l < count (setting_of a)) (cells : List ℕ) (all : (c : ℕ) → reaches a.program q c ≡ true → has c cells ≡ true) where
   abbrev own : ℕ
   own = cell_of (setting_of a) l
 
   -- the location's cell is among those that were gone over
-  own-there : (b : Bool) → is_scalar of ≡ b → cond b (nat_eq q own) (reaches a.program q own) ≡ true → has own cells ≡ true
-  own-there true e h =
-      let same : q ≡ own = eqb-true q own h in
-      all own (subst (λ k. reaches a.program k own ≡ true) (sym same) (reaches-self a.program own (location-region a l low)))
-  own-there false e h = all own h
-
-  pub cells-joined : joins (cell_slot a (Some of) slots q l) cells ≡ cond (has_cell a.program (Some of) q own) (slots q own) Nothing
-  cells-joined = joins-one (has_cell a.program (Some of) q) (slots q) own cells ∙ by (has_cell a.program (Some of) q own) refl
+  own-there : (o : Option CType) → has_cell a.program o q own ≡ true → has own cells ≡ true
+  own-there None h = all own h
+  own-there (Some t) h = by (is_scalar t) h
     where
-      by : (b : Bool) → has_cell a.program (Some of) q own ≡ b → cond (b && has own cells) (slots q own) Nothing ≡ cond b (slots q own) Nothing
-      by true e = ap (λ t. cond t (slots q own) Nothing) (own-there (is_scalar of) refl e)
+      by : (b : Bool) → cond b (nat_eq q own) (reaches a.program q own) ≡ true → has own cells ≡ true
+      by true k =
+          let same : q ≡ own = eqb-true q own k in
+          all own (subst (λ x. reaches a.program x own ≡ true) (sym same) (reaches-self a.program own (location-region a l low)))
+      by false k = all own k
+
+  pub cells-joined : joins (cell_slot a of slots q l) cells ≡ cond (has_cell a.program of q own) (slots q own) Nothing
+  cells-joined = joins-one (has_cell a.program of q) (slots q) own cells ∙ by (has_cell a.program of q own) refl
+    where
+      by : (b : Bool) → has_cell a.program of q own ≡ b → cond (b && has own cells) (slots q own) Nothing ≡ cond b (slots q own) Nothing
+      by true e = ap (λ t. cond t (slots q own) Nothing) (own-there of e)
       by false e = refl
 
 -- ---- one cell
 
-pub cell-joined : (a : Analysed) (of : CType) (slots : ℕ → ℕ → Slot) (q l c : ℕ) (old new slot : Slot) → has_cell a.program (Some of) q c ≡ true → slot ≡ slots q c → new ≡ slot_join old (cond (nat_eq c (cell_of (setting_of a) l)) slot Nothing)
-    → new ≡ slot_join old (cell_slot a (Some of) slots q l c)
+pub cell-joined : (a : Analysed) (of : Option CType) (slots : ℕ → ℕ → Slot) (q l c : ℕ) (old new slot : Slot) → has_cell a.program of q c ≡ true → slot ≡ slots q c → new ≡ slot_join old (cond (nat_eq c (cell_of (setting_of a) l)) slot Nothing)
+    → new ≡ slot_join old (cell_slot a of slots q l c)
 cell-joined a of slots q l c old new slot has_it made is =
     is ∙ ap (λ s. slot_join old (cond (nat_eq c (cell_of (setting_of a) l)) s Nothing)) made
     ∙ ap (λ b. slot_join old (cond (b && nat_eq c (cell_of (setting_of a) l)) (slots q c) Nothing)) (sym has_it)
 
-pub no-cell : (a : Analysed) (of : CType) (slots : ℕ → ℕ → Slot) (q l c : ℕ) (old : Slot) → has_cell a.program (Some of) q c ≡ false → old ≡ slot_join old (cell_slot a (Some of) slots q l c)
+pub no-cell : (a : Analysed) (of : Option CType) (slots : ℕ → ℕ → Slot) (q l c : ℕ) (old : Slot) → has_cell a.program of q c ≡ false → old ≡ slot_join old (cell_slot a of slots q l c)
 no-cell a of slots q l c old without = sym (join-nothing old) ∙ ap (λ b. slot_join old (cond (b && nat_eq c (cell_of (setting_of a) l)) (slots q c) Nothing)) (sym without)
 
 -- ---- one target
@@ -117,7 +125,7 @@ module _ (a : Analysed) (to : Lvalue) (slots : ℕ → ℕ → Slot) (r l : ℕ)
   pub target-joined : (low : l < count (setting_of a)) (of : CType) (at : ℕ) (cells : List ℕ) → of ≡ lvalue_type to → at ≡ q → bottom_accepts (terrain_of a.program) to r ≡ true
       → ((c : ℕ) → reaches a.program at c ≡ true → has c cells ≡ true) → new ≡ slot_join old (joins (cell_slot a (Some of) slots at l) cells) → new ≡ slot_join old (bottom_slot a to slots l r)
   target-joined low of at cells typed under accepts all is =
-      is ∙ ap (λ s. slot_join old s) (cells-joined a of slots at l low cells all)
+      is ∙ ap (λ s. slot_join old s) (cells-joined a (Some of) slots at l low cells all)
       ∙ ap (λ t. slot_join old (cond (has_cell a.program (Some t) at (cell_of (setting_of a) l)) (slots at (cell_of (setting_of a) l)) Nothing)) typed
       ∙ ap (λ k. slot_join old (cond (has_cell a.program (Some (lvalue_type to)) k (cell_of (setting_of a) l)) (slots k (cell_of (setting_of a) l)) Nothing)) under
       ∙ ap (λ b. slot_join old (cond (b && has_cell a.program (Some (lvalue_type to)) q (cell_of (setting_of a) l)) (slots q (cell_of (setting_of a) l)) Nothing)) (sym accepts)
@@ -134,6 +142,15 @@ kept-none a to l h = ap not (sym h)
 pub stored-both : (a : Analysed) (to : Lvalue) (slots : ℕ → ℕ → Slot) (xs : List Target) (old : Store) (l : ℕ) (mid new : Slot) → mid ≡ kept_if (kept_by (leaf_destination a to) xs l) (old l) → new ≡ slot_join mid (joins (λ x. bottom_slot a to slots l x.region) xs)
     → new ≡ applied (stored_leaves a to slots xs) old l
 stored-both a to slots xs old l mid new h g = g ∙ ap (λ s. slot_join s (joins (λ x. bottom_slot a to slots l x.region) xs)) h
+
+-- what is stored from where the bottom is, is the row
+pub stored-row : (a : Analysed) (to : Lvalue) (value : Store → ℕ → ℕ → Known) (slots : ℕ → ℕ → Slot) (s old : Store) (l : ℕ) (new : Slot) (cells : List ℕ) (xs : List Target) (v : Known)
+    → cells ≡ locations_of a.program → v ≡ bottom_of (terrain_of a.program) (cells_at cells s) to → xs ≡ v.targets → ((q c : ℕ) → slots q c ≡ stored a.ladder (value s q c))
+    → new ≡ applied (stored_leaves a to slots xs) old l → new ≡ applied (storing_leaves a to value s) old l
+stored-row a to value slots s old l new cells xs v same bottom targets made is =
+    is ∙ ap (λ y. slot_join (kept_if (kept_by (leaf_destination a to) xs l) (old l)) y) (joins-same (λ (x : Target). bottom_slot a to slots l x.region) (λ (x : Target). bottom_slot a to (λ q c. stored a.ladder (value s q c)) l x.region)
+    (λ x. ap (λ y. cond ((leaf_destination a to).hits x.region l) y Nothing) (made (region_under (terrain_of a.program) to x.region) (cell_of (setting_of a) l))) xs)
+    ∙ ap (λ ys. applied (stored_leaves a to (λ q c. stored a.ladder (value s q c)) ys) old l) (targets ∙ ap (λ (k : Known). k.targets) (bottom ∙ ap (λ cs. bottom_of (terrain_of a.program) (cells_at cs s) to) same))
 
 -- keeping twice is keeping once
 kept-twice : (b : Bool) (x : Slot) → kept_if b (kept_if b x) ≡ kept_if b x

@@ -6,12 +6,13 @@ use Rattle.sp_ir.specs.Commands.{Lvalue}
 use Rattle.sp_ir.specs.Programs.{Lowered}
 use Rattle.sp_ir.specs.Terrain.{terrain_of}
 use Rattle.sp_ir.specs.Formed.{is_scalar}
-use Rattle.sp_value.specs.Known.{Known, none, of_numbers, known_join, has_numbers, gathered}
+use Rattle.sp_value.specs.Known.{Known, none, known_join, has_numbers, gathered}
 use Rattle.sp_eval.specs.Evaluation.{matched, address_of}
 use Rattle.sp_puts.specs.Paths.{reaches, mirrored}
 use Rattle.sp_scenes.specs.Analysed.{locations_of, element_of}
 use Rattle.sp_entries.specs.Joined.{joined}
 use Rattle.sp_entries.specs.Given.{every_in}
+use Rattle.sp_entries.specs.Entries.{every_value}
 
 -- the cells under a region
 abbrev pub cells_in : Lowered → ℕ → List ℕ
@@ -22,10 +23,6 @@ cells_in p r = filter (reaches p r) (locations_of p)
 abbrev pub has_cell : Lowered → Option CType → ℕ → ℕ → Bool
 has_cell p None q c = reaches p q c
 has_cell p (Some t) q c = cond (is_scalar t) (nat_eq q c) (reaches p q c)
-
--- every number of a cell's type
-abbrev pub every_of : Lowered → ℕ → Known
-every_of p c = of_numbers (every_in (element_of p c))
 
 -- what the cell c gets from the cell b: all that b holds; of bytes every number, and the targets
 abbrev pub copied_cell : Lowered → (ℕ → Known) → ℕ → ℕ → Known
@@ -48,7 +45,7 @@ copied_from p cells q c s = cond ((terrain_of p).collapsed q)
 -- from an address: of each target, and every number where one was punned
 abbrev pub copied_at : Lowered → (ℕ → Known) → ℕ → ℕ → Known → Known
 copied_at p cells q c v = known_join
-    (cond (has_numbers v) (every_of p c) none)
+    (cond (has_numbers v) (every_value p c) none)
     (gathered (λ x. copied_from p cells q c x.region) v.targets)
 
 -- from an lvalue

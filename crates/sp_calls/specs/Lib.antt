@@ -5,3 +5,5 @@ pub mod Returns
 pub mod Passed
 pub mod Laws
 pub mod Slots
+pub mod Arguments
+pub mod ArgumentView

@@ -1,5 +1,5 @@
 -- The result of a function that isn't defined: anything, or where its pointers may point.
-use Rattle.std.specs.Prelude.{ℕ, Bool, cond, ◌||◌, List, ◌++◌, Option, Some, None, option_map}
+use Rattle.std.specs.Prelude.{ℕ, nat_eq, Bool, true, cond, ◌||◌, List, ◌++◌, Option, Some, None, option_map}
 use Rattle.sp_types.specs.Types.{CType}
 use Rattle.sp_lattice.specs.System.{has}
 use Rattle.sp_ir.specs.Commands.{Expression, Lvalue, lvalue_type}
@@ -8,6 +8,7 @@ use Rattle.sp_ir.specs.Terrain.{terrain_of}
 use Rattle.sp_ir.specs.Formed.{is_integer, is_pointer}
 use Rattle.sp_value.specs.declared.targets.Target.{Target}
 use Rattle.sp_value.specs.Known.{Known, of_numbers}
+use Rattle.sp_puts.specs.Leaves.{leaf_points}
 use Rattle.sp_rows.specs.Rows.{Store, Row, untouched}
 use Rattle.sp_rows.specs.Setting.{cell_of}
 use Rattle.sp_scenes.specs.Analysed.{Analysed, setting_of, element_of}
@@ -22,18 +23,20 @@ written_as t of = cond (is_integer t || is_pointer t) (option_map (λ u. t) of) 
 abbrev pub every_written : Lowered → Lvalue → ℕ → Known
 every_written p to c = of_numbers (every_in (written_as (lvalue_type to) (element_of p c)))
 
--- every number; where it is a pointer, the site
-abbrev pub foreign_as : Lowered → CType → List Target → ℕ → Known
-foreign_as p t site c = cond (is_pointer t) (foreign_value (Some t) site)
-    (foreign_value (written_as t (element_of p c)) site)
+-- Every number; where it is a pointer, the site. Bytes get the site where they are the region q of
+-- the lvalue itself, to which all leaves go, or where a leaf of the type that stands there is a
+-- pointer.
+abbrev pub foreign_as : Lowered → CType → List Target → ℕ → ℕ → Known
+foreign_as p t site q c = cond (is_pointer t) (foreign_value true (Some t) site)
+    (foreign_value (nat_eq q c || leaf_points p c) (written_as t (element_of p c)) site)
 
-abbrev pub foreign_leaf : Lowered → Lvalue → List Target → ℕ → Known
-foreign_leaf p to site c = foreign_as p (lvalue_type to) site c
+abbrev pub foreign_leaf : Lowered → Lvalue → List Target → ℕ → ℕ → Known
+foreign_leaf p to site q c = foreign_as p (lvalue_type to) site q c
 
 abbrev pub from_outside : Analysed → Option Lvalue → Option ℕ → Store → Row
 from_outside a None site s = untouched
 from_outside a (Some to) site s = storing_leaves a to
-    (λ s q c. foreign_leaf a.program to (site_targets (terrain_of a.program) site) c) s
+    (λ s q c. foreign_leaf a.program to (site_targets (terrain_of a.program) site) q c) s
 
 -- the arguments are read, though nothing becomes of them
 abbrev pub outside_uses : Analysed → Option Lvalue → List Expression → ℕ → Bool

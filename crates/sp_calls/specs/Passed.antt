@@ -13,7 +13,8 @@ use Rattle.sp_value.specs.Known.{Known, none, known_join}
 use Rattle.sp_eval.specs.Steps.{converted}
 use Rattle.sp_eval.specs.Evaluation.{value_of}
 use Rattle.sp_puts.specs.declared.sources.Test.TheVariants.{Aggregate}
-use Rattle.sp_puts.specs.Sources.{is_of, type_in}
+use Rattle.sp_puts.specs.Leaves.{type_in}
+use Rattle.sp_puts.specs.Sources.{is_of}
 use Rattle.sp_puts.specs.Puts.{as_struct}
 use Rattle.sp_rows.specs.Rows.{Store, Row}
 use Rattle.sp_rows.specs.Setting.{cell_of}
@@ -22,7 +23,8 @@ use Rattle.sp_stores.specs.Scene.{known_in_regions}
 use Rattle.sp_scenes.specs.Analysed.{Analysed, setting_of, scene_of, is_summary}
 use Rattle.sp_entries.specs.Joined.{joined}
 use Rattle.sp_entries.specs.Starts.{formals_in}
-use Rattle.sp_calls.specs.Copied.{has_cell, every_of, copied_of}
+use Rattle.sp_entries.specs.Entries.{every_value}
+use Rattle.sp_calls.specs.Copied.{has_cell, copied_of}
 use Rattle.sp_calls.specs.Copies.{arguments_read}
 
 -- ---- one argument
@@ -31,12 +33,12 @@ use Rattle.sp_calls.specs.Copies.{arguments_read}
 -- both are scalars, cell by cell where both are one struct, else every number
 abbrev pub passed_as : Lowered → (ℕ → Known) → CType → ℕ → ℕ → Expression → Option (ℕ × Lvalue) → Known
 passed_as p cells t q c e None =
-    cond (is_scalar t) (converted t (value_of (terrain_of p) cells e)) (every_of p c)
+    cond (is_scalar t) (converted t (value_of (terrain_of p) cells e)) (every_value p c)
 passed_as p cells t q c e (Some s) =
-    cond (is_of (Aggregate s.0) t) (copied_of p cells q c s.1) (every_of p c)
+    cond (is_of (Aggregate s.0) t) (copied_of p cells q c s.1) (every_value p c)
 
 abbrev pub passed_typed : Lowered → (ℕ → Known) → Option CType → ℕ → ℕ → Expression → Known
-passed_typed p cells None q c e = every_of p c
+passed_typed p cells None q c e = every_value p c
 passed_typed p cells (Some t) q c e = passed_as p cells t q c e (as_struct e)
 
 -- the cells of a formal

@@ -10,7 +10,8 @@ use Rattle.sp_ir.specs.Formed.{is_scalar}
 use Rattle.sp_value.specs.Known.{Known}
 use Rattle.sp_eval.specs.Steps.{converted}
 use Rattle.sp_puts.specs.declared.sources.Test.TheVariants.{Aggregate}
-use Rattle.sp_puts.specs.Sources.{is_of, type_in, result_of}
+use Rattle.sp_puts.specs.Leaves.{type_in}
+use Rattle.sp_puts.specs.Sources.{is_of, result_of}
 use Rattle.sp_puts.specs.Puts.{struct_in}
 use Rattle.sp_rows.specs.Rows.{Store, Row, untouched}
 use Rattle.sp_rows.specs.Setting.{cell_of}

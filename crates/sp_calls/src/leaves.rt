@@ -1,21 +1,17 @@
 //! A store to the cells of an lvalue, on a row of slots.
-ghost use Rattle.std.specs.Prelude.{◌≡◌, ◌≢◌, ◌<◌, ◌&&◌, ℕ, true, cond, nat_eq, Some, length, IfOk, OnOk};
+ghost use Rattle.std.specs.Prelude.{◌≡◌, ◌≢◌, ◌<◌, ℕ, true, option_map, slice_get, length, IfOk, OnOk};
 ghost use Rattle.std.specs.List.Sorted.{IsStrictlyIncreasing};
 ghost use Rattle.sp_types.specs.View.{type_of};
 ghost use Rattle.sp_lattice.specs.System.{has, AllBelow};
-ghost use Rattle.sp_ir.specs.Commands.{lvalue_type};
-ghost use Rattle.sp_ir.specs.Formed.{is_scalar};
 ghost use Rattle.sp_ir.specs.Programs.{lowered_of};
-ghost use Rattle.sp_ir.specs.Terrain.{terrain_of};
 ghost use Rattle.sp_ir.specs.View.{lvalue_of};
 ghost use Rattle.sp_value.specs.declared.slots.Slot.{Slot};
-ghost use Rattle.sp_value.specs.declared.slots.Slot.TheVariants.{Nothing};
+ghost use Rattle.sp_puts.specs.Leaves.{type_in};
 ghost use Rattle.sp_value.specs.Slots.{slot_join};
 ghost use Rattle.sp_rows.specs.Rows.{joins, kept_if, applied};
-ghost use Rattle.sp_rows.specs.Setting.{count, cell_of};
+ghost use Rattle.sp_rows.specs.Setting.{count};
 ghost use Rattle.sp_rows.specs.Storing.{may_hit, kept_by};
 ghost use Rattle.sp_updates.specs.Rows.{store_of};
-ghost use Rattle.sp_stores.specs.Destinations.{bottom_accepts, region_under};
 ghost use Rattle.sp_scenes.specs.Analysed.{setting_of};
 ghost use Rattle.sp_scenes.specs.View.{analysed_of};
 ghost use Rattle.sp_calls.specs.Copied.{has_cell};
@@ -24,9 +20,9 @@ ghost use Rattle.sp_calls.specs.Slots.{cell_slot, bottom_slot, stored_leaves};
 
 use sp_entries::join_to;
 use sp_ir::{Lowered, Lvalue};
-use sp_puts::reaches;
+use sp_puts::{is_scalar, reaches};
 use sp_scenes::Analysis;
-use sp_stores::{Scenery, region_under};
+use sp_stores::{Scenery, bottom_accepts, region_under};
 use sp_types::CType;
 use sp_updates::put_at;
 use sp_value::{Slot, Target};
@@ -43,39 +39,31 @@ pub(crate) trait Gives {
 
 // ---- which cells
 
-pub(crate) fn is_scalar(of: &CType) -> bool
-    ensures { result ≡ is_scalar (type_of of.now) }
+/// The type of an object.
+pub(crate) fn type_at(lowered: &Lowered, object: u32) -> Option<&CType>
+    ensures { option_map (λ t. type_of t.now) result ≡
+        type_in (slice_get (lowered_of lowered.now).objects object) }
 {
-    match of {
-        CType::Int(_) | CType::Pointer(_) => true,
-        CType::Void
-        | CType::Float(_)
-        | CType::Struct(_)
-        | CType::Array(_, _)
-        | CType::Function(_) => false,
+    match lowered.objects.get(object as usize) {
+        Some(found) => found.of.as_ref(),
+        None => None,
     }
 }
 
 /// Whether a value of the type that stands at a region has the cell.
-pub(crate) fn has_cell(lowered: &Lowered, of: &CType, region: u32, cell: u32) -> bool
-    ensures { result ≡ has_cell (lowered_of lowered.now) (Some (type_of of.now)) region cell }
+fn has_cell(lowered: &Lowered, of: Option<&CType>, region: u32, cell: u32) -> bool
+    ensures { result ≡ has_cell (lowered_of lowered.now)
+        (option_map (λ t. type_of t.now) of.entry) region cell }
 {
-    if is_scalar(of) {
-        region == cell
-    } else {
-        reaches(lowered, region, cell)
-    }
-}
-
-/// Whether an access matches in a region at the bottom of an lvalue.
-fn bottom_accepts(lowered: &Lowered, lvalue: &Lvalue, region: u32) -> bool
-    ensures { result ≡
-        bottom_accepts (terrain_of (lowered_of lowered.now)) (lvalue_of lvalue.now) region }
-{
-    match lvalue {
-        Lvalue::Direct(_, _) => true,
-        Lvalue::Through(_, access, _) => lowered.accepts(region, access),
-        Lvalue::Field(of, _, _) => bottom_accepts(lowered, of, region),
+    match of {
+        Some(of) => {
+            if is_scalar(of) {
+                region == cell
+            } else {
+                reaches(lowered, region, cell)
+            }
+        }
+        None => reaches(lowered, region, cell),
     }
 }
 
@@ -89,7 +77,12 @@ fn hits(analysis: &Analysis, to: &Lvalue, region: u32, location: u32) -> bool
     bottom_accepts(lowered, to, region)
         && {
             let cell = analysis.region(location);
-            has_cell(lowered, to.of(), region_under(lowered, to, region), cell)
+            has_cell(
+                lowered,
+                Some(to.of()),
+                region_under(lowered, to, region),
+                cell,
+            )
         }
 }
 
@@ -161,7 +154,7 @@ fn clear(analysis: &Analysis, to: &Lvalue, targets: &[Target], row: &mut [Slot],
 fn join_cell<G: Gives>(
     alloc: Global,
     analysis: &Analysis,
-    of: &CType,
+    of: Option<&CType>,
     region: u32,
     cell: u32,
     gives: &G,
@@ -172,8 +165,8 @@ fn join_cell<G: Gives>(
     requires long { length row.old ≡ length places.now }
     ensures { OnOk result ((l : ℕ) → has l places.now ≡ true → store_of places.now row.new l ≡
         slot_join (store_of places.now row.old l)
-        (cell_slot (analysed_of analysis.now) (Some (type_of of.now)) (G.slots gives.now) region l
-        cell)) }
+        (cell_slot (analysed_of analysis.now) (option_map (λ t. type_of t.now) of.entry)
+        (G.slots gives.now) region l cell)) }
 {
     if has_cell(&analysis.lowered, of, region, cell) {
         let slot = gives.slot(alloc, region, cell)?;
@@ -185,10 +178,10 @@ fn join_cell<G: Gives>(
 }
 
 /// Joins to a row what each of these cells gets.
-fn join_cells<G: Gives>(
+pub(crate) fn join_cells<G: Gives>(
     alloc: Global,
     analysis: &Analysis,
-    of: &CType,
+    of: Option<&CType>,
     region: u32,
     cells: &[u32],
     gives: &G,
@@ -199,8 +192,8 @@ fn join_cells<G: Gives>(
     requires long { length row.old ≡ length places.now }
     ensures { OnOk result ((l : ℕ) → has l places.now ≡ true → store_of places.now row.new l ≡
         slot_join (store_of places.now row.old l)
-        (joins (cell_slot (analysed_of analysis.now) (Some (type_of of.now)) (G.slots gives.now)
-        region l) cells.now)) }
+        (joins (cell_slot (analysed_of analysis.now) (option_map (λ t. type_of t.now) of.entry)
+        (G.slots gives.now) region l) cells.now)) }
 {
     for cell in cells {
         join_cell(alloc, analysis, of, region, *cell, gives, row, places)?;
@@ -228,7 +221,16 @@ fn join_target<G: Gives>(
     if bottom_accepts(&analysis.lowered, to, region) {
         let region = region_under(&analysis.lowered, to, region);
         let cells = analysis.under(region);
-        join_cells(alloc, analysis, to.of(), region, cells, gives, row, places)?;
+        join_cells(
+            alloc,
+            analysis,
+            Some(to.of()),
+            region,
+            cells,
+            gives,
+            row,
+            places,
+        )?;
         Ok(())
     } else {
         Ok(())

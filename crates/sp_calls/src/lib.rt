@@ -16,13 +16,22 @@
 //! ```
 //!
 //! The layer above uses that each of these rows is lawful in a whole analysis (`CallLaws` of
-//! `specs.Laws`, which [`calls_are_lawful`] ensures), and that [`come_from_outside`] changes a node's
-//! row of slots by exactly `from_outside`. There is no code yet for the other three.
+//! `specs.Laws`, which [`calls_are_lawful`] ensures), and that [`copy`], [`pass`], [`give_back`] and
+//! [`come_from_outside`] change a node's row of slots by exactly `copying`, `calling`, `returning` and
+//! `from_outside`.
 #![tactic(auto)]
 
+mod copied;
+mod copies;
+mod joined;
 mod laws;
 mod leaves;
 mod outside;
+mod passed;
+mod returns;
 
+pub use copies::copy;
 pub use laws::calls_are_lawful;
 pub use outside::come_from_outside;
+pub use passed::pass;
+pub use returns::give_back;

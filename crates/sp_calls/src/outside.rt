@@ -11,53 +11,87 @@ ghost use Rattle.sp_rows.specs.Rows.{applied};
 ghost use Rattle.sp_rows.specs.Setting.{count};
 ghost use Rattle.sp_rows.specs.Storing.{may_hit};
 ghost use Rattle.sp_updates.specs.Rows.{store_of};
-ghost use Rattle.sp_scenes.specs.Analysed.{setting_of};
+ghost use Rattle.sp_scenes.specs.Analysed.{setting_of, element_of};
 ghost use Rattle.sp_scenes.specs.View.{analysed_of};
 ghost use Rattle.sp_calls.specs.Copies.{leaf_destination, result_defines, is_proper_result};
-ghost use Rattle.sp_calls.specs.Outside.{foreign_as, from_outside};
+ghost use Rattle.sp_calls.specs.Outside.{written_as, every_written, foreign_as, from_outside};
 
 use crate::leaves::{Gives, store_leaves};
-use sp_entries::{foreign_type, foreign_value, site_value};
-use sp_interval::Interval;
+use sp_entries::{every_in, foreign_bytes, foreign_type, site_value};
 use sp_ir::{Lowered, Lvalue};
-use sp_lattice::{HIGHEST, LOWEST};
+use sp_puts::is_scalar;
 use sp_scenes::Analysis;
 use sp_stores::bottom_of;
 use sp_types::CType;
 use sp_value::{Slot, Value, View};
 use std::alloc::{AllocError, Global};
 
-/// Every number that is stored.
-const WHOLE: Interval = Interval::Of {
-    lo: LOWEST,
-    hi: HIGHEST,
-};
+// ---- how cells are written
 
-/// Every number, or the site, in a cell that is written with a type. Bytes may hold both.
+/// The type of the elements of a region; none of one that is kept as bytes.
+fn element_at(lowered: &Lowered, region: u32) -> Option<&CType>
+    ensures { option_map (λ t. type_of t.now) result ≡
+        element_of (lowered_of lowered.now) region }
+{
+    match lowered.regions.get(region) {
+        Some(found) => found.element.as_ref(),
+        None => None,
+    }
+}
+
+/// The type with which a cell of an lvalue is written, where its elements have one.
+fn written_as<'a>(of: &'a CType, element: Option<&'a CType>) -> Option<&'a CType>
+    ensures { option_map (λ t. type_of t.now) result ≡
+        written_as (type_of of.now) (option_map (λ t. type_of t.now) element.entry) }
+{
+    match element {
+        Some(element) => {
+            if is_scalar(of) {
+                Some(of)
+            } else {
+                Some(element)
+            }
+        }
+        None => None,
+    }
+}
+
+/// Every number of the type with which a cell of an lvalue is written.
+pub(crate) fn every_written(alloc: Global, lowered: &Lowered, to: &Lvalue, cell: u32) -> Value
+    ensures { known_of result ≡ every_written (lowered_of lowered.now) (lvalue_of to.now) cell }
+{
+    let element = element_at(lowered, cell);
+    Value::of_numbers(alloc, every_in(written_as(to.of(), element)))
+}
+
+// ---- from outside
+
+/// Every number, or the site, in a cell that is written with a type, under the region of an lvalue.
 fn foreign_as(
     alloc: Global,
-    lowered: &Lowered,
+    analysis: &Analysis,
     of: &CType,
+    region: u32,
     cell: u32,
     site: &Value,
 ) -> Result<Value, AllocError>
-    ensures { IfOk result (λ value. known_of value ≡
-        foreign_as (lowered_of lowered.now) (type_of of.now) site.now.targets cell) }
+    ensures { IfOk result (λ value. known_of value ≡ foreign_as
+        (lowered_of analysis.now.lowered) (type_of of.now) site.now.targets region cell) }
 {
-    match of {
-        CType::Pointer(_) => foreign_type(alloc, of, site),
-        CType::Int(_) => match lowered.regions.get(cell) {
-            Some(found) => match &found.element {
-                Some(_) => foreign_type(alloc, of, site),
-                None => site.with_numbers(alloc, WHOLE),
-            },
-            None => site.with_numbers(alloc, WHOLE),
-        },
-        CType::Void
-        | CType::Float(_)
-        | CType::Struct(_)
-        | CType::Array(_, _)
-        | CType::Function(_) => foreign_value(alloc, lowered, cell, site),
+    if matches!(of, CType::Pointer(_)) {
+        let value = foreign_type(alloc, of, site)?;
+        return Ok(value);
+    }
+    match written_as(of, element_at(&analysis.lowered, cell)) {
+        Some(written) => {
+            let value = foreign_type(alloc, written, site)?;
+            Ok(value)
+        }
+        None => {
+            let holds = region == cell || analysis.leaf_points(cell);
+            let value = foreign_bytes(alloc, holds, site)?;
+            Ok(value)
+        }
     }
 }
 
@@ -76,10 +110,11 @@ impl Gives for FromOutside<'_> {
     ghost use Rattle.sp_calls.specs.Outside.{foreign_leaf};
 
     ghost slots = { λ s q c. stored s.analysis.now.ladder
-        (foreign_leaf (analysed_of s.analysis.now).program (lvalue_of s.to.now) s.site.now.targets c) };
+        (foreign_leaf (analysed_of s.analysis.now).program (lvalue_of s.to.now) s.site.now.targets q
+        c) };
 
-    fn slot(&self, alloc: Global, _region: u32, cell: u32) -> Result<Slot, AllocError> {
-        let value = foreign_as(alloc, &self.analysis.lowered, self.to.of(), cell, self.site)?;
+    fn slot(&self, alloc: Global, region: u32, cell: u32) -> Result<Slot, AllocError> {
+        let value = foreign_as(alloc, self.analysis, self.to.of(), region, cell, self.site)?;
         let slot = value.stored(alloc, &self.analysis.ladder)?;
         Ok(slot)
     }

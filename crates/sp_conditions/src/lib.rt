@@ -23,3 +23,4 @@ mod sides;
 
 pub use assumes::assume;
 pub use laws::conditions_are_lawful;
+pub use sides::{direct_region, is_direct};

@@ -16,8 +16,8 @@ use sp_stores::{Scenery, location_at, region_under};
 use sp_types::CType;
 use sp_value::Value;
 
-// Whether an lvalue goes through no pointer.
-fn is_direct(lvalue: &Lvalue) -> bool
+/// Whether an lvalue goes through no pointer.
+pub fn is_direct(lvalue: &Lvalue) -> bool
     ensures { result ≡ is_direct (lvalue_of lvalue.now) }
 {
     match lvalue {
@@ -55,8 +55,8 @@ fn single<S: Scenery>(scene: &S, region: u32) -> Option<u32>
     }
 }
 
-// The region of a direct lvalue.
-fn direct_region<S: Scenery>(scene: &S, lvalue: &Lvalue) -> u32
+/// The region of a direct lvalue.
+pub fn direct_region<S: Scenery>(scene: &S, lvalue: &Lvalue) -> u32
     ensures { result ≡ region_under (S.scene scene.now).terrain (lvalue_of lvalue.now)
         (root_of (S.scene scene.now).terrain (lvalue_of lvalue.now)) }
 {

@@ -42,8 +42,8 @@ foreign-some numbers true g (Some n) h = record { numbers = test_from_formed num
 foreign-some numbers true g None h = record { numbers = test_from_formed numbers h; targets = refl; ascending = refl }
 foreign-some numbers false g site h = record { numbers = test_from_formed numbers h; targets = refl; ascending = refl }
 
-pub foreign-formed : (of : Option CType) (g : Terrain) (site : Option ℕ) → IsFormedKnown (foreign_value of (site_targets g site))
-foreign-formed of g site = foreign-some (foreign_numbers of) (pointer_element of) g site (foreign_numbers-formed of)
+pub foreign-formed : (bytes : Bool) (of : Option CType) (g : Terrain) (site : Option ℕ) → IsFormedKnown (foreign_value bytes of (site_targets g site))
+foreign-formed bytes of g site = foreign-some (foreign_numbers of) (pointer_element bytes of) g site (foreign_numbers-formed of)
 
 -- where a value goes, or nothing
 pub where-formed : (b : Bool) (v : Known) → IsFormedKnown v → IsFormedKnown (cond b v none)

@@ -3,9 +3,10 @@ pub mod JoinedLaws
 pub mod GivenLaws
 pub mod InitialLaws
 pub mod StartLaws
-mod AllLaws
+pub mod AllLaws
 mod SlotsAre
 pub mod Steps
 mod Seen
 pub mod Results
 mod Examples
+mod UnionExamples

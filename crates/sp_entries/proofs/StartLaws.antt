@@ -14,7 +14,8 @@ use Rattle.sp_value.specs.Tests.{both, first, second}
 use Rattle.sp_value.specs.KnownLaws.{known-refl, known_join-monotone}
 use Rattle.sp_value.specs.FormedLaws.{IsFormedKnown, known_join-formed, Within, within-join}
 use Rattle.sp_eval.proofs.ProperLaws.{expression-proper}
-use Rattle.sp_puts.specs.Paths.{object_at, reaches, descend, between, pointer_element, pointer_region, points_under}
+use Rattle.sp_puts.specs.Leaves.{leaf_points}
+use Rattle.sp_puts.specs.Paths.{object_at, reaches, descend, between, pointer_element, pointer_region, leaf_points_under}
 use Rattle.sp_puts.specs.Sources.{region, regions}
 use Rattle.sp_puts.specs.Puts.{is_foreign}
 use Rattle.sp_rows.specs.Rows.{Store}
@@ -74,9 +75,9 @@ module _ (a : Analysed) (is : IsScene (scene_of a)) where
 
   pub outside-formed : (r : ℕ) → IsFormedKnown (outside_at a.program r)
   outside-formed r = known_join-formed (cond (has_kind is_outside a.program r) (every_value a.program r) none)
-      (cond (is_main_formal a.program r) (foreign_value (element_of a.program r) (site_targets (terrain_of a.program) (start_site a.program))) none)
+      (cond (is_main_formal a.program r) (foreign_value (leaf_points a.program r) (element_of a.program r) (site_targets (terrain_of a.program) (start_site a.program))) none)
       (where-formed (has_kind is_outside a.program r) (every_value a.program r) (of_numbers-formed (every_in (element_of a.program r)) (every_in-formed (element_of a.program r))))
-      (where-formed (is_main_formal a.program r) (foreign_value (element_of a.program r) (site_targets (terrain_of a.program) (start_site a.program))) (foreign-formed (element_of a.program r) (terrain_of a.program) (start_site a.program)))
+      (where-formed (is_main_formal a.program r) (foreign_value (leaf_points a.program r) (element_of a.program r) (site_targets (terrain_of a.program) (start_site a.program))) (foreign-formed (leaf_points a.program r) (element_of a.program r) (terrain_of a.program) (start_site a.program)))
 
   -- ---- start values
 
@@ -89,12 +90,12 @@ module _ (a : Analysed) (is : IsScene (scene_of a)) where
     abbrev Points : ℕ → ℕ → Type 0
     Points r q = has q ((setting_of a).points_to r) ≡ true
 
-    pointer-there : (o : Option Region) → is_cell_region o ≡ true → pointer_element (element_in o) ≡ true → pointer_region o ≡ true
-    pointer-there None h g = absurd (false≢true h)
-    pointer-there (Some x) h g = g
+    pointer-there : (bytes : Bool) (o : Option Region) → is_cell_region o ≡ true → pointer_element bytes (element_in o) ≡ true → pointer_region bytes o ≡ true
+    pointer-there bytes None h g = absurd (false≢true h)
+    pointer-there bytes (Some x) h g = g
 
     -- a cell under a formal of main that may hold a pointer may point to the site
-    site-there : (r n : ℕ) → is_main_formal a.program r ≡ true → pointer_element (element_of a.program r) ≡ true → start_site a.program ≡ Some n → Points r ((terrain_of a.program).root n)
+    site-there : (r n : ℕ) → is_main_formal a.program r ≡ true → pointer_element (leaf_points a.program r) (element_of a.program r) ≡ true → start_site a.program ≡ Some n → Points r ((terrain_of a.program).root n)
     site-there r n h pointer e = by (slice_get a.program.functions a.program.main) refl (member-at (main_formals a.program) (object_at a.program r) formal)
       where
         formal : has (object_at a.program r) (main_formals a.program) ≡ true
@@ -103,9 +104,9 @@ module _ (a : Analysed) (is : IsScene (scene_of a)) where
         under : reaches a.program ((terrain_of a.program).root (object_at a.program r)) r ≡ true
         under = second (has (object_at a.program r) (main_formals a.program)) (reaches a.program ((terrain_of a.program).root (object_at a.program r)) r) h
 
-        holds : points_under a.program ((terrain_of a.program).root (object_at a.program r)) r ≡ true
-        holds = both (reaches a.program ((terrain_of a.program).root (object_at a.program r)) r) (pointer_region (slice_get a.program.regions r)) under
-            (pointer-there (slice_get a.program.regions r)
+        holds : leaf_points_under a.program ((terrain_of a.program).root (object_at a.program r)) r ≡ true
+        holds = both (reaches a.program ((terrain_of a.program).root (object_at a.program r)) r) (pointer_region (leaf_points a.program r) (slice_get a.program.regions r)) under
+            (pointer-there (leaf_points a.program r) (slice_get a.program.regions r)
             (first (is_cell_at a.program.regions r) (option_eq nat_eq (descend a.program (Some ((terrain_of a.program).root (object_at a.program r))) (between a.program ((terrain_of a.program).root (object_at a.program r)) r)) (Some r)) under) pointer)
 
         found : (i : ℕ) × (n ≡ 0 + i) × ((o : Object) × (slice_get a.program.objects i ≡ Some o) × (is_foreign o.kind 0 ≡ true))
@@ -132,19 +133,19 @@ module _ (a : Analysed) (is : IsScene (scene_of a)) where
           );
         }))
 
-    foreign-within : (r : ℕ) → is_main_formal a.program r ≡ true → Within (Points r) (foreign_value (element_of a.program r) (site_targets (terrain_of a.program) (start_site a.program))).targets
-    foreign-within r h = by (pointer_element (element_of a.program r)) refl (start_site a.program) refl
+    foreign-within : (r : ℕ) → is_main_formal a.program r ≡ true → Within (Points r) (foreign_value (leaf_points a.program r) (element_of a.program r) (site_targets (terrain_of a.program) (start_site a.program))).targets
+    foreign-within r h = by (pointer_element (leaf_points a.program r) (element_of a.program r)) refl (start_site a.program) refl
       where
-        by : (b : Bool) → pointer_element (element_of a.program r) ≡ b → (site : Option ℕ) → start_site a.program ≡ site → Within (Points r) (cond b (site_targets (terrain_of a.program) site) [])
+        by : (b : Bool) → pointer_element (leaf_points a.program r) (element_of a.program r) ≡ b → (site : Option ℕ) → start_site a.program ≡ site → Within (Points r) (cond b (site_targets (terrain_of a.program) site) [])
         by true e (Some n) f = (site-there r n h e f, tt)
         by true e None f = tt
         by false e site f = tt
 
     outside-within : (r : ℕ) → Within (Points r) (outside_at a.program r).targets
     outside-within r = within-join (Points r) (cond (has_kind is_outside a.program r) (every_value a.program r) none).targets
-        (cond (is_main_formal a.program r) (foreign_value (element_of a.program r) (site_targets (terrain_of a.program) (start_site a.program))) none).targets
+        (cond (is_main_formal a.program r) (foreign_value (leaf_points a.program r) (element_of a.program r) (site_targets (terrain_of a.program) (start_site a.program))) none).targets
         (where-within (Points r) (has_kind is_outside a.program r) (every_value a.program r) (λ h. tt))
-        (where-within (Points r) (is_main_formal a.program r) (foreign_value (element_of a.program r) (site_targets (terrain_of a.program) (start_site a.program))) (foreign-within r))
+        (where-within (Points r) (is_main_formal a.program r) (foreign_value (leaf_points a.program r) (element_of a.program r) (site_targets (terrain_of a.program) (start_site a.program))) (foreign-within r))
 
     -- ---- start values
 

@@ -1,5 +1,5 @@
 -- What commands give to cells: every number, 0, and what comes from outside.
-use Rattle.std.specs.Prelude.{ℕ, nat_eq, cond, List, [], ◌∷◌, Option, Some, None, pos}
+use Rattle.std.specs.Prelude.{ℕ, nat_eq, Bool, cond, List, [], ◌∷◌, Option, Some, None, pos}
 use Rattle.sp_types.specs.Types.{CType, integer}
 use Rattle.sp_interval.specs.declared.interval.Interval.{Interval}
 use Rattle.sp_interval.specs.declared.interval.Interval.TheVariants.{Empty}
@@ -40,10 +40,10 @@ foreign_numbers None = whole
 foreign_numbers (Some (integer k)) = every (range_of k)
 foreign_numbers (Some t) = Empty
 
--- what comes from outside to an element of this type: numbers, and the site where it may hold a
--- pointer
-abbrev pub foreign_value : Option CType → List Target → Known
-foreign_value of site = record {
+-- what comes from outside to an element of this type: numbers, and the site where it is a pointer,
+-- or is bytes that hold one
+abbrev pub foreign_value : Bool → Option CType → List Target → Known
+foreign_value bytes of site = record {
   numbers = foreign_numbers of;
-  targets = cond (pointer_element of) site [];
+  targets = cond (pointer_element bytes of) site [];
 }

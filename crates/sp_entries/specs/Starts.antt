@@ -8,6 +8,7 @@ use Rattle.sp_ir.specs.Regions.{Region}
 use Rattle.sp_ir.specs.Programs.{Lowered, Object, Code}
 use Rattle.sp_ir.specs.Terrain.{terrain_of}
 use Rattle.sp_value.specs.Known.{Known, none, known_join}
+use Rattle.sp_puts.specs.Leaves.{leaf_points}
 use Rattle.sp_puts.specs.Paths.{object_at, reaches}
 use Rattle.sp_puts.specs.Puts.{is_foreign}
 use Rattle.sp_rows.specs.Rows.{Store, Row}
@@ -79,10 +80,12 @@ start_site p = site_from 0 p.objects
 abbrev pub elsewhere_at : Lowered → ℕ → Known
 elsewhere_at p r = cond (has_kind is_outside p r) (every_value p r) none
 
--- what comes from outside, in a formal of main
+-- what comes from outside, in a formal of main: bytes hold a pointer where a leaf of the type that
+-- stands there is one
 abbrev pub passed_at : Lowered → ℕ → Known
 passed_at p r = cond (is_main_formal p r)
-    (foreign_value (element_of p r) (site_targets (terrain_of p) (start_site p))) none
+    (foreign_value (leaf_points p r) (element_of p r) (site_targets (terrain_of p) (start_site p)))
+    none
 
 abbrev pub outside_at : Lowered → ℕ → Known
 outside_at p r = known_join (elsewhere_at p r) (passed_at p r)

@@ -1,5 +1,5 @@
 //! What commands give to cells: every number, 0, and what comes from outside.
-ghost use Rattle.std.specs.Prelude.{◌≡◌, true, option_map, Some, IfOk};
+ghost use Rattle.std.specs.Prelude.{◌≡◌, true, option_map, Some, None, IfOk};
 ghost use Rattle.sp_types.specs.View.{type_of};
 ghost use Rattle.sp_interval.specs.Interval.{whole};
 ghost use Rattle.sp_interval.specs.declared.interval.Interval.TheVariants.{Empty};
@@ -36,7 +36,7 @@ pub(crate) fn zero_value(alloc: Global) -> Value
 }
 
 /// Every number that an element of this type may hold.
-fn every_in(element: Option<&CType>) -> Interval
+pub fn every_in(element: Option<&CType>) -> Interval
     ensures value { result ≡ every_in (option_map (λ t. type_of t.now) element.entry) }
     ensures ordered { is_ordered_within whole result ≡ true }
 {
@@ -47,7 +47,7 @@ fn every_in(element: Option<&CType>) -> Interval
 }
 
 /// Every number of a region's type.
-pub(crate) fn every_value(alloc: Global, lowered: &Lowered, region: u32) -> Value
+pub fn every_value(alloc: Global, lowered: &Lowered, region: u32) -> Value
     ensures { known_of result ≡ every_value (lowered_of lowered.now) region }
 {
     match lowered.regions.get(region) {
@@ -82,7 +82,7 @@ pub fn site_value(alloc: Global, lowered: &Lowered, site: Option<u32>) -> Result
 /// What comes from outside to an element of this type, where pointers point to the site.
 pub fn foreign_type(alloc: Global, of: &CType, site: &Value) -> Result<Value, AllocError>
     ensures { IfOk result (λ value. known_of value ≡
-        foreign_value (Some (type_of of.now)) site.now.targets) }
+        foreign_value true (Some (type_of of.now)) site.now.targets) }
 {
     match of {
         CType::Int(_) => Ok(Value::of_numbers(alloc, every_number(of))),
@@ -95,21 +95,35 @@ pub fn foreign_type(alloc: Global, of: &CType, site: &Value) -> Result<Value, Al
     }
 }
 
-/// What comes from outside to a region's elements, where pointers point to the site.
+/// What comes from outside to bytes, where these hold a pointer or none.
+pub fn foreign_bytes(alloc: Global, holds: bool, site: &Value) -> Result<Value, AllocError>
+    ensures { IfOk result (λ value. known_of value ≡
+        foreign_value holds None site.now.targets) }
+{
+    if holds {
+        site.with_numbers(alloc, WHOLE)
+    } else {
+        Ok(Value::of_numbers(alloc, WHOLE))
+    }
+}
+
+/// What comes from outside to a region's elements, where pointers point to the site. `bytes` says
+/// whether elements that are bytes hold a pointer.
 pub fn foreign_value(
     alloc: Global,
     lowered: &Lowered,
     region: u32,
+    bytes: bool,
     site: &Value,
 ) -> Result<Value, AllocError>
     ensures { IfOk result (λ value. known_of value ≡
-        foreign_value (element_of (lowered_of lowered.now) region) site.now.targets) }
+        foreign_value bytes (element_of (lowered_of lowered.now) region) site.now.targets) }
 {
     match lowered.regions.get(region) {
         Some(found) => match &found.element {
             Some(of) => foreign_type(alloc, of, site),
-            None => site.with_numbers(alloc, WHOLE),
+            None => foreign_bytes(alloc, bytes, site),
         },
-        None => site.with_numbers(alloc, WHOLE),
+        None => foreign_bytes(alloc, bytes, site),
     }
 }

@@ -129,7 +129,7 @@ pub(crate) fn join_initial<V: View>(
 }
 
 /// Whether an object is local to a recursive function.
-fn is_shared(analysis: &Analysis, object: u32) -> bool
+pub fn is_shared(analysis: &Analysis, object: u32) -> bool
     ensures { result ≡ is_shared (analysed_of analysis.now) object }
 {
     match analysis.lowered.objects.get(object as usize) {

@@ -27,8 +27,8 @@ mod laws;
 mod starts;
 
 pub use entries::enter;
-pub use given::{foreign_type, foreign_value, site_value};
-pub use initials::initialise;
+pub use given::{every_in, every_value, foreign_bytes, foreign_type, foreign_value, site_value};
+pub use initials::{initialise, is_shared};
 pub use joining::join_to;
 pub use laws::entries_are_lawful;
-pub use starts::begin;
+pub use starts::{begin, is_main_formal, main_formals};

@@ -33,7 +33,7 @@ use std::alloc::{AllocError, Global};
 // ---- what comes from outside
 
 /// The formals of `main`.
-fn main_formals(alloc: Global, lowered: &Lowered) -> Result<NumberSet, AllocError>
+pub fn main_formals(alloc: Global, lowered: &Lowered) -> Result<NumberSet, AllocError>
     ensures { IfOk result (λ set. (n : ℕ) →
         has n set ≡ has n (main_formals (lowered_of lowered.now))) }
 {
@@ -99,7 +99,7 @@ fn elsewhere_at(alloc: Global, lowered: &Lowered, region: u32) -> Value
 }
 
 /// Whether a cell is under a formal of `main`.
-fn is_main_formal(lowered: &Lowered, formals: &NumberSet, region: u32) -> bool
+pub fn is_main_formal(lowered: &Lowered, formals: &NumberSet, region: u32) -> bool
     requires { (n : ℕ) → has n formals.now ≡ has n (main_formals (lowered_of lowered.now)) }
     ensures { result ≡ is_main_formal (lowered_of lowered.now) region }
 {
@@ -110,18 +110,22 @@ fn is_main_formal(lowered: &Lowered, formals: &NumberSet, region: u32) -> bool
 /// What comes from outside, where a cell is under a formal of `main`.
 fn passed_at(
     alloc: Global,
-    lowered: &Lowered,
+    analysis: &Analysis,
     formals: &NumberSet,
     site: &Value,
     region: u32,
 ) -> Result<Value, AllocError>
-    requires formals { (n : ℕ) → has n formals.now ≡ has n (main_formals (lowered_of lowered.now)) }
-    requires site { site.now.targets ≡ site_targets (terrain_of (lowered_of lowered.now))
-        (start_site (lowered_of lowered.now)) }
-    ensures { IfOk result (λ value. known_of value ≡ passed_at (lowered_of lowered.now) region) }
+    requires formals { (n : ℕ) →
+        has n formals.now ≡ has n (main_formals (analysed_of analysis.now).program) }
+    requires site { site.now.targets ≡ site_targets
+        (terrain_of (analysed_of analysis.now).program)
+        (start_site (analysed_of analysis.now).program) }
+    ensures { IfOk result (λ value. known_of value ≡
+        passed_at (analysed_of analysis.now).program region) }
 {
+    let lowered = &analysis.lowered;
     if is_main_formal(lowered, formals, region) {
-        foreign_value(alloc, lowered, region, site)
+        foreign_value(alloc, lowered, region, analysis.leaf_points(region), site)
     } else {
         Ok(Value::of_numbers(alloc, Interval::Empty))
     }
@@ -147,7 +151,7 @@ fn outside_slot(
 {
     let region = analysis.region(location);
     let elsewhere = elsewhere_at(alloc, &analysis.lowered, region);
-    let passed = passed_at(alloc, &analysis.lowered, formals, site, region)?;
+    let passed = passed_at(alloc, analysis, formals, site, region)?;
     let both = elsewhere.joined(alloc, &passed)?;
     let slot = both.stored(alloc, &analysis.ladder)?;
     Ok(slot)

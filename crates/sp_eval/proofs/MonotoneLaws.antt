@@ -56,7 +56,7 @@ or_right false b h = h
 abbrev pub Implies : Bool → Bool → Type 0
 Implies a b = a ≡ true → b ≡ true
 
-has_numbers-rises : (v w : Known) → known_le v w ≡ true → Implies (has_numbers v) (has_numbers w)
+pub has_numbers-rises : (v w : Known) → known_le v w ≡ true → Implies (has_numbers v) (has_numbers w)
 has_numbers-rises v w h k = by v.numbers w.numbers (numbers_le v w h) k
   where
     by : (i j : Interval) → interval_le i j ≡ true → not (interval_le i Empty) ≡ true → not (interval_le j Empty) ≡ true
@@ -81,7 +81,7 @@ either-rises false b true d h g k = refl
 either-rises false b false d h g k = g k
 
 -- a choice rises where what is taken rises
-rising_choice : (b c : Bool) (v v' w w' : Known) → Implies b c → known_le v w ≡ true → known_le v' w' ≡ true → known_le v' w ≡ true → known_le (cond b v v') (cond c w w') ≡ true
+pub rising_choice : (b c : Bool) (v v' w w' : Known) → Implies b c → known_le v w ≡ true → known_le v' w' ≡ true → known_le v' w ≡ true → known_le (cond b v v') (cond c w w') ≡ true
 rising_choice true true v v' w w' h p q r = p
 rising_choice true false v v' w w' h p q r = absurd (false≢true (h refl))
 rising_choice false true v v' w w' h p q r = r
@@ -99,11 +99,11 @@ falling_numbers true c i j h p = refl
 falling_numbers false true i j h p = absurd (false≢true (h refl))
 falling_numbers false false i j h p = p
 
-same_choice : (b : Bool) (v v' w w' : Known) → known_le v w ≡ true → known_le v' w' ≡ true → known_le (cond b v v') (cond b w w') ≡ true
+pub same_choice : (b : Bool) (v v' w w' : Known) → known_le v w ≡ true → known_le v' w' ≡ true → known_le (cond b v v') (cond b w w') ≡ true
 same_choice true v v' w w' h g = h
 same_choice false v v' w w' h g = g
 
-same_numbers : (b : Bool) (i i' j j' : Interval) → (b ≡ true → interval_le i j ≡ true) → interval_le i' j' ≡ true → interval_le (cond b i i') (cond b j j') ≡ true
+pub same_numbers : (b : Bool) (i i' j j' : Interval) → (b ≡ true → interval_le i j ≡ true) → interval_le i' j' ≡ true → interval_le (cond b i i') (cond b j j') ≡ true
 same_numbers true i i' j j' h g = h refl
 same_numbers false i i' j j' h g = g
 
@@ -170,7 +170,7 @@ module _ (t : CType) (v w : Known) (formed : IsFormedKnown v) (h : known_le v w 
       by (structure n) = refl
       by (function s) = refl
 
-  converted-monotone : known_le (converted t v) (converted t w) ≡ true
+  pub converted-monotone : known_le (converted t v) (converted t w) ≡ true
   unfolding converted
   converted-monotone = known_made (converted t v) (converted t w) converted_numbers-monotone (by (keeps_targets t))
     where

@@ -177,7 +177,7 @@ impl AtTarget for Matching<'_> {
 
 /// What an lvalue at an address is read, written or stepped into through.
 #[tactic(auto, unfolding(crate::specs::Evaluation::matched, crate::specs::Steps::accepted))]
-pub(crate) fn matched(
+pub fn matched(
     alloc: Global,
     lowered: &Lowered,
     lvalue: &Lvalue,
@@ -194,7 +194,7 @@ pub(crate) fn matched(
 }
 
 /// The slot of a region; `None` exactly where the region is no cell.
-fn slot_at<'a, V: View>(locations: &Locations, view: &'a V, region: u32) -> Option<&'a Slot>
+pub fn slot_at<'a, V: View>(locations: &Locations, view: &'a V, region: u32) -> Option<&'a Slot>
     ensures { known_of_slot (option_map (λ s. s.now) result) ≡
         cells_at locations.now.cells.items (V.store view.entry.now) region }
 {
@@ -316,7 +316,7 @@ fn keeps_targets(to: &CType) -> bool
 
 /// A value converted to a type (C90 6.2.1.2, 6.3.4).
 #[tactic(auto, unfolding(crate::specs::Steps::converted))]
-pub(crate) fn converted(alloc: Global, to: &CType, value: &Value) -> Result<Value, AllocError>
+pub fn converted(alloc: Global, to: &CType, value: &Value) -> Result<Value, AllocError>
     ensures { IfOk result (λ result. known_of result ≡
         converted (type_of to.now) (known_of value.now)) }
 {

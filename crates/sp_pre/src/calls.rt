@@ -10,7 +10,7 @@ ghost use Rattle.sp_pre.specs.PointsTo.{AreCalls};
 
 use sp_graph::CallGraph;
 use sp_ir::Lowered;
-use sp_puts::{Facts, callees_of};
+use sp_puts::{Facts, Groups, callees_of};
 use sp_sets::NumberSet;
 use std::alloc::{AllocError, Global};
 
@@ -31,7 +31,7 @@ fn callees_at(alloc: Global, facts: &Facts<'_>, node: u32) -> Result<NumberSet, 
 pub(crate) fn calls_of(
     alloc: Global,
     lowered: &Lowered,
-    groups: &[NumberSet],
+    groups: &Groups,
     rows: &[NumberSet],
 ) -> Result<CallGraph, AllocError>
     requires formed { IsFormed (lowered_of lowered.now) }

@@ -50,6 +50,13 @@ impl PointsTo {
         }
     }
 
+    /// Where each cell may point, a set for each region.
+    pub fn rows(&self) -> &[NumberSet]
+        ensures { result.now ≡ self.now.rows }
+    {
+        self.rows.as_slice()
+    }
+
     /// The functions that each node calls.
     pub fn calls(&self) -> &CallGraph
         ensures { result.now ≡ self.now.calls }

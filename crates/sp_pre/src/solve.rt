@@ -11,7 +11,7 @@ ghost use Rattle.sp_puts.specs.Puts.{rules_of};
 ghost use Rattle.sp_puts.specs.Gathered.{Adds};
 
 use sp_ir::Lowered;
-use sp_puts::{Facts, Gathered, puts_of};
+use sp_puts::{Facts, Gathered, Groups, puts_of};
 use sp_sets::NumberSet;
 use sp_tables::{Growing, Queue, put_each, register};
 use std::alloc::{AllocError, Global};
@@ -20,7 +20,7 @@ use std::alloc::{AllocError, Global};
 pub(crate) fn least(
     alloc: Global,
     lowered: &Lowered,
-    groups: &[NumberSet],
+    groups: &Groups,
 ) -> Result<Vec<NumberSet>, AllocError>
     requires formed { IsFormed (lowered_of lowered.now) }
     requires few { length (lowered_of lowered.now).objects < 2 ^ 32 }
@@ -66,7 +66,7 @@ fn all_waiting(alloc: Global, count: u32) -> Result<Queue, AllocError>
 fn serve(
     alloc: Global,
     lowered: &Lowered,
-    groups: &[NumberSet],
+    groups: &Groups,
     growing: &mut Growing,
     node: u32,
 ) -> Result<(), AllocError>
@@ -88,7 +88,7 @@ fn serve(
 fn gather(
     alloc: Global,
     lowered: &Lowered,
-    groups: &[NumberSet],
+    groups: &Groups,
     rows: &[NumberSet],
     node: u32,
 ) -> Result<Gathered, AllocError>

@@ -1,5 +1,5 @@
 -- More in the table, more in what commands put; and what they put is there.
-use Rattle.std.proofs.Common.{◌≡◌, ◌⊎◌, inl, inr, ℕ, zero, suc, ◌<◌, Bool, true, false, cond, eqb, List, [], ◌∷◌, length, Option, Some, None, refl, sym, ap, ◌∙◌, subst, arith, eqb-true}
+use Rattle.std.proofs.Common.{◌≡◌, ◌⊎◌, inl, inr, ℕ, zero, suc, ◌<◌, Bool, true, false, cond, eqb, nat_eq, ◌||◌, List, [], ◌∷◌, length, Option, Some, None, refl, sym, ap, ◌∙◌, subst, arith, eqb-true}
 use Rattle.std.specs.Prelude.{slice_get}
 use Rattle.std.specs.List.{All}
 use Rattle.sp_ir.specs.Commands.{Expression, Lvalue, lvalue_type, Leaf, Command, start, entry, exit, skip, assign, copy, init, assume, eval, call, return, library, outside, Node}
@@ -13,13 +13,14 @@ use Rattle.sp_tables.proofs.Adding.{parts}
 use Rattle.sp_targets.proofs.Held.{regions_more, cells_more, regions_low, cells_low}
 use Rattle.sp_puts.specs.declared.sources.Test.TheVariants.{KeptScalar, AnyScalar, Aggregate}
 use Rattle.sp_puts.specs.declared.sources.Only.{Only}
-use Rattle.sp_puts.specs.declared.sources.Only.TheVariants.{Every, Texts, HeapRoots, Pointers}
+use Rattle.sp_puts.specs.declared.sources.Only.TheVariants.{Every, Texts, HeapRoots, Pointers, PointerLeaves}
 use Rattle.sp_puts.specs.declared.library.Given.{Given}
 use Rattle.sp_puts.specs.declared.library.Given.TheVariants.{Allocated, Reallocated, Argument, NoPointer}
 use Rattle.sp_puts.specs.declared.library.Moved.{Moved}
 use Rattle.sp_puts.specs.declared.library.Moved.TheVariants.{AllCells, Text, NoCells}
 use Rattle.sp_puts.specs.Paths.{mirrored, reaches, only_cell, descend, between, pointer_region}
-use Rattle.sp_puts.specs.Sources.{Base, regions, cells, region, formals, results, Source, Calls, InBase, InOnly, InEither, InSource, narrows, passes, root_where, typed_root, type_in, is_of, formal_at, result_of}
+use Rattle.sp_puts.specs.Leaves.{type_in, leaf_points}
+use Rattle.sp_puts.specs.Sources.{Base, regions, cells, region, formals, results, Source, Calls, InBase, InOnly, InEither, InSource, narrows, passes, root_where, typed_root, is_of, formal_at, result_of}
 use Rattle.sp_puts.specs.Puts.{all_of, only_of, read_of, Product, Copies, PutsLeaf, PassesAs, as_struct, struct_in, ReturnsAs, Returns, as_call, Site, First, GivesBack, GivesResult, given_by, MovesFrom, Moves, moved_by, FromOutside, Puts, command_at, command_in, rules_of}
 use Rattle.sp_puts.proofs.Cases.{there_low, some_same}
 use Rattle.sp_puts.proofs.Ranges.{is_below, cell_low, reached_low}
@@ -114,7 +115,7 @@ module _ (p : Lowered) (t u : Table) (within : Within t u) where
 
   pub puts_more : (command : Command) (c r : ℕ) → Puts p t command c r → Puts p u command c r
   puts_more start c r (inl h) = inl (record { number = h.number; object = h.object; there = h.there; puts = leaf_more h.object.start c r h.puts })
-  puts_more start c r (inr h) = inr (record { number = h.number; object = h.object; there = h.there; foreign = h.foreign; place = h.place; formal = h.formal; code = h.code; main = h.main; at = h.at; puts = product_more (only_of Pointers (region ((terrain_of p).root h.formal))) (all_of (region ((terrain_of p).root h.number))) c r h.puts })
+  puts_more start c r (inr h) = inr (record { number = h.number; object = h.object; there = h.there; foreign = h.foreign; place = h.place; formal = h.formal; code = h.code; main = h.main; at = h.at; puts = product_more (only_of PointerLeaves (region ((terrain_of p).root h.formal))) (all_of (region ((terrain_of p).root h.number))) c r h.puts })
   puts_more (entry f) c r h = h
   puts_more (exit f) c r h = h
   puts_more skip c r h = h
@@ -166,7 +167,8 @@ module _ (p : Lowered) (formed : IsFormed p) (t : Table) (low : (d q : ℕ) → 
   narrow_low Every q r h e = subst (λ x. IsLow x) (eqb-true q r (parts (eqb q r) (passes p Every q) e).0) h
   narrow_low Texts q r h e = subst (λ x. IsLow x) (eqb-true q r (parts (eqb q r) (passes p Texts q) e).0) h
   narrow_low HeapRoots q r h e = subst (λ x. IsLow x) (eqb-true q r (parts (eqb q r) (passes p HeapRoots q) e).0) h
-  narrow_low Pointers q r h e = reached_low p q r (parts (reaches p q r) (pointer_region (slice_get p.regions r)) e).0
+  narrow_low Pointers q r h e = reached_low p q r (parts (reaches p q r) (pointer_region (nat_eq q r || leaf_points p r) (slice_get p.regions r)) e).0
+  narrow_low PointerLeaves q r h e = reached_low p q r (parts (reaches p q r) (pointer_region (leaf_points p r) (slice_get p.regions r)) e).0
 
   source_low : (s : Source) (r : ℕ) → Named s.base → InSource p t s r → IsLow r
   source_low s r n h = by s.read h
@@ -274,7 +276,7 @@ module _ (p : Lowered) (formed : IsFormed p) (t : Table) (low : (d q : ℕ) → 
   -- of a command that is formed
   puts_low : (n : ℕ) (f : Option ℕ) (command : Command) → IsCommand (table_of p) p.regions n f command → (c r : ℕ) → Puts p t command c r → IsLow c × IsLow r
   puts_low n f start is c r (inl h) = leaf_low h.object.start (object_leaves h.number h.object (starts h.object.kind) (formed.objects h.number h.object h.there).start) c r h.puts
-  puts_low n f start is c r (inr h) = product_low (only_of Pointers (region ((terrain_of p).root h.formal))) (all_of (region ((terrain_of p).root h.number))) c r (root_there h.formal) (root_there h.number) h.puts
+  puts_low n f start is c r (inr h) = product_low (only_of PointerLeaves (region ((terrain_of p).root h.formal))) (all_of (region ((terrain_of p).root h.number))) c r (root_there h.formal) (root_there h.number) h.puts
   puts_low n f (entry g) is c r h = absurd h
   puts_low n f (exit g) is c r h = absurd h
   puts_low n f skip is c r h = absurd h

@@ -17,7 +17,7 @@ use Rattle.sp_sets.specs.Sets.{has}
 use Rattle.sp_sets.specs.Reached.{row}
 use Rattle.sp_tables.proofs.Adding.{parts}
 use Rattle.sp_targets.specs.Low.{IsBelow}
-use Rattle.sp_puts.specs.Paths.{step_to, descend, between, reaches, object_in, object_at, AreGroups}
+use Rattle.sp_puts.specs.Paths.{step_to, descend, between, reaches, object_in, object_at}
 use Rattle.sp_puts.proofs.Cases.{there_low, some_same}
 
 pub there_element : {A : Type 0} (xs : List A) (i : ℕ) (d : A) → i < length xs → slice_get xs i ≡ Some (get_or xs i d)
@@ -184,7 +184,8 @@ same_number (Some n) c h = ap (λ x. Some x) (eqb-true n c h)
 pub reached_low : (p : Lowered) (q c : ℕ) → reaches p q c ≡ true → c < length p.regions
 reached_low p q c h = cell_low p c (parts (is_cell_at p.regions c) (option_eq nat_eq (descend p (Some q) (between p q c)) (Some c)) h).0
 
-pub all_groups : (p : Lowered) (formed : IsFormed p) (groups : List (List ℕ)) → length groups ≡ length p.objects → ((k : ℕ) → k < length p.regions → object_at p k < length groups → has k (row groups (object_at p k)) ≡ true) → AreGroups p groups
+pub all_groups : (p : Lowered) (formed : IsFormed p) (groups : List (List ℕ)) → length groups ≡ length p.objects → ((k : ℕ) → k < length p.regions → object_at p k < length groups → has k (row groups (object_at p k)) ≡ true)
+    → (q c : ℕ) → reaches p q c ≡ true → has c (row groups (object_at p q)) ≡ true
 all_groups p formed groups long there q c h =
     let two = parts (is_cell_at p.regions c) (option_eq nat_eq (descend p (Some q) (between p q c)) (Some c)) h in
     let low = cell_low p c two.0 in

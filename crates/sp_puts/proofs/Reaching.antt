@@ -2,8 +2,7 @@
 use Rattle.std.proofs.Common.{◌≡◌, ◌∙◌, ℕ, Bool, true, false, cond, List, [], ◌∷◌, ◌++◌, length, drop, get_or, Option, Some, None, nat_eq, refl, sym, ap, append_assoc}
 use Rattle.std.specs.Prelude.{slice_get}
 use Rattle.std.specs.Option.{option_eq}
-use Rattle.std.proofs.Math.Seq.{drop-length, drop-append_seam}
-use Rattle.std.proofs.lemmas.Bool.{false≢true}
+use Rattle.std.proofs.Math.Seq.{drop-append_seam}
 use Rattle.std.proofs.lemmas.List.{append-nil}
 use Rattle.std.proofs.lemmas.List.Quantifiers.{position-Some}
 use Rattle.sp_ir.specs.declared.region.Step.{Step}
@@ -14,7 +13,7 @@ use Rattle.sp_ir.specs.Programs.{Lowered}
 use Rattle.sp_ir.specs.Terrain.{is_bytes}
 use Rattle.sp_sets.proofs.Members.{eqb-refl}
 use Rattle.sp_tables.proofs.Adding.{parts, both}
-use Rattle.sp_puts.specs.Paths.{step_to, descend, path_in, between, reaches, only_cell, mirrored}
+use Rattle.sp_puts.specs.Paths.{descend, path_in, between, reaches, only_cell, mirrored}
 use Rattle.sp_puts.proofs.Cases.{some_same}
 use Rattle.sp_puts.proofs.Ranges.{there_element, descend-none, same_number}
 

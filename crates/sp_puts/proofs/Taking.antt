@@ -7,6 +7,7 @@ use Rattle.sp_sets.proofs.Members.{eqb-refl, has_there}
 use Rattle.sp_sets.proofs.Images.{place_of}
 use Rattle.sp_tables.specs.Tables.{Table, Limited}
 use Rattle.sp_tables.specs.Growing.{in_puts}
+use Rattle.sp_puts.specs.declared.groups.Groups.{Groups}
 use Rattle.sp_puts.specs.Paths.{mirrored, reaches, pairs, object_at, AreGroups, only_cell, descend, between}
 use Rattle.sp_puts.specs.Sources.{Source, InSource}
 use Rattle.sp_puts.specs.Puts.{Copies, Corresponds}
@@ -55,7 +56,7 @@ mirrored_reaches p q s c b h = by (reaches p q c) h
     by true e = refl
     by false e = absurd (cc)
 
-pub pair_adds : (p : Lowered) (rows groups : List (List ℕ)) (a b d : Gathered) (target source : ℕ) (cells others : List ℕ) → AreGroups p groups → pairs p target source ≡ true → cells ≡ row groups (object_at p target) → others ≡ row groups (object_at p source)
+pub pair_adds : (p : Lowered) (rows : List (List ℕ)) (groups : Groups) (a b d : Gathered) (target source : ℕ) (cells others : List ℕ) → AreGroups p groups → pairs p target source ≡ true → cells ≡ row groups.objects.items (object_at p target) → others ≡ row groups.objects.items (object_at p source)
     → Adds rows (λ u c r. (k : ℕ) × (k < length cells) × Mirrors p u target source (get_or cells k 0) c r) a b
     → Adds rows (λ u c r. (k : ℕ) × (k < length others) × MirrorsBack p u target source (get_or others k 0) c r) b d
     → Adds rows (λ u c r. CopiesPair p u target source c r) a d
@@ -87,10 +88,10 @@ pair_adds p rows groups a b d target source cells others grouped fits cells_are 
       where
         by : (mirrored p target source c ≡ Some pair.cell) ⊎ (mirrored p source target pair.cell ≡ Some c) → F u c r ⊎ G u c r
         by (inl e) =
-            let at = place_of cells c (ap (λ xs. has c xs) cells_are ∙ grouped target c (mirrored_reaches p target source c pair.cell e)) in
+            let at = place_of cells c (ap (λ xs. has c xs) cells_are ∙ grouped.under target c (mirrored_reaches p target source c pair.cell e)) in
             inl (at.0, at.1, record { other = pair.cell; alike = subst (λ x. mirrored p target source x ≡ Some pair.cell) (sym at.2) e; takes = record { is = sym at.2; holds = pair.holds } })
         by (inr e) =
-            let at = place_of others pair.cell (ap (λ xs. has pair.cell xs) others_are ∙ grouped source pair.cell (mirrored_reaches p source target pair.cell c e)) in
+            let at = place_of others pair.cell (ap (λ xs. has pair.cell xs) others_are ∙ grouped.under source pair.cell (mirrored_reaches p source target pair.cell c e)) in
             inr (at.0, at.1, record { other = c; alike = subst (λ x. mirrored p source target x ≡ Some c) (sym at.2) e; takes = record { is = refl; holds = subst (λ x. has r (u x) ≡ true) (sym at.2) pair.holds } })
 
 pub copies_add : (p : Lowered) (rows : List (List ℕ)) (a b : Gathered) (to from : Source) (targets sources first second : List ℕ) → Includes a.seen first → Includes first second

@@ -4,12 +4,12 @@ use Rattle.sp_ir.specs.declared.program.ObjectKind.{ObjectKind}
 use Rattle.sp_ir.specs.Programs.{Lowered, Code}
 use Rattle.sp_ir.specs.Terrain.{terrain_of}
 use Rattle.sp_tables.specs.Tables.{Table}
-use Rattle.sp_puts.specs.declared.sources.Only.TheVariants.{Pointers}
+use Rattle.sp_puts.specs.declared.sources.Only.TheVariants.{PointerLeaves}
 use Rattle.sp_puts.specs.Sources.{region}
 use Rattle.sp_puts.specs.Puts.{all_of, only_of, Product, is_foreign}
 
 abbrev pub PutsForeignTo : Lowered → Table → ℕ → ℕ → ℕ → ℕ → Type 0
-PutsForeignTo p u number formal c r = Product p u (only_of Pointers (region ((terrain_of p).root formal))) (all_of (region ((terrain_of p).root number))) c r
+PutsForeignTo p u number formal c r = Product p u (only_of PointerLeaves (region ((terrain_of p).root formal))) (all_of (region ((terrain_of p).root number))) c r
 
 pub record PutsForeignAt (p : Lowered) (u : Table) (number : ℕ) (kind : ObjectKind) (c r : ℕ) : Type 0 where
   pub foreign : is_foreign kind 0 ≡ true

@@ -1,3 +1,4 @@
+pub mod Leaves
 pub mod Paths
 pub mod Sources
 pub mod SourceView

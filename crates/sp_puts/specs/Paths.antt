@@ -1,16 +1,19 @@
 -- Where a path leads from a region, and which cells correspond.
-use Rattle.std.specs.Prelude.{◌≡◌, ℕ, Bool, true, false, nat_eq, cond, ◌&&◌, List, [], ◌∷◌, length, drop, Option, Some, None, slice_get}
+use Rattle.std.specs.Prelude.{◌≡◌, ℕ, Bool, true, false, nat_eq, cond, ◌&&◌, ◌||◌, List, [], ◌∷◌, length, drop, Option, Some, None, slice_get}
 use Rattle.std.specs.Option.{option_eq}
-use Rattle.sp_types.specs.Types.{CType, integer, pointer}
+use Rattle.sp_types.specs.Types.{CType, integer}
 use Rattle.sp_types.specs.Layout.{integer_size}
 use Rattle.sp_ir.specs.declared.region.Step.{Step}
 use Rattle.sp_ir.specs.declared.program.ObjectKind.{ObjectKind}
 use Rattle.sp_ir.specs.declared.program.ObjectKind.TheVariants.{Heap}
 use Rattle.sp_ir.specs.Regions.{Region, child_at, is_cell_at}
 use Rattle.sp_ir.specs.Programs.{Lowered, Object}
+use Rattle.sp_ir.specs.Formed.{is_pointer}
 use Rattle.sp_ir.specs.Terrain.{is_bytes, matches}
 use Rattle.sp_sets.specs.Sets.{has}
 use Rattle.sp_sets.specs.Reached.{row}
+use Rattle.sp_puts.specs.declared.groups.Groups.{Groups}
+use Rattle.sp_puts.specs.Leaves.{leaf_points}
 
 abbrev pub option_region : Lowered → ℕ → Option Region
 option_region p r = slice_get p.regions r
@@ -61,9 +64,12 @@ object_in (Some r) = r.object
 abbrev pub object_at : Lowered → ℕ → ℕ
 object_at p q = object_in (slice_get p.regions q)
 
--- the cells under a region are in the list of its object
-abbrev pub AreGroups : Lowered → List (List ℕ) → Type 0
-AreGroups p groups = (q c : ℕ) → reaches p q c ≡ true → has c (row groups (object_at p q)) ≡ true
+-- the cells under a region are in the list of its object, and just these regions have a leaf that
+-- is a pointer
+pub record AreGroups (p : Lowered) (groups : Groups) : Type 0 where
+  pub under : (q c : ℕ) → reaches p q c ≡ true
+      → has c (row groups.objects.items (object_at p q)) ≡ true
+  pub pointers : (c : ℕ) → has c groups.pointers ≡ leaf_points p c
 
 -- ---- what a region is
 
@@ -94,19 +100,26 @@ text_region (Some r) = text_element r.element
 abbrev pub is_text : Lowered → ℕ → Bool
 is_text p r = text_region (slice_get p.regions r)
 
--- a pointer, or bytes
-abbrev pub pointer_element : Option CType → Bool
-pointer_element None = true
-pointer_element (Some (pointer t)) = true
-pointer_element (Some t) = false
+-- a pointer, or bytes where it is said that they hold one
+abbrev pub pointer_element : Bool → Option CType → Bool
+pointer_element bytes None = bytes
+pointer_element bytes (Some t) = is_pointer t
 
-abbrev pub pointer_region : Option Region → Bool
-pointer_region None = false
-pointer_region (Some r) = pointer_element r.element
+abbrev pub pointer_region : Bool → Option Region → Bool
+pointer_region bytes None = false
+pointer_region bytes (Some r) = pointer_element bytes r.element
 
--- a cell under the region q that may hold a pointer
+-- A cell under the region q that may hold a pointer, where a value with one comes to q from
+-- outside. It is of pointer type, or it is kept as bytes. Then it is q, to which all leaves go, or a
+-- leaf of the type that stands there is a pointer.
 abbrev pub points_under : Lowered → ℕ → ℕ → Bool
-points_under p q c = reaches p q c && pointer_region (slice_get p.regions c)
+points_under p q c = reaches p q c
+    && pointer_region (nat_eq q c || leaf_points p c) (slice_get p.regions c)
+
+-- the same, where what comes has the type that stands at q
+abbrev pub leaf_points_under : Lowered → ℕ → ℕ → Bool
+leaf_points_under p q c = reaches p q c
+    && pointer_region (leaf_points p c) (slice_get p.regions c)
 
 abbrev pub is_heap_kind : ObjectKind → Bool
 is_heap_kind (Heap n) = true

@@ -13,7 +13,7 @@ use Rattle.sp_sets.specs.Sets.{has}
 use Rattle.sp_tables.specs.Tables.{Table}
 use Rattle.sp_puts.specs.declared.sources.Test.TheVariants.{KeptScalar, AnyScalar, Aggregate}
 use Rattle.sp_puts.specs.declared.sources.Only.{Only}
-use Rattle.sp_puts.specs.declared.sources.Only.TheVariants.{Every, Texts, HeapRoots, Pointers}
+use Rattle.sp_puts.specs.declared.sources.Only.TheVariants.{Every, Texts, HeapRoots, Pointers, PointerLeaves}
 use Rattle.sp_puts.specs.declared.library.Given.{Given}
 use Rattle.sp_puts.specs.declared.library.Given.TheVariants.{Allocated, Reallocated, Argument, NoPointer}
 use Rattle.sp_puts.specs.declared.library.Moved.{Moved}
@@ -93,7 +93,7 @@ pub record PutsForeign (p : Lowered) (u : Table) (c r : ℕ) : Type 0 where
   pub code : Code
   pub main : slice_get p.functions p.main ≡ Some code
   pub at : slice_get code.formals place ≡ Some formal
-  pub puts : Product p u (only_of Pointers (region ((terrain_of p).root formal))) (all_of (region ((terrain_of p).root number))) c r
+  pub puts : Product p u (only_of PointerLeaves (region ((terrain_of p).root formal))) (all_of (region ((terrain_of p).root number))) c r
 
 -- ---- calls (C90 6.3.2.2)
 

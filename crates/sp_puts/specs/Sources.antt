@@ -2,7 +2,7 @@
 use Rattle.std.specs.Prelude.{◌≡◌, ℕ, Bool, true, false, nat_eq, cond, ◌&&◌, Option, Some, None, slice_get}
 use Rattle.sp_types.specs.Types.{CType, structure}
 use Rattle.sp_ir.specs.Commands.{Expression, Lvalue}
-use Rattle.sp_ir.specs.Programs.{Lowered, Object, Code}
+use Rattle.sp_ir.specs.Programs.{Lowered, Code}
 use Rattle.sp_ir.specs.Formed.{is_scalar}
 use Rattle.sp_ir.specs.Terrain.{terrain_of}
 use Rattle.sp_ir.specs.Functions.{function_at}
@@ -12,8 +12,9 @@ use Rattle.sp_tables.specs.Tables.{Table}
 use Rattle.sp_puts.specs.declared.sources.Test.{Test}
 use Rattle.sp_puts.specs.declared.sources.Test.TheVariants.{KeptScalar, AnyScalar, Aggregate}
 use Rattle.sp_puts.specs.declared.sources.Only.{Only}
-use Rattle.sp_puts.specs.declared.sources.Only.TheVariants.{Every, Texts, HeapRoots, Pointers}
-use Rattle.sp_puts.specs.Paths.{is_text, is_heap_root, points_under}
+use Rattle.sp_puts.specs.declared.sources.Only.TheVariants.{Every, Texts, HeapRoots, Pointers, PointerLeaves}
+use Rattle.sp_puts.specs.Leaves.{type_in}
+use Rattle.sp_puts.specs.Paths.{is_text, is_heap_root, points_under, leaf_points_under}
 
 -- ---- formals and results
 
@@ -23,10 +24,6 @@ is_of KeptScalar t = is_scalar t && keeps_targets t
 is_of AnyScalar t = is_scalar t
 is_of (Aggregate n) (structure k) = nat_eq n k
 is_of (Aggregate n) t = false
-
-abbrev pub type_in : Option Object → Option CType
-type_in None = None
-type_in (Some o) = o.of
 
 abbrev pub typed_root : Lowered → Test → ℕ → Option CType → Option ℕ
 typed_root p test o None = None
@@ -79,15 +76,17 @@ InBase p u (results callee count test) r = (f : ℕ) × Calls p u callee count f
     × (root_where p test (result_of p f) ≡ Some r)
 
 -- what is taken of a region: itself; where it is text; where it is the whole of what was allocated;
--- the cells under it that may hold a pointer
+-- the cells under it that hold a pointer, where one comes from outside; those with such a leaf
 abbrev pub passes : Lowered → Only → ℕ → Bool
 passes p Every q = true
 passes p Texts q = is_text p q
 passes p HeapRoots q = is_heap_root p q
 passes p Pointers q = false
+passes p PointerLeaves q = false
 
 abbrev pub narrows : Lowered → Only → ℕ → ℕ → Bool
 narrows p Pointers q r = points_under p q r
+narrows p PointerLeaves q r = leaf_points_under p q r
 narrows p Every q r = nat_eq q r && passes p Every q
 narrows p Texts q r = nat_eq q r && passes p Texts q
 narrows p HeapRoots q r = nat_eq q r && passes p HeapRoots q

@@ -14,6 +14,10 @@
 //!                       what was allocated
 //! ```
 //!
+//! A value that comes from outside has the call's site in each leaf that is a pointer. A union is
+//! one cell with the leaves of its first member, so it gets the site where one of these is a pointer
+//! (`leaf_points` of `specs.Leaves`). [`groups_of`] finds such cells once for a program.
+//!
 //! The rules ask only what the rows have, never what they lack. So more in the rows is no less in the
 //! puts (`proofs.Putting`). The cells that were looked at are gathered too: a worklist needs just
 //! that. This is Andersen's
@@ -24,6 +28,8 @@
 mod commands;
 mod facts;
 mod gathered;
+mod groups;
+mod leaves;
 mod library;
 mod paths;
 mod rules;
@@ -31,8 +37,10 @@ mod sources;
 mod structs;
 
 pub use commands::{callees_of, puts_of};
-pub use facts::{Facts, groups_of};
+pub use facts::Facts;
 pub use gathered::Gathered;
+pub use groups::{Groups, groups_of};
 pub use library::{Given, Moved};
 pub use paths::{mirrored, object_at, reaches, under};
-pub use sources::{Only, Test};
+pub use sources::{Only, Test, is_of, is_scalar, result_of};
+pub use structs::{as_struct, struct_at};

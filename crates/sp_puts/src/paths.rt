@@ -1,12 +1,12 @@
 //! Where paths lead, and what regions are.
-ghost use Rattle.std.specs.Prelude.{◌≡◌, ◌&&◌, ◌≤◌, ℕ, true, false, length, drop, take, Option, Some, None, option_map};
+ghost use Rattle.std.specs.Prelude.{◌≡◌, ◌&&◌, ◌||◌, ◌≤◌, ℕ, true, false, length, drop, take, Option, Some, None, option_map};
 ghost use Rattle.sp_ir.specs.Programs.{lowered_of};
 ghost use Rattle.sp_sets.specs.Sets.{has};
 ghost use Rattle.sp_sets.specs.Reached.{row};
-ghost use Rattle.sp_puts.specs.Paths.{step_to, next, descend, path_in, between, reaches, only_cell, mirrored, object_at, pairs, is_text, pointer_element, pointer_region, points_under, is_heap_root, is_heap_object, is_heap_kind, option_region, option_object};
+ghost use Rattle.sp_puts.specs.Paths.{step_to, next, descend, path_in, between, reaches, only_cell, mirrored, object_at, pairs, is_text, pointer_element, AreGroups, pointer_region, points_under, leaf_points_under, is_heap_root, is_heap_object, is_heap_kind, option_region, option_object};
 
+use crate::groups::Groups;
 use sp_ir::{Lowered, ObjectKind, Step, matches};
-use sp_sets::NumberSet;
 use sp_types::{CType, IntKind};
 
 fn step_to(lowered: &Lowered, region: u32, step: Step) -> Option<u32>
@@ -115,11 +115,12 @@ pub fn object_at(lowered: &Lowered, region: u32) -> u32
     }
 }
 
-/// What may be under a region, where these are the regions of each object.
-pub fn under<'a>(lowered: &Lowered, groups: &'a [NumberSet], region: u32) -> &'a [u32]
-    ensures { result.now ≡ row groups.now (object_at (lowered_of lowered.now) region) }
+/// What may be under a region: all of its object.
+pub fn under<'a>(lowered: &Lowered, groups: &'a Groups, region: u32) -> &'a [u32]
+    ensures { result.now ≡
+        row groups.now.objects.items (object_at (lowered_of lowered.now) region) }
 {
-    match groups.get(object_at(lowered, region) as usize) {
+    match groups.objects.get(object_at(lowered, region) as usize) {
         Some(group) => group.as_slice(),
         None => &[],
     }
@@ -158,24 +159,36 @@ pub(crate) fn is_text(lowered: &Lowered, region: u32) -> bool
     }
 }
 
-fn is_pointer(lowered: &Lowered, region: u32) -> bool
-    ensures { result ≡ pointer_region (option_region (lowered_of lowered.now) region) }
+/// Whether a region's elements are pointers, or are bytes and these hold one.
+fn is_pointer(lowered: &Lowered, region: u32, bytes: bool) -> bool
+    ensures { result ≡ pointer_region bytes (option_region (lowered_of lowered.now) region) }
 {
     match lowered.regions.get(region) {
         None => false,
         Some(found) => match &found.element {
-            None => true,
-            Some(CType::Pointer(_)) => true,
-            Some(_) => false,
+            None => bytes,
+            Some(of) => matches!(of, CType::Pointer(_)),
         },
     }
 }
 
-/// Whether a cell under a region may hold a pointer.
-pub(crate) fn points_under(lowered: &Lowered, region: u32, cell: u32) -> bool
+/// Whether a cell under a region may hold a pointer, where a value with one comes to the region
+/// from outside.
+pub(crate) fn points_under(lowered: &Lowered, groups: &Groups, region: u32, cell: u32) -> bool
+    requires { AreGroups (lowered_of lowered.now) groups.now }
     ensures { result ≡ points_under (lowered_of lowered.now) region cell }
 {
-    reaches(lowered, region, cell) && is_pointer(lowered, cell)
+    let bytes = region == cell || groups.pointers.has(cell);
+    reaches(lowered, region, cell) && is_pointer(lowered, cell, bytes)
+}
+
+/// Whether a cell under a region may hold a pointer by its type.
+pub(crate) fn leaf_points_under(lowered: &Lowered, groups: &Groups, region: u32, cell: u32) -> bool
+    requires { AreGroups (lowered_of lowered.now) groups.now }
+    ensures { result ≡ leaf_points_under (lowered_of lowered.now) region cell }
+{
+    let bytes = groups.pointers.has(cell);
+    reaches(lowered, region, cell) && is_pointer(lowered, cell, bytes)
 }
 
 fn is_heap(kind: ObjectKind) -> bool

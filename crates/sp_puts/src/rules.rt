@@ -66,7 +66,7 @@ pub(crate) fn product_to(
     Ok(())
 }
 
-/// One region goes to every cell under another that may hold a pointer.
+/// One region goes to every cell under another that may hold a pointer by its type.
 pub(crate) fn pointers_from(
     alloc: Global,
     facts: &Facts<'_>,
@@ -74,10 +74,10 @@ pub(crate) fn pointers_from(
     from: u32,
     out: &mut Gathered,
 ) -> Result<(), AllocError>
-    ensures { OnOk result (Adds facts.now.rows.now (λ u c r. Product (lowered_of facts.now.lowered.now) u (only_of Only.Pointers (region to)) (all_of (region from)) c r) out.old out.new) }
+    ensures { OnOk result (Adds facts.now.rows.now (λ u c r. Product (lowered_of facts.now.lowered.now) u (only_of Only.PointerLeaves (region to)) (all_of (region from)) c r) out.old out.new) }
 {
     let above = one_region(alloc, to)?;
-    let rows = narrowed(alloc, facts, Only::Pointers, &above)?;
+    let rows = narrowed(alloc, facts, Only::PointerLeaves, &above)?;
     let numbers = one_region(alloc, from)?;
     out.put(rows, numbers)?;
     Ok(())

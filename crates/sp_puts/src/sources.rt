@@ -6,13 +6,13 @@ ghost use Rattle.sp_ir.specs.View.{expression_of, lvalue_of};
 ghost use Rattle.sp_ir.specs.Formed.{is_scalar};
 ghost use Rattle.sp_ir.specs.Functions.{function_at};
 ghost use Rattle.sp_sets.specs.Sets.{has, Includes, Images, Gains};
-ghost use Rattle.sp_puts.specs.Sources.{is_of, type_in, typed_root, root_where, formal_at, result_of, narrows, Calls, InBase, InSource};
+ghost use Rattle.sp_puts.specs.Sources.{is_of, typed_root, root_where, formal_at, result_of, narrows, Calls, InBase, InSource};
 ghost use Rattle.sp_puts.specs.SourceView.{base_of, source_of};
 ghost use Rattle.sp_puts.specs.Gathered.{Finds};
-ghost use Rattle.sp_puts.specs.Paths.{points_under};
+ghost use Rattle.sp_puts.specs.Paths.{points_under, leaf_points_under};
 
 use crate::facts::Facts;
-use crate::paths::{is_heap_root, is_text, points_under, under};
+use crate::paths::{is_heap_root, is_text, leaf_points_under, points_under, under};
 use sp_ir::{Expr, Lowered, Lvalue};
 use sp_sets::NumberSet;
 use sp_targets::{cells, contents, keeps_targets, regions};
@@ -39,8 +39,10 @@ pub enum Only {
     Texts,
     /// The region where it is the whole of what the library allocated.
     HeapRoots,
-    /// The cells under it that may hold a pointer.
+    /// The cells under it that may hold a pointer, where a value with one comes from outside.
     Pointers,
+    /// The cells under it that may hold a pointer by their types.
+    PointerLeaves,
 }
 
 /// Regions that an expression or an lvalue tells.
@@ -64,7 +66,8 @@ pub(crate) struct Source<'a> {
     pub(crate) read: bool,
 }
 
-fn is_scalar(of: &CType) -> bool
+/// Whether a type is of integers or pointers.
+pub fn is_scalar(of: &CType) -> bool
     ensures { result ≡ is_scalar (type_of of.now) }
 {
     match of {
@@ -77,7 +80,8 @@ fn is_scalar(of: &CType) -> bool
     }
 }
 
-fn is_of(test: Test, of: &CType) -> bool
+/// Whether a type passes.
+pub fn is_of(test: Test, of: &CType) -> bool
     ensures { result ≡ is_of test (type_of of.now) }
 {
     match test {
@@ -128,7 +132,7 @@ fn formal_at(lowered: &Lowered, function: u32, place: usize) -> Option<u32>
 }
 
 /// The object of a function's result.
-fn result_of(lowered: &Lowered, function: u32) -> Option<u32>
+pub fn result_of(lowered: &Lowered, function: u32) -> Option<u32>
     ensures { result ≡ result_of (lowered_of lowered.now) function }
 {
     let code = lowered.functions.get(function as usize)?;
@@ -202,15 +206,34 @@ fn add_if(set: &mut NumberSet, number: u32, passes: bool) -> Result<(), AllocErr
 
 /// Adds the cells among these that are under a region and may hold a pointer.
 fn add_pointers(
-    lowered: &Lowered,
+    facts: &Facts<'_>,
     set: &mut NumberSet,
     region: u32,
     cells: &[u32],
 ) -> Result<(), AllocError>
-    ensures { OnOk result ((c : ℕ) → has c set.new ≡ (has c set.old || (has c cells.now && points_under (lowered_of lowered.now) region c))) }
+    ensures { OnOk result ((c : ℕ) → has c set.new ≡ (has c set.old
+        || (has c cells.now && points_under (lowered_of facts.now.lowered.now) region c))) }
 {
     for cell in cells {
-        if points_under(lowered, region, *cell) {
+        if points_under(facts.lowered, facts.groups, region, *cell) {
+            set.add(*cell)?;
+        }
+    }
+    Ok(())
+}
+
+/// The same of those that may hold a pointer by their types.
+fn add_pointer_leaves(
+    facts: &Facts<'_>,
+    set: &mut NumberSet,
+    region: u32,
+    cells: &[u32],
+) -> Result<(), AllocError>
+    ensures { OnOk result ((c : ℕ) → has c set.new ≡ (has c set.old
+        || (has c cells.now && leaf_points_under (lowered_of facts.now.lowered.now) region c))) }
+{
+    for cell in cells {
+        if leaf_points_under(facts.lowered, facts.groups, region, *cell) {
             set.add(*cell)?;
         }
     }
@@ -232,7 +255,11 @@ fn narrow_one(
         Only::HeapRoots => add_if(set, region, is_heap_root(facts.lowered, region))?,
         Only::Pointers => {
             let cells = under(facts.lowered, facts.groups, region);
-            add_pointers(facts.lowered, set, region, cells)?;
+            add_pointers(facts, set, region, cells)?;
+        }
+        Only::PointerLeaves => {
+            let cells = under(facts.lowered, facts.groups, region);
+            add_pointer_leaves(facts, set, region, cells)?;
         }
     }
     Ok(())

@@ -35,7 +35,7 @@ fn struct_in(of: &CType) -> Option<u32>
 }
 
 /// The struct that an lvalue is.
-pub(crate) fn struct_at(lvalue: &Lvalue) -> Option<u32>
+pub fn struct_at(lvalue: &Lvalue) -> Option<u32>
     ensures { result ≡ struct_in (lvalue_type (lvalue_of lvalue.now)) }
 {
     struct_in(type_at(lvalue))
@@ -49,7 +49,7 @@ pub(crate) fn keeps(lvalue: &Lvalue) -> bool
 }
 
 /// The struct that an expression is, and the lvalue that it is read from.
-pub(crate) fn as_struct(expr: &Expr) -> Option<(u32, &Lvalue)>
+pub fn as_struct(expr: &Expr) -> Option<(u32, &Lvalue)>
     ensures { option_map (λ x. (x.0, lvalue_of x.1.now)) result ≡ as_struct (expression_of expr.now) }
 {
     match expr {

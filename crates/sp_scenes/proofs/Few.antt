@@ -19,7 +19,7 @@ grows xs rises (suc k) low =
     subst (λ j. suc k ≤ get_or xs j 0) next (omega (arith, before, step))
 
 -- an ascending list of numbers below n has at most n
-ascending-few : (xs : List ℕ) (n : ℕ) → IsStrictlyIncreasing xs → ((x : ℕ) → has x xs ≡ true → x < n) → length xs ≤ n
+pub ascending-few : (xs : List ℕ) (n : ℕ) → IsStrictlyIncreasing xs → ((x : ℕ) → has x xs ≡ true → x < n) → length xs ≤ n
 ascending-few xs n rises low = by (length xs) refl
   where
     by : (m : ℕ) → length xs ≡ m → length xs ≤ n

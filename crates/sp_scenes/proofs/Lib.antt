@@ -3,4 +3,4 @@ pub mod Closed
 pub mod AllLaws
 mod Finding
 mod Past
-mod Few
+pub mod Few

@@ -1,36 +1,40 @@
 //! An analysed program.
-ghost use Rattle.std.specs.Prelude.{◌≡◌, ◌<◌, ◌^◌, length};
+ghost use Rattle.std.specs.Prelude.{◌≡◌, ◌<◌, ◌^◌, false, length};
 ghost use Rattle.std.proofs.Props.{props};
 ghost use Rattle.sp_lattice.specs.Ladder.{IsLadder, IsLadder-prop};
 ghost use Rattle.sp_ir.specs.Programs.{lowered_of};
 ghost use Rattle.sp_puts.specs.Paths.{AreGroups};
+ghost use Rattle.sp_graph.specs.Supergraph.{IsSupergraph};
 ghost use Rattle.sp_scenes.specs.Analysed.{analysed, locations_of};
 ghost use Rattle.sp_scenes.specs.Whole.{IsAnalysed};
 
 use crate::cells::locations_of;
 use crate::summaries::{is_integer, is_summary};
+use sp_graph::{Flow, supergraph};
 use sp_ir::Lowered;
 use sp_lattice::Ladder;
 use sp_pre::{PointsTo, points_to};
-use sp_puts::{groups_of, under};
-use sp_sets::NumberSet;
+use sp_puts::{Groups, groups_of, under};
 use sp_stores::Scenery;
 use sp_value::Locations;
 use std::alloc::{AllocError, Global};
 
-/// A formed program, and what is known of it before any effect. The groups are the regions of each
-/// object.
+/// A formed program, and what is known of it before any effect: where cells may point, the
+/// supergraph, the locations, and the ladder. The groups are the regions of each object, and those
+/// with a leaf that is a pointer.
 #[derive(Drop)]
 pub struct Analysis {
     pub lowered: Lowered,
     pub pre: PointsTo,
+    pub flow: Flow,
     pub locations: Locations,
-    pub groups: Vec<NumberSet>,
+    pub groups: Groups,
     pub ladder: Ladder,
     ghost cells: { locations.cells.items ≡ locations_of (lowered_of lowered) } by { Prim.hlevel props },
     ghost points: { IsLadder ladder } by { IsLadder-prop ladder },
-    ghost grouped: { AreGroups (lowered_of lowered) groups.items },
+    ghost grouped: { AreGroups (lowered_of lowered) groups },
     ghost few: { length (lowered_of lowered).objects < 2 ^ 32 },
+    ghost graphed: { ∥ IsSupergraph (lowered_of lowered) pre.calls false flow ∥₁ },
     ghost whole: { ∥ IsAnalysed (analysed (lowered_of lowered) pre ladder) ∥₁ },
 }
 
@@ -38,6 +42,7 @@ impl Analysis {
     ghost use Rattle.std.specs.Prelude.{IfOk, ◌≡◌, ℕ, true};
     ghost use Rattle.sp_sets.specs.Sets.{has};
     ghost use Rattle.sp_ir.specs.Formed.{IsFormed};
+    ghost use Rattle.sp_puts.specs.Leaves.{leaf_points};
     ghost use Rattle.sp_puts.specs.Paths.{reaches};
     ghost use Rattle.sp_rows.specs.Setting.{count, cell_of};
     ghost use Rattle.sp_scenes.specs.Analysed.{setting_of};
@@ -49,6 +54,7 @@ impl Analysis {
         ensures { IfOk result (λ analysis. lowered_of analysis.lowered ≡ lowered_of lowered) }
     {
         let pre = points_to(alloc, &lowered)?;
+        let flow = supergraph(alloc, &lowered, pre.calls())?;
         let locations = locations_of(alloc, &lowered)?;
         let groups = groups_of(alloc, &lowered)?;
         let ladder = Ladder::new(alloc, lowered.constants.as_slice())?;
@@ -56,6 +62,7 @@ impl Analysis {
         Ok(Analysis {
             lowered,
             pre,
+            flow,
             locations,
             groups,
             ladder,
@@ -68,6 +75,13 @@ impl Analysis {
             → has c result.now ≡ true }
     {
         under(&self.lowered, &self.groups, region)
+    }
+
+    /// Whether a leaf of the type that stands at a region is a pointer.
+    pub fn leaf_points(&self, region: u32) -> bool
+        ensures { result ≡ leaf_points (analysed_of self.now).program region }
+    {
+        self.groups.pointers.has(region)
     }
 
     /// The region of a location.

@@ -30,7 +30,7 @@ use Rattle.sp_stores.specs.Destinations.{bottom_of, bottom_regions, is_direct, d
 use Rattle.sp_stores.specs.Laws.{IsAssignClosed, AssignLaws}
 
 module _ (c : Scene) (is : IsScene c) where
-  bottom-monotone : (s t : Store) → BelowStore c.setting s t → (p : Lvalue) → is_proper_lvalue p ≡ true → known_le (bottom_of c.terrain (known_in_regions c s) p) (bottom_of c.terrain (known_in_regions c t) p) ≡ true
+  pub bottom-monotone : (s t : Store) → BelowStore c.setting s t → (p : Lvalue) → is_proper_lvalue p ≡ true → known_le (bottom_of c.terrain (known_in_regions c s) p) (bottom_of c.terrain (known_in_regions c t) p) ≡ true
   bottom-monotone s t below (direct o u) h = known-refl (of_target (whole_of c.terrain (c.terrain.root o)))
   bottom-monotone s t below (through e u at) h = value-monotone c.terrain is.terrain (known_in_regions c s) (known_in_regions c t) (cells-formed c.setting is.setting s) (cells-monotone c.setting is.setting s t below) e h
   bottom-monotone s t below (field p k u) h = bottom-monotone s t below p h
@@ -40,13 +40,13 @@ module _ (c : Scene) (is : IsScene c) where
   bottom-within s under (through e u at) = value-within c.terrain c.setting.points_to (known_in_regions c s) (cells-within c.setting is.setting s under) e
   bottom-within s under (field p k u) = bottom-within s under p
 
-  bottom-agrees : (s t : Store) → UnderCeiling c.setting s → (p : Lvalue) → ((r : ℕ) → has r (pointer_uses c.terrain c.setting.points_to p) ≡ true → known_in_regions c s r ≡ known_in_regions c t r) → bottom_of c.terrain (known_in_regions c s) p ≡ bottom_of c.terrain (known_in_regions c t) p
+  pub bottom-agrees : (s t : Store) → UnderCeiling c.setting s → (p : Lvalue) → ((r : ℕ) → has r (pointer_uses c.terrain c.setting.points_to p) ≡ true → known_in_regions c s r ≡ known_in_regions c t r) → bottom_of c.terrain (known_in_regions c s) p ≡ bottom_of c.terrain (known_in_regions c t) p
   bottom-agrees s t under (direct o u) h = refl
   bottom-agrees s t under (through e u at) h = value-agrees c.terrain c.setting.points_to (known_in_regions c s) (known_in_regions c t) (cells-within c.setting is.setting s under) e h
   bottom-agrees s t under (field p k u) h = bottom-agrees s t under p h
 
   -- a direct lvalue has one target, in its root
-  direct-one : (s : Store) (p : Lvalue) → is_direct p ≡ true → (x : Target) × ((bottom_of c.terrain (known_in_regions c s) p).targets ≡ x ∷ []) × (bottom_regions c.terrain c.setting.points_to p ≡ x.region ∷ [])
+  pub direct-one : (s : Store) (p : Lvalue) → is_direct p ≡ true → (x : Target) × ((bottom_of c.terrain (known_in_regions c s) p).targets ≡ x ∷ []) × (bottom_regions c.terrain c.setting.points_to p ≡ x.region ∷ [])
   direct-one s (direct o u) h = (whole_of c.terrain (c.terrain.root o), refl, refl)
   direct-one s (through e u at) h = absurd (false≢true h)
   direct-one s (field p k u) h = direct-one s p h

@@ -55,8 +55,8 @@ pub fn region_under(lowered: &Lowered, lvalue: &Lvalue, region: u32) -> u32
     }
 }
 
-// Whether an access matches in a region at the bottom.
-fn bottom_accepts(lowered: &Lowered, lvalue: &Lvalue, region: u32) -> bool
+/// Whether an access matches in a region at the bottom of an lvalue.
+pub fn bottom_accepts(lowered: &Lowered, lvalue: &Lvalue, region: u32) -> bool
     ensures { result ≡
         bottom_accepts (terrain_of (lowered_of lowered.now)) (lvalue_of lvalue.now) region }
 {

@@ -20,6 +20,6 @@ mod laws;
 mod scene;
 
 pub use assigns::assign;
-pub use destinations::{Into, bottom_of, location_at, region_under};
+pub use destinations::{Into, bottom_accepts, bottom_of, location_at, region_under};
 pub use laws::assignments_are_lawful;
 pub use scene::Scenery;

@@ -23,6 +23,7 @@ mod stores;
 mod updates;
 mod views;
 
+pub use places::find_place;
 pub use placing::place;
 pub use stores::store;
 pub use updates::{Reach, join_at, join_where_hit, put_at};

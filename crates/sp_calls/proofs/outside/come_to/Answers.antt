@@ -1,14 +1,22 @@
-use Rattle.std.proofs.Common.{ℕ, ap, refl}
+use Rattle.std.proofs.Common.{ℕ, List, ap, ◌∙◌}
+use Rattle.sp_ir.specs.Terrain.{terrain_of}
 use Rattle.sp_ir.specs.View.{lvalue_of}
+use Rattle.sp_value.specs.declared.targets.Target.{Target}
 use Rattle.sp_value.specs.Known.{Known}
 use Rattle.sp_value.specs.Slots.{known_of}
+use Rattle.sp_value.specs.Held.{stored}
 use Rattle.sp_updates.specs.Rows.{store_of}
 use Rattle.sp_scenes.specs.View.{analysed_of}
-use Rattle.sp_calls.proofs.OutsideSteps.{came-row}
+use Rattle.sp_entries.specs.Given.{site_targets}
+use Rattle.sp_calls.specs.Outside.{foreign_leaf}
+use Rattle.sp_calls.proofs.StoringSteps.{stored-row}
 use Rattle.sp_calls.proofs.outside.come_to.Goals as goal
 
 pub returns : goal.returns
 returns g c = λ l h.
-    came-row (analysed_of c.args.analysis.now) (lvalue_of c.args.to.now) c.args.site (λ n. g.V.View.store c.args.view.now n) (λ (n : ℕ). store_of c.args.places.now c.args.row.now n) l (store_of c.args.places.now c.store_leaves.new.row l)
-    c.args.analysis.now.locations.cells.items c.as_slice-targets.result.now c.in_ok-site.site.targets (known_of c.in_ok-bottom.bottom) (known_of c.in_ok-site.site)
-    c.args.analysis.now.cells c.in_ok-bottom.ensures c.as_slice-targets.ensures (ap (λ (v : Known). v.targets) c.in_ok-site.ensures) refl (c.in_ok-store_leaves.ensures l h)
+    let a = analysed_of c.args.analysis.now in
+    stored-row a (lvalue_of c.args.to.now) (λ s q k. foreign_leaf a.program (lvalue_of c.args.to.now) (site_targets (terrain_of a.program) c.args.site) q k)
+    (λ q k. stored a.ladder (foreign_leaf a.program (lvalue_of c.args.to.now) c.in_ok-site.site.targets q k)) (λ n. g.V.View.store c.args.view.now n) (λ (n : ℕ). store_of c.args.places.now c.args.row.now n) l
+    (store_of c.args.places.now c.store_leaves.new.row l) c.args.analysis.now.locations.cells.items c.as_slice-targets.result.now (known_of c.in_ok-bottom.bottom)
+    c.args.analysis.now.cells c.in_ok-bottom.ensures c.as_slice-targets.ensures
+    (λ q k. ap (λ (v : Known). stored a.ladder (foreign_leaf a.program (lvalue_of c.args.to.now) v.targets q k)) c.in_ok-site.ensures) (c.in_ok-store_leaves.ensures l h)

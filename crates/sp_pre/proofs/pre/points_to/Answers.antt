@@ -9,7 +9,7 @@ pub returns : goal.returns
 returns c =
     let p = lowered_of c.args.lowered.now in
     let rows = c.in_ok-rows.rows.items in
-    let calls = subst (λ rs. AreCalls p (row rs) c.in_ok-calls.calls) c.deref-3.ensures.value c.in_ok-calls.ensures in
+    let calls = subst (λ rs. AreCalls p (row rs) c.in_ok-calls.calls) c.deref.ensures.value c.in_ok-calls.ensures in
     record {
       least = c.in_ok-rows.ensures.least;
       ascending = c.in_ok-rows.ensures.ascending;

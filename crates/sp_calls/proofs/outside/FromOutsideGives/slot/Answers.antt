@@ -6,4 +6,4 @@ use Rattle.sp_calls.proofs.outside.FromOutsideGives.slot.Goals as goal
 
 pub returns : goal.returns
 returns c = c.in_ok-slot.ensures
-    ∙ ap (stored c.args.self.now.analysis.now.ladder) (c.in_ok-value.ensures ∙ ap (λ t. foreign_as (lowered_of c.args.self.now.analysis.now.lowered) t c.args.self.now.site.now.targets c.args.cell) c.of.ensures)
+    ∙ ap (stored c.args.self.now.analysis.now.ladder) (c.in_ok-value.ensures ∙ ap (λ t. foreign_as (lowered_of c.args.self.now.analysis.now.lowered) t c.args.self.now.site.now.targets c.args.region c.args.cell) c.of.ensures)

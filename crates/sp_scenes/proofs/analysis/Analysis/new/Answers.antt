@@ -1,7 +1,8 @@
-use Rattle.std.proofs.Common.{subst}
+use Rattle.std.proofs.Common.{false, subst}
 use Rattle.sp_lattice.specs.Ladder.{IsLadderOf}
 use Rattle.sp_ir.specs.Programs.{lowered_of}
 use Rattle.sp_sets.specs.Reached.{row}
+use Rattle.sp_graph.specs.Supergraph.{IsSupergraph}
 use Rattle.sp_scenes.specs.Cells.{rising}
 use Rattle.sp_scenes.proofs.Past.{objects-few}
 use Rattle.sp_scenes.proofs.analysis.Analysis.new.Goals as goal
@@ -14,6 +15,7 @@ invariant_of-result c = record {
   cells = c.in_ok-locations.ensures;
   points = c.points-points.ensures.ladder;
   grouped = c.in_ok-groups.ensures;
+  graphed = ∣ subst (λ calls. IsSupergraph (lowered_of c.args.lowered) calls false c.in_ok-flow.flow) c.calls.ensures c.in_ok-flow.ensures ∣₁;
   few = objects-few (lowered_of c.args.lowered) c.requires;
   whole = ∣ record {
     formed = c.requires;

@@ -3,7 +3,7 @@ use Rattle.sp_ir.specs.Programs.{lowered_of}
 use Rattle.sp_sets.specs.Sets.{has}
 use Rattle.sp_sets.specs.Reached.{row}
 use Rattle.sp_puts.specs.Paths.{object_at}
-use Rattle.sp_puts.proofs.facts.groups_of.Given as goal
+use Rattle.sp_puts.proofs.groups.by_object.Given as goal
 
 abbrev pub invariant-loop-region : goal.invariant-loop-region
 invariant-loop-region l = record {

@@ -2,7 +2,7 @@ use Rattle.std.proofs.Common.{◌∙◌, ℕ, List, length, [], ap, sym, arith}
 use Rattle.std.proofs.lemmas.List.{length-map, length-replicate}
 use Rattle.sp_ir.specs.Programs.{lowered_of, object_of}
 use Rattle.sp_puts.proofs.Ranges.{all_groups}
-use Rattle.sp_puts.proofs.facts.groups_of.Goals as goal
+use Rattle.sp_puts.proofs.groups.by_object.Goals as goal
 
 pub returns : goal.returns
 returns c =
