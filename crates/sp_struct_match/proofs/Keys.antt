@@ -1,19 +1,18 @@
 -- Structs that agree have the same keys, and what is found under a key.
-use Rattle.std.proofs.Common.{◌≡◌, ◌≢◌, ℕ, zero, suc, ◌+◌, ◌*◌, ◌%◌, ◌^◌, Bool, true, false, ◌&&◌, ◌==◌, filter, cond, if◌then◌else◌, List, [], ◌∷◌, ◌++◌, Option, Some, None, is_some, refl, ap, sym, subst, ◌∙◌, true≢false, eqb-true, eq-eqb}
+use Rattle.std.proofs.Common.{◌≡◌, ℕ, ◌+◌, ◌*◌, ◌%◌, ◌^◌, Bool, true, false, ◌&&◌, ◌==◌, filter, cond, if◌then◌else◌, List, [], ◌∷◌, ◌++◌, Option, Some, None, is_some, refl, ap, sym, ◌∙◌, true≢false, eqb-true, eq-eqb}
 use mathlib.Core.Bool.{beq}
 use Rattle.std.specs.Option.{option_eq}
 use Rattle.sp_types.specs.Types.{CType, Struct}
 use Rattle.sp_types.specs.Compatible.{same_flag}
 use Rattle.sp_struct_agree.specs.Agreement.{compatible_by, members_agree, contents_agree, same_head}
-use Rattle.sp_struct_agree.specs.Depths.{struct_at, found_agree, agrees_within, Agree}
-use Rattle.sp_struct_agree.specs.Inner.{same_entity}
-use Rattle.sp_struct_match.specs.Matched.{has_members, is_complete, heads_agree, IsFirst, Follows, leads}
+use Rattle.sp_struct_agree.specs.Depths.{struct_at, found_agree}
+use Rattle.sp_struct_match.specs.Joined.{has_members, is_complete}
+use Rattle.sp_struct_match.specs.Matched.{heads_agree}
 use Rattle.std.specs.Prelude.{Vec}
 use Rattle.std.specs.declared.alloc.Global.{Global}
 use Rattle.indexmap.specs.IndexMap.{get}
-use Rattle.sp_struct_match.specs.Groups.{Key, items_of, same_key, name_mark, members_mark, full_key, head_key, group, AreLeaders}
+use Rattle.sp_struct_match.specs.Groups.{Key, items_of, same_key, name_mark, members_mark, full_key, head_key, group, of_key, AreGroups}
 use Rattle.sp_struct_match.specs.declared.groups.Groups.{Groups}
-use Rattle.sp_struct_match.proofs.Firsts.{first_filtered}
 use Rattle.sp_struct_match.proofs.Tests.{and_left, and_right, both}
 
 -- ---- keys
@@ -59,7 +58,7 @@ key_is k j h =
     λ i. (a i, b i, c i)
 
 -- a list of a key with one more
-pub group_grown : (old new : Groups) (key : Key) (item : (ℕ × ℕ) × (ℕ × ℕ)) (v : Vec ((ℕ × ℕ) × (ℕ × ℕ)) Global)
+pub group_grown : (old new : Groups) (key : Key) (item : ℕ × ℕ) (v : Vec (ℕ × ℕ) Global)
     → v.items ≡ group old key ++ item ∷ []
     → ((q : Key) → get same_key new.lists q ≡ cond (same_key key q) (Some v) (get same_key old.lists q))
     → (k : Key) → group new k ≡ (if same_key key k then group old k ++ item ∷ [] else group old k)
@@ -74,7 +73,7 @@ twice true x y z = refl
 twice false x y z = refl
 
 -- a list of a key that is taken out and put back with one more
-pub group_put : (old out new : Groups) (key : Key) (item : (ℕ × ℕ) × (ℕ × ℕ)) (v : Vec ((ℕ × ℕ) × (ℕ × ℕ)) Global)
+pub group_put : (old out new : Groups) (key : Key) (item : ℕ × ℕ) (v : Vec (ℕ × ℕ) Global)
     → v.items ≡ group old key ++ item ∷ []
     → ((q : Key) → get same_key out.lists q ≡ cond (same_key key q) None (get same_key old.lists q))
     → ((q : Key) → get same_key new.lists q ≡ cond (same_key key q) (Some v) (get same_key out.lists q))
@@ -105,7 +104,7 @@ tags s t h = tag_is s.tag t.tag (and_left (option_eq (λ n m. n == m) s.tag t.ta
 pub kinds : (s t : Struct) → same_head s t ≡ true → s.union ≡ t.union
 kinds s t h = flag_is s.union t.union (and_right (option_eq (λ n m. n == m) s.tag t.tag) (same_flag s.union t.union) h)
 
-full_keys : (agree : ℕ → ℕ → Bool) (s t : Option Struct) → has_members s ≡ true → has_members t ≡ true → found_agree agree s t ≡ true → full_key t ≡ full_key s
+pub full_keys : (agree : ℕ → ℕ → Bool) (s t : Option Struct) → has_members s ≡ true → has_members t ≡ true → found_agree agree s t ≡ true → full_key t ≡ full_key s
 full_keys agree None t p q g = absurd (true≢false (sym p))
 full_keys agree (Some s) None p q g = absurd (true≢false (sym q))
 full_keys agree (Some s) (Some t) p q g =
@@ -144,25 +143,6 @@ none_alike s (Some t) p = absurd (true≢false p)
 none_alike None None p = refl
 none_alike (Some s) None p = refl
 
--- to one level
-abbrev level : List (List Struct) → ℕ × ℕ → ℕ × ℕ → ℕ → ℕ → Bool
-level us x y k j = agrees_within zero us (x.0, k) (y.0, j)
-
--- ---- what is found
-
-module _ (us : List (List Struct)) (of : ℕ × ℕ) (ps : List ((ℕ × ℕ) × (ℕ × ℕ))) (g : Groups) where
-  pub leaders_first : (r : Option ((ℕ × ℕ) × (ℕ × ℕ))) → is_complete us of ≡ true → AreLeaders us ps g
-      → IsFirst (λ p. Agree us p.0 of) (group g (full_key (struct_at us of))) r → IsFirst (Follows us of) ps r
-  leaders_first r complete leaders h =
-      first_filtered (λ p. Agree us p.0 of) (Follows us of)
-      (λ p. leads us p && same_key (full_key (struct_at us p.0)) (full_key (struct_at us of)))
-      (λ p t j. (and_left (leads us p) (same_key (full_key (struct_at us p.0)) (full_key (struct_at us of))) t, j))
-      (λ p q.
-      let e : full_key (struct_at us of) ≡ full_key (struct_at us p.0) = full_keys (level us p.0 of) (struct_at us p.0) (struct_at us of) (and_left (is_complete us p.0) (same_entity p.1 p.0) q.0) complete (q.1 (suc zero)) in
-      (both q.0 (subst (λ k. same_key k (full_key (struct_at us of)) ≡ true) e (key_self (full_key (struct_at us of)))), q.1))
-      ps r
-      (subst (λ xs. IsFirst (λ p. Agree us p.0 of) xs r) (leaders (full_key (struct_at us of))) h)
-
 -- ---- one more
 
 filter_pushed : {A : Type 0} (test : A → Bool) (xs : List A) (x : A) → filter test (xs ++ x ∷ []) ≡ (if test x then filter test xs ++ x ∷ [] else filter test xs)
@@ -176,18 +156,18 @@ filter_pushed test (y ∷ ys) x = by (test y) (test x) (filter_pushed test ys x)
     by false true e = e
     by false false e = e
 
-module _ (us : List (List Struct)) (p : (ℕ × ℕ) × (ℕ × ℕ)) (old new : Groups) where
-  pub leaders_more : leads us p ≡ true
-      → ((k : Key) → group new k ≡ (if same_key (full_key (struct_at us p.0)) k then group old k ++ p ∷ [] else group old k))
-      → (ps : List ((ℕ × ℕ) × (ℕ × ℕ))) → AreLeaders us ps old → AreLeaders us (ps ++ p ∷ []) new
-  leaders_more s new_is ps leaders k =
+module _ (us : List (List Struct)) (p : ℕ × ℕ) (old new : Groups) where
+  pub groups_more : is_complete us p ≡ true
+      → ((k : Key) → group new k ≡ (if same_key (full_key (struct_at us p)) k then group old k ++ p ∷ [] else group old k))
+      → (xs : List (ℕ × ℕ)) → AreGroups us xs old → AreGroups us (xs ++ p ∷ []) new
+  groups_more s new_is xs groups k =
       new_is k
-      ∙ ap (λ xs. if same_key (full_key (struct_at us p.0)) k then xs ++ p ∷ [] else xs) (leaders k)
-      ∙ ap (λ b. if b && same_key (full_key (struct_at us p.0)) k then filter (λ p. leads us p && same_key (full_key (struct_at us p.0)) k) ps ++ p ∷ [] else filter (λ p. leads us p && same_key (full_key (struct_at us p.0)) k) ps) (sym s)
-      ∙ sym (filter_pushed (λ p. leads us p && same_key (full_key (struct_at us p.0)) k) ps p)
+      ∙ ap (λ ys. if same_key (full_key (struct_at us p)) k then ys ++ p ∷ [] else ys) (groups k)
+      ∙ ap (λ b. if b && same_key (full_key (struct_at us p)) k then of_key us k xs ++ p ∷ [] else of_key us k xs) (sym s)
+      ∙ sym (filter_pushed (λ x. is_complete us x && same_key (full_key (struct_at us x)) k) xs p)
 
-pub leaders_same : (us : List (List Struct)) (p : (ℕ × ℕ) × (ℕ × ℕ)) (g : Groups) → leads us p ≡ false → (ps : List ((ℕ × ℕ) × (ℕ × ℕ))) → AreLeaders us ps g → AreLeaders us (ps ++ p ∷ []) g
-leaders_same us p g s ps leaders k =
-    leaders k
-    ∙ ap (λ b. if b && same_key (full_key (struct_at us p.0)) k then filter (λ p. leads us p && same_key (full_key (struct_at us p.0)) k) ps ++ p ∷ [] else filter (λ p. leads us p && same_key (full_key (struct_at us p.0)) k) ps) (sym s)
-    ∙ sym (filter_pushed (λ p. leads us p && same_key (full_key (struct_at us p.0)) k) ps p)
+pub groups_same : (us : List (List Struct)) (p : ℕ × ℕ) (g : Groups) → is_complete us p ≡ false → (xs : List (ℕ × ℕ)) → AreGroups us xs g → AreGroups us (xs ++ p ∷ []) g
+groups_same us p g s xs groups k =
+    groups k
+    ∙ ap (λ b. if b && same_key (full_key (struct_at us p)) k then of_key us k xs ++ p ∷ [] else of_key us k xs) (sym s)
+    ∙ sym (filter_pushed (λ x. is_complete us x && same_key (full_key (struct_at us x)) k) xs p)

@@ -1,10 +1,13 @@
-pub mod Compared
 pub mod Firsts
+pub mod Joining
 pub mod Keys
+pub mod Leading
 pub mod Lookups
+pub mod Members
 pub mod Namesakes
 pub mod NumberLaws
 pub mod Numbered
 pub mod OneUnit
+pub mod Order
 pub mod Standing
 pub mod Tests

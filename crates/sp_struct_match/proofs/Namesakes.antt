@@ -5,9 +5,9 @@ use Rattle.sp_types.specs.Types.{Struct}
 use Rattle.sp_struct_agree.specs.Depths.{struct_at}
 use Rattle.sp_struct_match.specs.Matched.{first_where, are_namesakes}
 use Rattle.sp_struct_match.specs.Groups.{Key, same_key, head_key}
-use Rattle.sp_struct_match.specs.Turns.{has_head, is_apart, AreFirsts, AreSeconds, IsHeads, elsewhere_from, elsewhere_by}
+use Rattle.sp_struct_match.specs.Turns.{has_head, is_apart, AreFirsts, IsHeads, elsewhere_from, elsewhere_by}
 use Rattle.sp_struct_match.specs.declared.heads.Heads.{Heads}
-use Rattle.sp_struct_match.proofs.Keys.{key_is, key_self, heads_same, none_alike}
+use Rattle.sp_struct_match.proofs.Keys.{key_is, heads_same, none_alike}
 use Rattle.sp_struct_match.proofs.Lookups.{or_else}
 
 -- ---- firsts of a list

@@ -1,5 +1,5 @@
 -- Each struct of a unit has a number of the program, and the struct there is it or agrees with it.
-use Rattle.std.proofs.Common.{◌≡◌, ℕ, zero, suc, ◌+◌, ◌<◌, Bool, true, false, not, ◌&&◌, ◌==◌, cond, if◌then◌else◌, filter, map, List, [], ◌∷◌, ◌++◌, length, Option, Some, None, is_some, ◌⊎◌, inl, inr, refl, ap, sym, subst, ◌∙◌, true≢false, arith}
+use Rattle.std.proofs.Common.{◌≡◌, ℕ, zero, suc, ◌+◌, Bool, true, false, not, ◌&&◌, ◌==◌, cond, if◌then◌else◌, filter, map, List, [], ◌∷◌, ◌++◌, Option, Some, None, is_some, ◌⊎◌, inl, inr, refl, ap, sym, subst, ◌∙◌, true≢false, arith}
 use Rattle.std.specs.Prelude.{slice_get, slice_index_or, unwrap_or}
 use Rattle.std.specs.List.{position_from}
 use Rattle.std.specs.Map.{lookup}
@@ -10,95 +10,14 @@ use Rattle.sp_struct_agree.specs.Agreement.{contents_agree, same_head}
 use Rattle.sp_struct_agree.specs.Depths.{struct_of_table, struct_at, found_agree, agrees_within, Agree}
 use Rattle.sp_struct_agree.specs.Inner.{same_entity}
 use Rattle.sp_matching.specs.Matching.{Matching}
-use Rattle.sp_struct_match.specs.Matched.{of_unit, of_units, has_members, is_complete, in_turn, heads_agree, are_namesakes, first_where, first_namesake, first_elsewhere, compared, stand_in, complete_stand_in, stand_in_of, open_stand_in, final_stand_in, stand_ins, representatives, number_among, numbers_of_units, matched, AreMatched}
-use Rattle.sp_struct_match.specs.Laws.{StructsAreNumbered, StructsAreThere}
-use Rattle.sp_struct_match.proofs.Compared.{compared_complete}
+use Rattle.sp_struct_match.specs.Joined.{has_members, is_complete, Joined}
+use Rattle.sp_struct_match.specs.Matched.{of_unit, of_units, in_turn, heads_agree, are_namesakes, first_where, first_namesake, first_elsewhere, AreLeaders, IsFirst, stand_in, stand_in_of, open_stand_in, final_stand_in, stand_ins, representatives, number_among, numbers_of_units, matched}
+use Rattle.sp_struct_match.specs.Laws.{number_of, StructsAreNumbered, JoinedAreOne, StructsAreThere}
+use Rattle.sp_struct_match.proofs.Joining.{joined_on, joined_back, joined_keeps}
 use Rattle.sp_struct_match.proofs.Keys.{tags, kinds}
-use Rattle.sp_struct_match.proofs.Standing.{Pair, AreLedWell, led_well, complete_cases, complete_self}
-use Rattle.sp_struct_match.proofs.Tests.{and_left, and_right, both, entity_is, entity_self}
-
-some_is : {A : Type 0} (x y : A) → Some x ≡ Some y → x ≡ y
-some_is x y e = cc
-
-kept_left : {A : Type 0} (zs ys : List A) (x : A) (i : ℕ) → slice_get zs i ≡ Some x → slice_get (zs ++ ys) i ≡ Some x
-kept_left [] ys x i e = absurd (cc)
-kept_left (z ∷ zs) ys x zero e = e
-kept_left (z ∷ zs) ys x (suc i) e = kept_left zs ys x i e
-
--- x is in the list
-abbrev Has : {A : Type 0} → List A → A → Type 0
-Has xs x = (i : ℕ) × (slice_get xs i ≡ Some x)
-
-has_left : {A : Type 0} (xs ys : List A) (x : A) → Has xs x → Has (xs ++ ys) x
-has_left xs ys x w = (w.0, kept_left xs ys x w.0 w.1)
-
-has_right : {A : Type 0} (xs ys : List A) (x : A) → Has ys x → Has (xs ++ ys) x
-has_right [] ys x w = w
-has_right (z ∷ zs) ys x w = let v : Has (zs ++ ys) x = has_right zs ys x w in (suc v.0, v.1)
-
-has_either : {A : Type 0} (xs ys : List A) (x : A) (i : ℕ) → slice_get (xs ++ ys) i ≡ Some x → Has xs x ⊎ Has ys x
-has_either [] ys x i e = inr (i, e)
-has_either (z ∷ zs) ys x zero e = inl (zero, e)
-has_either (z ∷ zs) ys x (suc i) e = by (has_either zs ys x i e)
-  where
-    by : Has zs x ⊎ Has ys x → Has (z ∷ zs) x ⊎ Has ys x
-    by (inl w) = inl (suc w.0, w.1)
-    by (inr w) = inr w
-
-has_filtered : {A : Type 0} (test : A → Bool) (xs : List A) (x : A) (j : ℕ) → slice_get xs j ≡ Some x → test x ≡ true → Has (filter test xs) x
-has_filtered test [] x j e t = absurd (cc)
-has_filtered test (y ∷ ys) x zero e t =
-    let same : y ≡ x = some_is y x e in
-    (zero, ap (λ b. slice_get (cond b (y ∷ filter test ys) (filter test ys)) zero) (subst (λ z. test z ≡ true) (sym same) t) ∙ e)
-has_filtered test (y ∷ ys) x (suc j) e t = by (test y) (has_filtered test ys x j e t)
-  where
-    by : (b : Bool) → Has (filter test ys) x → Has (cond b (y ∷ filter test ys) (filter test ys)) x
-    by true w = (suc w.0, w.1)
-    by false w = w
-
-filtered_passes : {A : Type 0} (test : A → Bool) (xs : List A) (x : A) (i : ℕ) → slice_get (filter test xs) i ≡ Some x → test x ≡ true
-filtered_passes test [] x i e = absurd (cc)
-filtered_passes test (y ∷ ys) x i e = by (test y) refl i e (λ k g. filtered_passes test ys x k g)
-  where
-    by : (b : Bool) → test y ≡ b → (i : ℕ) → slice_get (cond b (y ∷ filter test ys) (filter test ys)) i ≡ Some x → ((k : ℕ) → slice_get (filter test ys) k ≡ Some x → test x ≡ true) → test x ≡ true
-    by true t zero e ih = subst (λ z. test z ≡ true) (some_is y x e) t
-    by true t (suc i) e ih = ih i e
-    by false t i e ih = ih i e
-
--- ---- the list of all structs
-
-at_unit : (u k : ℕ) (ss : List Struct) (j : ℕ) (s : Struct) → slice_get ss j ≡ Some s → slice_get (of_unit u k ss) j ≡ Some (u, k + j)
-at_unit u k [] j s e = absurd (cc)
-at_unit u k (t ∷ ts) zero s e = let same : k ≡ k + 0 = omega arith in λ i. Some (u, same i)
-at_unit u k (t ∷ ts) (suc j) s e = let same : suc k + j ≡ k + suc j = omega arith in at_unit u (suc k) ts j s e ∙ (λ i. Some (u, same i))
-
-in_units : (a : ℕ) (us : List (List Struct)) (i : ℕ) (ss : List Struct) (k : ℕ) (s : Struct) → slice_get us i ≡ Some ss → slice_get ss k ≡ Some s → Has (of_units a us) (a + i, k)
-in_units a [] i ss k s e g = absurd (cc)
-in_units a (ts ∷ us) zero ss k s e g =
-    let same : ts ≡ ss = some_is ts ss e in
-    let left : a ≡ a + 0 = omega arith in
-    let right : 0 + k ≡ k = omega arith in
-    has_left (of_unit a 0 ts) (of_units (suc a) us) (a + 0, k)
-    (k, at_unit a 0 ts k s (subst (λ z. slice_get z k ≡ Some s) (sym same) g) ∙ (λ i. Some (left i, right i)))
-in_units a (ts ∷ us) (suc i) ss k s e g =
-    let next : suc a + i ≡ a + suc i = omega arith in
-    has_right (of_unit a 0 ts) (of_units (suc a) us) (a + suc i, k)
-    (subst (λ z. Has (of_units (suc a) us) (z, k)) next (in_units (suc a) us i ss k s e g))
-
-pub there_in : (us : List (List Struct)) (x : ℕ × ℕ) → is_some (struct_at us x) ≡ true → Has (of_units 0 us) x
-there_in us x h = table (slice_get us x.0) refl h
-  where
-    entry : (ss : List Struct) (o : Option Struct) → slice_get us x.0 ≡ Some ss → slice_get ss x.1 ≡ o → is_some o ≡ true → Has (of_units 0 us) x
-    entry ss None e g p = absurd (true≢false (sym p))
-    entry ss (Some s) e g p = let left : 0 + x.0 ≡ x.0 = omega arith in subst (λ z. Has (of_units 0 us) (z, x.1)) left (in_units 0 us x.0 ss x.1 s e g)
-
-    table : (o : Option (List Struct)) → slice_get us x.0 ≡ o → is_some (struct_of_table o x.1) ≡ true → Has (of_units 0 us) x
-    table None e p = absurd (true≢false (sym p))
-    table (Some ss) e p = entry ss (slice_get ss x.1) e refl p
-
-complete_there : (s : Option Struct) → has_members s ≡ true → is_some s ≡ true
-complete_there None h = absurd (true≢false (sym h))
-complete_there (Some s) h = refl
+use Rattle.sp_struct_match.proofs.Members.{Has, some_is, has_either, has_filtered, filtered_passes, at_unit, there_in, complete_there, of_filtered, from_units}
+use Rattle.sp_struct_match.proofs.Standing.{leader_joined, leader_complete, leader_self, joined_one}
+use Rattle.sp_struct_match.proofs.Tests.{and_left, both, entity_is, entity_self}
 
 head_there : (s t : Option Struct) → heads_agree s t ≡ true → is_some s ≡ true
 head_there None t h = absurd (true≢false (sym h))
@@ -112,6 +31,13 @@ same_heads r (Some s) None h = absurd (true≢false (sym h))
 same_heads None (Some s) (Some t) h = refl
 same_heads (Some r) (Some s) (Some t) h =
     λ i. option_eq (λ n m. n == m) r.tag (tags s t h i) && same_flag r.union (kinds s t h i)
+
+heads_left : (s t x : Option Struct) → heads_agree s t ≡ true → heads_agree s x ≡ heads_agree t x
+heads_left None t x h = absurd (true≢false (sym h))
+heads_left (Some s) None x h = absurd (true≢false (sym h))
+heads_left (Some s) (Some t) None h = refl
+heads_left (Some s) (Some t) (Some x) h =
+    λ i. option_eq (λ n m. n == m) (tags s t h i) x.tag && same_flag (kinds s t h i) x.union
 
 contents_open : (agree : ℕ → ℕ → Bool) (ms ks : Option (List (ℕ × CType))) → is_some ks ≡ false → contents_agree agree ms ks ≡ true
 contents_open agree None ks h = refl
@@ -180,48 +106,41 @@ module _ (us : List (List Struct)) (test : ℕ × ℕ → Bool) (z : ℕ × ℕ)
 
 -- ---- what stands for a struct
 
--- it stands for itself, and is the struct or agrees with it
-pub record StandsFor (us : List (List Struct)) (ls : List Pair) (x r : ℕ × ℕ) : Type 0 where
-  pub self : final_stand_in us ls r ≡ r
-  pub related : (r ≡ x) ⊎ (Agree us r x × (is_complete us x ≡ true → is_complete us r ≡ true))
+-- structs that are joined have the same namesakes
+joined_heads : (us : List (List Struct)) (y z x : ℕ × ℕ) → Joined us y z → are_namesakes us y x ≡ are_namesakes us z x
+joined_heads us y z x j =
+    joined_keeps us (λ w. are_namesakes us w x)
+    (λ v w s. heads_left (struct_at us v) (struct_at us w) (struct_at us x) (agree_heads us v w s.3)) y z j
 
-module _ (us : List (List Struct)) (ls : List Pair) (well : AreLedWell us ls) where
-  of_complete : (x : ℕ × ℕ) → is_complete us x ≡ true → final_stand_in us ls x ≡ complete_stand_in ls x
-  of_complete x e = ap (λ b. if b then complete_stand_in ls x else open_stand_in us ls x (first_elsewhere us x)) e
+-- It stands for itself. It leads the struct where that has members; else it is the struct or agrees with it.
+pub record StandsFor (us : List (List Struct)) (leader : ℕ × ℕ → ℕ × ℕ) (x r : ℕ × ℕ) : Type 0 where
+  pub self : final_stand_in us leader r ≡ r
+  pub leads : is_complete us x ≡ true → r ≡ leader x
+  pub related : is_complete us x ≡ false → (r ≡ x) ⊎ Agree us r x
 
-  of_open : (x : ℕ × ℕ) → is_complete us x ≡ false → final_stand_in us ls x ≡ open_stand_in us ls x (first_elsewhere us x)
-  of_open x e = ap (λ b. if b then complete_stand_in ls x else open_stand_in us ls x (first_elsewhere us x)) e
+module _ (us : List (List Struct)) (leader : ℕ × ℕ → ℕ × ℕ) (leaders : AreLeaders us leader) where
+  of_complete : (x : ℕ × ℕ) → is_complete us x ≡ true → final_stand_in us leader x ≡ leader x
+  of_complete x e = ap (λ b. if b then leader x else open_stand_in us leader x (first_elsewhere us x)) e
 
-  stays_complete : (x : ℕ × ℕ) → is_complete us x ≡ true → is_complete us (complete_stand_in ls x) ≡ true
-  stays_complete x full = by (complete_cases us ls well x)
-    where
-      by : (complete_stand_in ls x ≡ x) ⊎ (Agree us (complete_stand_in ls x) x × (is_complete us (complete_stand_in ls x) ≡ true)) → is_complete us (complete_stand_in ls x) ≡ true
-      by (inl same) = ap (is_complete us) same ∙ full
-      by (inr w) = w.1
+  of_open : (x : ℕ × ℕ) → is_complete us x ≡ false → final_stand_in us leader x ≡ open_stand_in us leader x (first_elsewhere us x)
+  of_open x e = ap (λ b. if b then leader x else open_stand_in us leader x (first_elsewhere us x)) e
 
-  complete_own : (y : ℕ × ℕ) → is_complete us y ≡ true → final_stand_in us ls (complete_stand_in ls y) ≡ complete_stand_in ls y
-  complete_own y full = of_complete (complete_stand_in ls y) (stays_complete y full) ∙ complete_self us ls well y
+  complete_own : (y : ℕ × ℕ) → is_complete us y ≡ true → final_stand_in us leader (leader y) ≡ leader y
+  complete_own y full = of_complete (leader y) (leader_complete us leader leaders y full) ∙ leader_self us leader leaders y full
 
-  for_complete : (x : ℕ × ℕ) → is_complete us x ≡ true → StandsFor us ls x (complete_stand_in ls x)
-  for_complete x full = record { self = complete_own x full; related = by (complete_cases us ls well x) }
-    where
-      by : (complete_stand_in ls x ≡ x) ⊎ (Agree us (complete_stand_in ls x) x × (is_complete us (complete_stand_in ls x) ≡ true))
-          → (complete_stand_in ls x ≡ x) ⊎ (Agree us (complete_stand_in ls x) x × (is_complete us x ≡ true → is_complete us (complete_stand_in ls x) ≡ true))
-      by (inl same) = inl same
-      by (inr w) = inr (w.0, λ f. w.1)
+  for_complete : (x : ℕ × ℕ) → is_complete us x ≡ true → StandsFor us leader x (leader x)
+  for_complete x full = record { self = complete_own x full; leads = λ f. refl; related = λ f. absurd (true≢false (sym full ∙ f)) }
 
   -- of a namesake with members
-  for_namesake : (x y : ℕ × ℕ) → is_complete us x ≡ false → is_complete us y ≡ true → are_namesakes us y x ≡ true → StandsFor us ls x (complete_stand_in ls y)
-  for_namesake x y bare full same = record { self = complete_own y full; related = inr (by (complete_cases us ls well y), λ f. absurd (true≢false (sym f ∙ bare))) }
-    where
-      by : (complete_stand_in ls y ≡ y) ⊎ (Agree us (complete_stand_in ls y) y × (is_complete us (complete_stand_in ls y) ≡ true)) → Agree us (complete_stand_in ls y) x
-      by (inl e) = subst (λ z. Agree us z x) (sym e) (open_agrees us y x bare same)
-      by (inr w) =
-          open_agrees us (complete_stand_in ls y) x bare
-          (sym (same_heads (struct_at us (complete_stand_in ls y)) (struct_at us y) (struct_at us x) same) ∙ agree_heads us (complete_stand_in ls y) y w.0)
+  for_namesake : (x y : ℕ × ℕ) → is_complete us x ≡ false → is_complete us y ≡ true → are_namesakes us y x ≡ true → StandsFor us leader x (leader y)
+  for_namesake x y bare full same = record {
+    self = complete_own y full;
+    leads = λ f. absurd (true≢false (sym f ∙ bare));
+    related = λ f. inr (open_agrees us (leader y) x bare (sym (joined_heads us y (leader y) x (leader_joined us leader leaders y full)) ∙ same));
+  }
 
   -- the first namesake, without members
-  open_own : (x z : ℕ × ℕ) → first_namesake us x ≡ Some z → is_complete us z ≡ false → final_stand_in us ls z ≡ z
+  open_own : (x z : ℕ × ℕ) → first_namesake us x ≡ Some z → is_complete us z ≡ false → final_stand_in us leader z ≡ z
   open_own x z first bare = of_open z bare ∙ by (first_elsewhere us z) refl
     where
       p : (are_namesakes us z x ≡ true) × Has (in_turn us) z
@@ -233,54 +152,54 @@ module _ (us : List (List Struct)) (ls : List Pair) (well : AreLedWell us ls) wh
       its : first_namesake us z ≡ Some z
       its = (λ i. first_where (λ w. alike w i) (in_turn us)) ∙ first
 
-      own : (b : Bool) → is_complete us z ≡ b → (if b then complete_stand_in ls z else z) ≡ z
+      own : (b : Bool) → is_complete us z ≡ b → (if b then leader z else z) ≡ z
       own true e = absurd (true≢false (sym e ∙ bare))
       own false e = refl
 
-      next : (y : ℕ × ℕ) → first_elsewhere us z ≡ Some y → (b : Bool) → is_complete us y ≡ b → stand_in_of us ls z (if b then Some y else first_namesake us z) ≡ z
+      next : (y : ℕ × ℕ) → first_elsewhere us z ≡ Some y → (b : Bool) → is_complete us y ≡ b → stand_in_of us leader z (if b then Some y else first_namesake us z) ≡ z
       next y e true full =
           let q : ((are_namesakes us y z && not (y.0 == z.0)) ≡ true) × Has (in_turn us) y = first_passes (λ y. are_namesakes us y z && not (y.0 == z.0)) (in_turn us) y e in
           absurd (all_open us (λ y. are_namesakes us y x) z first bare y (sym (alike y) ∙ and_left (are_namesakes us y z) (not (y.0 == z.0)) q.0) q.1 full)
-      next y e false full = ap (stand_in_of us ls z) its ∙ own (is_complete us z) refl
+      next y e false full = ap (stand_in_of us leader z) its ∙ own (is_complete us z) refl
 
-      by : (o : Option (ℕ × ℕ)) → first_elsewhere us z ≡ o → open_stand_in us ls z o ≡ z
+      by : (o : Option (ℕ × ℕ)) → first_elsewhere us z ≡ o → open_stand_in us leader z o ≡ z
       by None e = refl
       by (Some y) e = next y e (is_complete us y) refl
 
-  alone : (x : ℕ × ℕ) → final_stand_in us ls x ≡ x → StandsFor us ls x x
-  alone x e = record { self = e; related = inl refl }
+  alone : (x : ℕ × ℕ) → is_complete us x ≡ false → final_stand_in us leader x ≡ x → StandsFor us leader x x
+  alone x bare e = record { self = e; leads = λ f. absurd (true≢false (sym f ∙ bare)); related = λ f. inl refl }
 
   -- of a struct without members
-  for_first : (x : ℕ × ℕ) → is_complete us x ≡ false → final_stand_in us ls x ≡ stand_in_of us ls x (first_namesake us x) → (o : Option (ℕ × ℕ)) → first_namesake us x ≡ o → StandsFor us ls x (stand_in_of us ls x o)
-  for_first x bare is None e = alone x (is ∙ ap (stand_in_of us ls x) e)
+  for_first : (x : ℕ × ℕ) → is_complete us x ≡ false → final_stand_in us leader x ≡ stand_in_of us leader x (first_namesake us x) → (o : Option (ℕ × ℕ)) → first_namesake us x ≡ o → StandsFor us leader x (stand_in_of us leader x o)
+  for_first x bare is None e = alone x bare (is ∙ ap (stand_in_of us leader x) e)
   for_first x bare is (Some z) e = by (is_complete us z) refl
     where
       p : (are_namesakes us z x ≡ true) × Has (in_turn us) z
       p = first_passes (λ y. are_namesakes us y x) (in_turn us) z e
 
-      by : (b : Bool) → is_complete us z ≡ b → StandsFor us ls x (if b then complete_stand_in ls z else z)
+      by : (b : Bool) → is_complete us z ≡ b → StandsFor us leader x (if b then leader z else z)
       by true full = for_namesake x z bare full p.0
-      by false bare-z = record { self = open_own x z e bare-z; related = inr (open_agrees us z x bare p.0, λ f. absurd (true≢false (sym f ∙ bare))) }
+      by false bare-z = record { self = open_own x z e bare-z; leads = λ f. absurd (true≢false (sym f ∙ bare)); related = λ f. inr (open_agrees us z x bare p.0) }
 
-  for_elsewhere : (x : ℕ × ℕ) → is_complete us x ≡ false → (o : Option (ℕ × ℕ)) → first_elsewhere us x ≡ o → StandsFor us ls x (open_stand_in us ls x o)
-  for_elsewhere x bare None e = alone x (of_open x bare ∙ ap (open_stand_in us ls x) e)
+  for_elsewhere : (x : ℕ × ℕ) → is_complete us x ≡ false → (o : Option (ℕ × ℕ)) → first_elsewhere us x ≡ o → StandsFor us leader x (open_stand_in us leader x o)
+  for_elsewhere x bare None e = alone x bare (of_open x bare ∙ ap (open_stand_in us leader x) e)
   for_elsewhere x bare (Some y) e = by (is_complete us y) refl
     where
       p : ((are_namesakes us y x && not (y.0 == x.0)) ≡ true) × Has (in_turn us) y
       p = first_passes (λ y. are_namesakes us y x && not (y.0 == x.0)) (in_turn us) y e
 
-      own : (b : Bool) → b ≡ true → StandsFor us ls x (complete_stand_in ls y) → StandsFor us ls x (if b then complete_stand_in ls y else y)
+      own : (b : Bool) → b ≡ true → StandsFor us leader x (leader y) → StandsFor us leader x (if b then leader y else y)
       own true f w = w
       own false f w = absurd (true≢false (sym f))
 
-      by : (b : Bool) → is_complete us y ≡ b → StandsFor us ls x (stand_in_of us ls x (if b then Some y else first_namesake us x))
+      by : (b : Bool) → is_complete us y ≡ b → StandsFor us leader x (stand_in_of us leader x (if b then Some y else first_namesake us x))
       by true full = own (is_complete us y) full (for_namesake x y bare full (and_left (are_namesakes us y x) (not (y.0 == x.0)) p.0))
       by false none =
-          for_first x bare (of_open x bare ∙ ap (open_stand_in us ls x) e ∙ ap (λ b. stand_in_of us ls x (if b then Some y else first_namesake us x)) none) (first_namesake us x) refl
+          for_first x bare (of_open x bare ∙ ap (open_stand_in us leader x) e ∙ ap (λ b. stand_in_of us leader x (if b then Some y else first_namesake us x)) none) (first_namesake us x) refl
 
-  pub stands_for : (x : ℕ × ℕ) (b : Bool) → is_complete us x ≡ b → StandsFor us ls x (final_stand_in us ls x)
-  stands_for x true full = subst (StandsFor us ls x) (sym (of_complete x full)) (for_complete x full)
-  stands_for x false bare = subst (StandsFor us ls x) (sym (of_open x bare)) (for_elsewhere x bare (first_elsewhere us x) refl)
+  pub stands_for : (x : ℕ × ℕ) (b : Bool) → is_complete us x ≡ b → StandsFor us leader x (final_stand_in us leader x)
+  stands_for x true full = subst (StandsFor us leader x) (sym (of_complete x full)) (for_complete x full)
+  stands_for x false bare = subst (StandsFor us leader x) (sym (of_open x bare)) (for_elsewhere x bare (first_elsewhere us x) refl)
 
 -- ---- numbers
 
@@ -315,33 +234,36 @@ numbers_got f a [] i ss e = absurd (cc)
 numbers_got f a (ts ∷ us) zero ss e = let same : a ≡ a + 0 = omega arith in λ i. Some (map f (of_unit (same i) 0 (some_is ts ss e i)))
 numbers_got f a (ts ∷ us) (suc i) ss e = let next : suc a + i ≡ a + suc i = omega arith in numbers_got f (suc a) us i ss e ∙ ap (λ z. Some (map f (of_unit z 0 ss))) next
 
-module _ (us : List (List Struct)) (ls : List Pair) (well : AreLedWell us ls) where
-  stand_in_is : (x : ℕ × ℕ) → Has (of_units 0 us) x → stand_in (stand_ins us ls) x ≡ final_stand_in us ls x
-  stand_in_is x w = ap (λ o. unwrap_or o x) (pair_mapped (final_stand_in us ls) (of_units 0 us) x w.0 w.1)
+module _ (us : List (List Struct)) (leader : ℕ × ℕ → ℕ × ℕ) (leaders : AreLeaders us leader) where
+  stand_in_is : (x : ℕ × ℕ) → Has (of_units 0 us) x → stand_in (stand_ins us leader) x ≡ final_stand_in us leader x
+  stand_in_is x w = ap (λ o. unwrap_or o x) (pair_mapped (final_stand_in us leader) (of_units 0 us) x w.0 w.1)
 
-  there_still : (x : ℕ × ℕ) → is_some (struct_at us x) ≡ true → (r : ℕ × ℕ) → (r ≡ x) ⊎ (Agree us r x × (is_complete us x ≡ true → is_complete us r ≡ true)) → Has (of_units 0 us) r
-  there_still x there r (inl same) = subst (Has (of_units 0 us)) (sym same) (there_in us x there)
-  there_still x there r (inr a) = there_in us r (head_there (struct_at us r) (struct_at us x) (agree_heads us r x a.0))
+  -- what stands for a struct is there
+  there_still : (x r : ℕ × ℕ) → is_some (struct_at us x) ≡ true → StandsFor us leader x r → (b : Bool) → is_complete us x ≡ b → Has (of_units 0 us) r
+  there_still x r there w true full =
+      subst (Has (of_units 0 us)) (sym (w.leads full)) (there_in us (leader x) (complete_there (struct_at us (leader x)) (leader_complete us leader leaders x full)))
+  there_still x r there w false bare = by (w.related bare)
+    where
+      by : (r ≡ x) ⊎ Agree us r x → Has (of_units 0 us) r
+      by (inl same) = subst (Has (of_units 0 us)) (sym same) (there_in us x there)
+      by (inr a) = there_in us r (head_there (struct_at us r) (struct_at us x) (agree_heads us r x a))
 
   pub numbered : (x : ℕ × ℕ) → is_some (struct_at us x) ≡ true
-      → (p : ℕ) × (number_among (representatives us (stand_ins us ls)) (stand_ins us ls) x ≡ p) × (slice_get (representatives us (stand_ins us ls)) p ≡ Some (final_stand_in us ls x))
+      → (p : ℕ) × (number_among (representatives us (stand_ins us leader)) (stand_ins us leader) x ≡ p) × (slice_get (representatives us (stand_ins us leader)) p ≡ Some (final_stand_in us leader x))
   numbered x there =
-      let w : StandsFor us ls x (final_stand_in us ls x) = stands_for us ls well x (is_complete us x) refl in
-      let has : Has (of_units 0 us) (final_stand_in us ls x) = there_still x there (final_stand_in us ls x) w.related in
-      let self : stand_in (stand_ins us ls) (final_stand_in us ls x) ≡ final_stand_in us ls x = stand_in_is (final_stand_in us ls x) has ∙ w.self in
-      let test : same_entity (stand_in (stand_ins us ls) (final_stand_in us ls x)) (final_stand_in us ls x) ≡ true = subst (λ z. same_entity z (final_stand_in us ls x) ≡ true) (sym self) (entity_self (final_stand_in us ls x)) in
-      let in_list : Has (representatives us (stand_ins us ls)) (final_stand_in us ls x) =
-      has_filtered (λ y. same_entity (stand_in (stand_ins us ls) y) y) (of_units 0 us) (final_stand_in us ls x) has.0 has.1 test in
-      let found : (p : ℕ) × (position_from (same_entity (final_stand_in us ls x)) 0 (representatives us (stand_ins us ls)) ≡ Some (0 + p)) × (slice_get (representatives us (stand_ins us ls)) p ≡ Some (final_stand_in us ls x)) =
-      position_found (final_stand_in us ls x) (representatives us (stand_ins us ls)) 0 in_list.0 in_list.1 in let left : 0 + found.0 ≡ found.0 = omega arith in (
+      let w : StandsFor us leader x (final_stand_in us leader x) = stands_for us leader leaders x (is_complete us x) refl in
+      let has : Has (of_units 0 us) (final_stand_in us leader x) = there_still x (final_stand_in us leader x) there w (is_complete us x) refl in
+      let self : stand_in (stand_ins us leader) (final_stand_in us leader x) ≡ final_stand_in us leader x = stand_in_is (final_stand_in us leader x) has ∙ w.self in
+      let test : same_entity (stand_in (stand_ins us leader) (final_stand_in us leader x)) (final_stand_in us leader x) ≡ true = subst (λ z. same_entity z (final_stand_in us leader x) ≡ true) (sym self) (entity_self (final_stand_in us leader x)) in
+      let in_list : Has (representatives us (stand_ins us leader)) (final_stand_in us leader x) =
+      has_filtered (λ y. same_entity (stand_in (stand_ins us leader) y) y) (of_units 0 us) (final_stand_in us leader x) has.0 has.1 test in
+      let found : (p : ℕ) × (position_from (same_entity (final_stand_in us leader x)) 0 (representatives us (stand_ins us leader)) ≡ Some (0 + p)) × (slice_get (representatives us (stand_ins us leader)) p ≡ Some (final_stand_in us leader x)) =
+      position_found (final_stand_in us leader x) (representatives us (stand_ins us leader)) 0 in_list.0 in_list.1 in let left : 0 + found.0 ≡ found.0 = omega arith in (
         found.0,
-        ap (λ z. unwrap_or (position_from (same_entity z) 0 (representatives us (stand_ins us ls))) 0) (stand_in_is x (there_in us x there))
+        ap (λ z. unwrap_or (position_from (same_entity z) 0 (representatives us (stand_ins us leader))) 0) (stand_in_is x (there_in us x there))
             ∙ ap (λ o. unwrap_or o 0) found.1 ∙ left,
         found.2,
       )
-
-nothing_well : (us : List (List Struct)) → AreLedWell us []
-nothing_well us i p e = absurd (cc)
 
 index_got : {A : Type 0} (xs : List A) (i : ℕ) (x d : A) → slice_get xs i ≡ Some x → slice_index_or xs i d ≡ x
 index_got [] i x d e = absurd (cc)
@@ -356,65 +278,88 @@ table_there us x s e = by (slice_get us x.0) refl e
     by None g h = absurd (cc)
     by (Some ss) g h = (ss, g, h)
 
+-- the number that the matching tells
+told : (us : List (List Struct)) (m : Matching) (ps : List ((ℕ × ℕ) × (ℕ × ℕ))) → m ≡ matched us ps → (x : ℕ × ℕ) → is_some (struct_at us x) ≡ true
+    → number_of m x ≡ Some (number_among (representatives us ps) ps x)
+told us m ps m_is x there = by (struct_at us x) refl there
+  where
+    f : ℕ × ℕ → ℕ
+    f = number_among (representatives us ps) ps
+
+    by : (o : Option Struct) → struct_at us x ≡ o → is_some o ≡ true → number_of m x ≡ Some (f x)
+    by None e p = absurd (true≢false (sym p))
+    by (Some s) e p =
+        let t : (ss : List Struct) × (slice_get us x.0 ≡ Some ss) × (slice_get ss x.1 ≡ Some s) = table_there us x s e in
+        let zero_left : 0 + x.0 ≡ x.0 = omega arith in
+        let zero_right : 0 + x.1 ≡ x.1 = omega arith in
+        let ns : slice_index_or (numbers_of_units f 0 us) x.0 [] ≡ map f (of_unit x.0 0 t.0) =
+        index_got (numbers_of_units f 0 us) x.0 (map f (of_unit x.0 0 t.0)) [] (numbers_got f 0 us x.0 t.0 t.1 ∙ ap (λ z. Some (map f (of_unit z 0 t.0))) zero_left) in
+        ap (λ z. slice_get (slice_index_or z.numbers x.0 []) x.1) m_is
+        ∙ ap (λ z. slice_get z x.1) ns
+        ∙ map_got f (of_unit x.0 0 t.0) x.1 x (at_unit x.0 0 t.0 x.1 s t.2 ∙ (λ i. Some (x.0, zero_right i)))
+
 pub structs_are_numbered : StructsAreNumbered
 structs_are_numbered us m x s h there =
-    let ls : List Pair = h.1.0 in
-    let well : AreLedWell us ls = led_well us [] (compared us) ls (nothing_well us) (compared_complete us) h.1.1 in
-    let w : (p : ℕ) × (number_among (representatives us (stand_ins us ls)) (stand_ins us ls) x ≡ p) × (slice_get (representatives us (stand_ins us ls)) p ≡ Some (final_stand_in us ls x)) =
-    numbered us ls well x (ap is_some there) in
-    let r : StandsFor us ls x (final_stand_in us ls x) = stands_for us ls well x (is_complete us x) refl in
-    let f : ℕ × ℕ → ℕ = number_among (representatives us (stand_ins us ls)) (stand_ins us ls) in
-    let m_is : m ≡ matched us (stand_ins us ls) = h.2 ∙ ap (λ ps. matched us ps) h.1.2 in
-    let t : (ss : List Struct) × (slice_get us x.0 ≡ Some ss) × (slice_get ss x.1 ≡ Some s) = table_there us x s there in
-    let zero_left : 0 + x.0 ≡ x.0 = omega arith in
-    let zero_right : 0 + x.1 ≡ x.1 = omega arith in
-    let ns : slice_index_or (numbers_of_units f 0 us) x.0 [] ≡ map f (of_unit x.0 0 t.0) =
-    index_got (numbers_of_units f 0 us) x.0 (map f (of_unit x.0 0 t.0)) [] (numbers_got f 0 us x.0 t.0 t.1 ∙ ap (λ z. Some (map f (of_unit z 0 t.0))) zero_left) in (
+    let leader : ℕ × ℕ → ℕ × ℕ = h.1.0 in
+    let leaders : AreLeaders us leader = h.1.1 in
+    let m_is : m ≡ matched us (stand_ins us leader) = h.2 ∙ ap (λ ps. matched us ps) h.1.2 in
+    let w : (p : ℕ) × (number_among (representatives us (stand_ins us leader)) (stand_ins us leader) x ≡ p) × (slice_get (representatives us (stand_ins us leader)) p ≡ Some (final_stand_in us leader x)) =
+    numbered us leader leaders x (ap is_some there) in
+    let r : StandsFor us leader x (final_stand_in us leader x) = stands_for us leader leaders x (is_complete us x) refl in (
       w.0,
-      final_stand_in us ls x,
-      ap (λ z. slice_get (slice_index_or z.numbers x.0 []) x.1) m_is
-          ∙ ap (λ z. slice_get z x.1) ns
-          ∙ map_got f (of_unit x.0 0 t.0) x.1 x (at_unit x.0 0 t.0 x.1 s t.2 ∙ (λ i. Some (x.0, zero_right i)))
-          ∙ ap Some w.1,
+      final_stand_in us leader x,
+      told us m (stand_ins us leader) m_is x (ap is_some there) ∙ ap Some w.1,
       ap (λ z. slice_get z.structs w.0) m_is ∙ w.2,
+      (λ full. subst (λ z. IsFirst (Joined us x) (of_units 0 us) (Some z)) (sym (r.leads full)) (leaders x full)),
       r.related,
     )
 
+pub joined_are_one : JoinedAreOne
+joined_are_one us m x y h full-x full-y = (to, from)
+  where
+    leader : ℕ × ℕ → ℕ × ℕ
+    leader = h.1.0
+
+    leaders : AreLeaders us leader
+    leaders = h.1.1
+
+    ps : List ((ℕ × ℕ) × (ℕ × ℕ))
+    ps = stand_ins us leader
+
+    m_is : m ≡ matched us ps
+    m_is = h.2 ∙ ap (λ ps. matched us ps) h.1.2
+
+    there-x : is_some (struct_at us x) ≡ true
+    there-x = complete_there (struct_at us x) full-x
+
+    there-y : is_some (struct_at us y) ≡ true
+    there-y = complete_there (struct_at us y) full-y
+
+    told-x : number_of m x ≡ Some (number_among (representatives us ps) ps x)
+    told-x = told us m ps m_is x there-x
+
+    told-y : number_of m y ≡ Some (number_among (representatives us ps) ps y)
+    told-y = told us m ps m_is y there-y
+
+    to : number_of m x ≡ number_of m y → Joined us x y
+    to e =
+        let v : (p : ℕ) × (number_among (representatives us ps) ps x ≡ p) × (slice_get (representatives us ps) p ≡ Some (final_stand_in us leader x)) = numbered us leader leaders x there-x in
+        let w : (p : ℕ) × (number_among (representatives us ps) ps y ≡ p) × (slice_get (representatives us ps) p ≡ Some (final_stand_in us leader y)) = numbered us leader leaders y there-y in
+        let place : v.0 ≡ w.0 = sym v.1 ∙ some_is (number_among (representatives us ps) ps x) (number_among (representatives us ps) ps y) (sym told-x ∙ e ∙ told-y) ∙ w.1 in
+        let same : final_stand_in us leader x ≡ final_stand_in us leader y =
+        some_is (final_stand_in us leader x) (final_stand_in us leader y) (sym v.2 ∙ ap (slice_get (representatives us ps)) place ∙ w.2) in
+        let one : leader x ≡ leader y = sym (of_complete us leader leaders x full-x) ∙ same ∙ of_complete us leader leaders y full-y in
+        joined_on us x (leader x) y (leader_joined us leader leaders x full-x)
+        (subst (λ z. Joined us z y) (sym one) (joined_back us y (leader y) (leader_joined us leader leaders y full-y)))
+
+    from : Joined us x y → number_of m x ≡ number_of m y
+    from j =
+        let one : stand_in ps x ≡ stand_in ps y =
+        stand_in_is us leader leaders x (there_in us x there-x) ∙ of_complete us leader leaders x full-x ∙ joined_one us leader leaders x y full-x j
+        ∙ sym (of_complete us leader leaders y full-y) ∙ sym (stand_in_is us leader leaders y (there_in us y there-y)) in
+        told-x ∙ ap (λ z. Some (unwrap_or (position_from (same_entity z) 0 (representatives us ps)) 0)) one ∙ sym told-y
+
 -- ---- those of the program are there
-
-of_filtered : {A : Type 0} (test : A → Bool) (xs : List A) (i : ℕ) (x : A) → slice_get (filter test xs) i ≡ Some x → Has xs x
-of_filtered test [] i x e = absurd (cc)
-of_filtered test (y ∷ ys) i x e = by (test y) i e (λ k g. of_filtered test ys k x g)
-  where
-    by : (b : Bool) → (i : ℕ) → slice_get (cond b (y ∷ filter test ys) (filter test ys)) i ≡ Some x → ((k : ℕ) → slice_get (filter test ys) k ≡ Some x → Has ys x) → Has (y ∷ ys) x
-    by true zero e ih = (zero, e)
-    by true (suc i) e ih = let w : Has ys x = ih i e in (suc w.0, w.1)
-    by false i e ih = let w : Has ys x = ih i e in (suc w.0, w.1)
-
-from_unit : (u k : ℕ) (ss : List Struct) (i : ℕ) (x : ℕ × ℕ) → slice_get (of_unit u k ss) i ≡ Some x → (s : Struct) × (slice_get ss i ≡ Some s) × ((u, k + i) ≡ x)
-from_unit u k [] i x e = absurd (cc)
-from_unit u k (t ∷ ts) zero x e = let same : k + 0 ≡ k = omega arith in (t, refl, (λ i. (u, same i)) ∙ some_is (u, k) x e)
-from_unit u k (t ∷ ts) (suc i) x e =
-    let w : (s : Struct) × (slice_get ts i ≡ Some s) × ((u, suc k + i) ≡ x) = from_unit u (suc k) ts i x e in
-    let same : k + suc i ≡ suc k + i = omega arith in
-    (w.0, w.1, (λ i. (u, same i)) ∙ w.2)
-
-from_units : (a : ℕ) (us : List (List Struct)) (i : ℕ) (x : ℕ × ℕ) → slice_get (of_units a us) i ≡ Some x → (j k : ℕ) × (ss : List Struct) × (s : Struct) × (slice_get us j ≡ Some ss) × (slice_get ss k ≡ Some s) × ((a + j, k) ≡ x)
-from_units a [] i x e = absurd (cc)
-from_units a (ts ∷ us) i x e = by (has_either (of_unit a 0 ts) (of_units (suc a) us) x i e) (λ k g. from_units (suc a) us k x g)
-  where
-    by : Has (of_unit a 0 ts) x ⊎ Has (of_units (suc a) us) x
-        → ((k : ℕ) → slice_get (of_units (suc a) us) k ≡ Some x → (j k : ℕ) × (ss : List Struct) × (s : Struct) × (slice_get us j ≡ Some ss) × (slice_get ss k ≡ Some s) × ((suc a + j, k) ≡ x))
-        → (j k : ℕ) × (ss : List Struct) × (s : Struct) × (slice_get (ts ∷ us) j ≡ Some ss) × (slice_get ss k ≡ Some s) × ((a + j, k) ≡ x)
-    by (inl w) ih =
-        let v : (s : Struct) × (slice_get ts w.0 ≡ Some s) × ((a, 0 + w.0) ≡ x) = from_unit a 0 ts w.0 x w.1 in
-        let same : a + 0 ≡ a = omega arith in
-        let zero_on : w.0 ≡ 0 + w.0 = omega arith in
-        (zero, w.0, ts, v.0, refl, v.1, (λ i. (same i, zero_on i)) ∙ v.2)
-    by (inr w) ih =
-        let v : (j k : ℕ) × (ss : List Struct) × (s : Struct) × (slice_get us j ≡ Some ss) × (slice_get ss k ≡ Some s) × ((suc a + j, k) ≡ x) = ih w.0 w.1 in
-        let same : a + suc v.0 ≡ suc a + v.0 = omega arith in
-        (suc v.0, v.1, v.2, v.3, v.4, v.5, (λ i. (same i, v.1)) ∙ v.6)
 
 pub structs_are_there : StructsAreThere
 structs_are_there us m n r h at =

@@ -1,13 +1,18 @@
 -- In a program of one unit each struct stands for itself.
-use Rattle.std.proofs.Common.{◌≡◌, ◌≢◌, ℕ, zero, suc, ◌+◌, ◌<◌, ◌≤◌, Bool, true, false, not, ◌&&◌, cond, filter, map, List, [], ◌∷◌, ◌++◌, append-nil, length, Option, Some, None, if◌then◌else◌, ◌==◌, eq-eqb, refl, ap, sym, subst, ◌∙◌, arith, ne_eqb}
-use Rattle.std.specs.Prelude.{⊤, unwrap_or}
+use Rattle.std.proofs.Common.{◌≡◌, ◌≢◌, ℕ, zero, suc, ◌+◌, ◌<◌, ◌≤◌, Bool, true, false, not, ◌&&◌, cond, filter, map, List, [], ◌∷◌, ◌++◌, append-nil, length, Some, None, if◌then◌else◌, ◌==◌, eq-eqb, refl, ap, sym, subst, ◌∙◌, arith, ne_eqb}
+use Rattle.std.specs.Prelude.{⊤, slice_get, unwrap_or}
 use Rattle.std.specs.List.{position_from}
 use Rattle.std.specs.Map.{lookup}
 use Rattle.sp_types.specs.Types.{Struct}
 use Rattle.sp_struct_agree.specs.Inner.{same_entity}
-use Rattle.sp_struct_match.specs.Matched.{of_unit, of_units, is_complete, in_turn, are_namesakes, first_where, first_elsewhere, is_complete_one, AreLed, stand_in, open_stand_in, final_stand_in, stand_ins, AreStandIns, representatives, number_among}
+use Rattle.sp_struct_agree.specs.Depths.{struct_at}
+use Rattle.sp_struct_match.specs.Joined.{is_complete, IsStep, Joined}
+use Rattle.sp_struct_match.specs.Matched.{of_unit, of_units, in_turn, are_namesakes, first_where, AreLeaders, stand_in, open_stand_in, final_stand_in, AreStandIns, representatives, number_among}
 use Rattle.sp_struct_match.specs.Laws.{numbers_from, OneUnitStays}
+use Rattle.sp_struct_match.proofs.Joining.{joined_keeps}
 use Rattle.sp_struct_match.proofs.Keys.{some_false}
+use Rattle.sp_struct_match.proofs.Members.{Has, there_in, complete_there, from_units}
+use Rattle.sp_struct_match.proofs.Standing.{leader_joined}
 use Rattle.sp_struct_match.proofs.Tests.{entity_is, entity_self}
 
 -- of the first unit
@@ -60,38 +65,46 @@ none_elsewhere us x own (y ∷ ys) here =
     ∙ ap (λ b. if b then Some y else first_where (λ y. are_namesakes us y x && not (y.0 == x.0)) ys) (some_false (are_namesakes us y x))
     ∙ none_elsewhere us x own ys here.1
 
--- so none is compared
-none_compared : (ss : List Struct) (xs : List (ℕ × ℕ)) → AreHere xs
-    → filter (λ x. is_complete (ss ∷ []) x && is_complete_one (ss ∷ []) (first_elsewhere (ss ∷ []) x)) xs ≡ []
-none_compared ss [] here = refl
-none_compared ss (x ∷ xs) here =
-    ap (λ o. cond (is_complete (ss ∷ []) x && is_complete_one (ss ∷ []) o) (x ∷ filter (λ x. is_complete (ss ∷ []) x && is_complete_one (ss ∷ []) (first_elsewhere (ss ∷ []) x)) xs)
-    (filter (λ x. is_complete (ss ∷ []) x && is_complete_one (ss ∷ []) (first_elsewhere (ss ∷ []) x)) xs)) (none_elsewhere (ss ∷ []) x here.0 (in_turn (ss ∷ [])) (here_turn ss))
-    ∙ ap (λ b. cond b (x ∷ filter (λ x. is_complete (ss ∷ []) x && is_complete_one (ss ∷ []) (first_elsewhere (ss ∷ []) x)) xs)
-    (filter (λ x. is_complete (ss ∷ []) x && is_complete_one (ss ∷ []) (first_elsewhere (ss ∷ []) x)) xs)) (some_false (is_complete (ss ∷ []) x))
-    ∙ none_compared ss xs here.1
-
--- without leaders each stands for itself
-final_own : (ss : List Struct) (x : ℕ × ℕ) → x.0 ≡ 0 → final_stand_in (ss ∷ []) [] x ≡ x
-final_own ss x here =
-    ap (λ o. if is_complete (ss ∷ []) x then x else open_stand_in (ss ∷ []) [] x o) (none_elsewhere (ss ∷ []) x here (in_turn (ss ∷ [])) (here_turn ss))
-    ∙ by (is_complete (ss ∷ []) x)
+-- so none is joined with another
+none_joined : (ss : List Struct) (x y : ℕ × ℕ) → Joined (ss ∷ []) x y → x ≡ y
+none_joined ss x y j = joined_keeps (ss ∷ []) (λ z. z) (λ v w s. absurd (by v w s)) x y j
   where
-    by : (b : Bool) → (if b then x else x) ≡ x
-    by true = refl
-    by false = refl
+    here : (v : ℕ × ℕ) → is_complete (ss ∷ []) v ≡ true → v.0 ≡ 0
+    here v full =
+        let w : Has (of_units 0 (ss ∷ [])) v = there_in (ss ∷ []) v (complete_there (struct_at (ss ∷ []) v) full) in
+        let u : (j k : ℕ) × (tt : List Struct) × (s : Struct) × (slice_get (ss ∷ []) j ≡ Some tt) × (slice_get tt k ≡ Some s) × ((0 + j, k) ≡ v) = from_units 0 (ss ∷ []) w.0 v w.1 in
+        only u.0 u.2 u.4 (ap (λ z. z.0) u.6)
+      where
+        only : (j : ℕ) (tt : List Struct) → slice_get (ss ∷ []) j ≡ Some tt → 0 + j ≡ v.0 → v.0 ≡ 0
+        only zero tt e f = sym f
+        only (suc j) tt e f = absurd (cc)
 
-pairs_own : (ss : List Struct) (xs : List (ℕ × ℕ)) → AreHere xs → AreOwn (map (λ x. (x, final_stand_in (ss ∷ []) [] x)) xs)
-pairs_own ss [] here = tt
-pairs_own ss (x ∷ xs) here = (final_own ss x here.0, pairs_own ss xs here.1)
+    by : (v w : ℕ × ℕ) → IsStep (ss ∷ []) v w → ⊥
+    by v w s = let a : w.0 ≡ 0 = here w s.1 in let l : v.0 < w.0 = s.2 in omega (arith, a, l)
+
+-- each leads itself
+leads_own : (ss : List Struct) (leader : ℕ × ℕ → ℕ × ℕ) → AreLeaders (ss ∷ []) leader → (x : ℕ × ℕ) → is_complete (ss ∷ []) x ≡ true → leader x ≡ x
+leads_own ss leader leaders x full = sym (none_joined ss x (leader x) (leader_joined (ss ∷ []) leader leaders x full))
+
+-- each stands for itself
+final_own : (ss : List Struct) (leader : ℕ × ℕ → ℕ × ℕ) → AreLeaders (ss ∷ []) leader → (x : ℕ × ℕ) → x.0 ≡ 0 → final_stand_in (ss ∷ []) leader x ≡ x
+final_own ss leader leaders x here =
+    ap (λ o. if is_complete (ss ∷ []) x then leader x else open_stand_in (ss ∷ []) leader x o) (none_elsewhere (ss ∷ []) x here (in_turn (ss ∷ [])) (here_turn ss))
+    ∙ by (is_complete (ss ∷ []) x) refl
+  where
+    by : (b : Bool) → is_complete (ss ∷ []) x ≡ b → (if b then leader x else x) ≡ x
+    by true full = leads_own ss leader leaders x full
+    by false e = refl
+
+pairs_own : (ss : List Struct) (leader : ℕ × ℕ → ℕ × ℕ) → AreLeaders (ss ∷ []) leader → (xs : List (ℕ × ℕ)) → AreHere xs → AreOwn (map (λ x. (x, final_stand_in (ss ∷ []) leader x)) xs)
+pairs_own ss leader leaders [] here = tt
+pairs_own ss leader leaders (x ∷ xs) here = (final_own ss leader leaders x here.0, pairs_own ss leader leaders xs here.1)
 
 all_here : (ss : List Struct) → AreHere (of_units 0 (ss ∷ []))
 all_here ss = subst AreHere (sym (append-nil (of_unit 0 0 ss))) (here_unit 0 ss)
 
 own_stand_ins : (ss : List Struct) (ps : List ((ℕ × ℕ) × (ℕ × ℕ))) → AreStandIns (ss ∷ []) ps → AreOwn ps
-own_stand_ins ss ps h =
-    let led : AreLed (ss ∷ []) [] [] h.0 = subst (λ xs. AreLed (ss ∷ []) [] xs h.0) (none_compared ss (of_units 0 (ss ∷ [])) (all_here ss)) h.1 in
-    subst AreOwn (sym (h.2 ∙ ap (stand_ins (ss ∷ [])) led)) (pairs_own ss (of_units 0 (ss ∷ [])) (all_here ss))
+own_stand_ins ss ps h = subst AreOwn (sym h.2) (pairs_own ss h.0 h.1 (of_units 0 (ss ∷ [])) (all_here ss))
 
 filter_all : (test : ℕ × ℕ → Bool) (xs : List (ℕ × ℕ)) → ((x : ℕ × ℕ) → test x ≡ true) → filter test xs ≡ xs
 filter_all test [] all = refl

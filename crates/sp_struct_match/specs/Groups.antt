@@ -6,7 +6,7 @@ use Rattle.std.specs.declared.alloc.Global.{Global}
 use Rattle.indexmap.specs.IndexMap.{get}
 use Rattle.sp_types.specs.Types.{CType, Struct}
 use Rattle.sp_struct_agree.specs.Depths.{struct_at}
-use Rattle.sp_struct_match.specs.Matched.{leads}
+use Rattle.sp_struct_match.specs.Joined.{is_complete}
 use Rattle.sp_struct_match.specs.declared.groups.Groups.{Groups}
 
 -- the tag, whether it is a union, and a mark of the names of its members
@@ -35,15 +35,18 @@ abbrev pub head_key : Option Struct → Key
 head_key None = (None, false, 1)
 head_key (Some s) = (s.tag, s.union, 0)
 
-abbrev pub items_of : Option (Vec ((ℕ × ℕ) × (ℕ × ℕ)) Global) → List ((ℕ × ℕ) × (ℕ × ℕ))
+abbrev pub items_of : Option (Vec (ℕ × ℕ) Global) → List (ℕ × ℕ)
 items_of None = []
 items_of (Some v) = v.items
 
--- the pairs that are there under a key
-abbrev pub group : Groups → Key → List ((ℕ × ℕ) × (ℕ × ℕ))
+-- the structs that are there under a key
+abbrev pub group : Groups → Key → List (ℕ × ℕ)
 group g k = items_of (get same_key g.lists k)
 
--- those of a list that have members and lead themselves, by all that two of them have in common
-abbrev pub AreLeaders : List (List Struct) → List ((ℕ × ℕ) × (ℕ × ℕ)) → Groups → Type 0
-AreLeaders us ps g = (k : Key) →
-    group g k ≡ filter (λ p. leads us p && same_key (full_key (struct_at us p.0)) k) ps
+-- those of a list that have members and this key
+abbrev pub of_key : List (List Struct) → Key → List (ℕ × ℕ) → List (ℕ × ℕ)
+of_key us k xs = filter (λ x. is_complete us x && same_key (full_key (struct_at us x)) k) xs
+
+-- the groups are those of a list
+abbrev pub AreGroups : List (List Struct) → List (ℕ × ℕ) → Groups → Type 0
+AreGroups us xs g = (k : Key) → group g k ≡ of_key us k xs

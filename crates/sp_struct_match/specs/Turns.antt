@@ -1,21 +1,13 @@
--- What the search for a leader keeps, what tells namesakes, and what the numbering keeps.
-use Rattle.std.specs.Prelude.{◌≡◌, ℕ, Bool, true, false, not, ◌&&◌, ◌==◌, List, Option, Some, None, if◌then◌else◌, slice_get, unwrap_or}
-use Rattle.std.specs.List.{list_any}
+-- What tells namesakes, and what the numbering keeps.
+use Rattle.std.specs.Prelude.{◌≡◌, ℕ, Bool, false, not, ◌&&◌, ◌==◌, List, Option, Some, None, if◌then◌else◌, unwrap_or}
 use Rattle.indexmap.specs.IndexMap.{get}
 use Rattle.sp_types.specs.Types.{Struct}
 use Rattle.sp_struct_agree.specs.Depths.{struct_at}
-use Rattle.sp_struct_agree.specs.Known.{IsKnown}
 use Rattle.sp_struct_agree.specs.Inner.{same_entity}
-use Rattle.sp_struct_match.specs.Matched.{is_complete, first_where, stand_in, shared}
-use Rattle.sp_struct_match.specs.Groups.{Key, same_key, head_key, AreLeaders}
-use Rattle.sp_struct_match.specs.declared.leaders.Turn.{Turn}
+use Rattle.sp_struct_match.specs.Matched.{first_where}
+use Rattle.sp_struct_match.specs.Groups.{Key, same_key, head_key}
 use Rattle.sp_struct_match.specs.declared.heads.Heads.{Heads}
-use Rattle.sp_struct_match.specs.declared.stand_ins.Led.{Led}
 use Rattle.sp_struct_match.specs.declared.numbers.Numbering.{Numbering}
-
--- the groups are those of the list, and what is known of pairs holds
-abbrev pub IsTurn : List (List Struct) → Turn → Type 0
-IsTurn us t = AreLeaders us t.list.items t.leaders × IsKnown us t.known
 
 abbrev pub has_head : List (List Struct) → Key → ℕ × ℕ → Bool
 has_head us k y = same_key (head_key (struct_at us y)) k
@@ -44,16 +36,6 @@ elsewhere_from (Some f) second x = if not (f.0 == x.0) then Some f else second
 
 abbrev pub elsewhere_by : Heads → Key → ℕ × ℕ → Option (ℕ × ℕ)
 elsewhere_by h k x = elsewhere_from (get same_key h.firsts k) (get same_key h.seconds k) x
-
--- the maps are those of the list: the leader of each struct, and the leaders of structs of other units
-abbrev pub IsLed : Led → Type 0
-IsLed t =
-    ((x : ℕ × ℕ) → unwrap_or (get same_entity t.leaders x) x ≡ stand_in t.list.items x)
-    × ((x : ℕ × ℕ) → list_any (same_entity x) t.shared.keys ≡ list_any (same_entity x) (shared t.list.items))
-
--- each of a list has members
-abbrev pub AllComplete : List (List Struct) → List (ℕ × ℕ) → Type 0
-AllComplete us xs = (i : ℕ) (x : ℕ × ℕ) → slice_get xs i ≡ Some x → is_complete us x ≡ true
 
 -- the number of a struct, by the maps of a numbering
 abbrev pub number_by : Numbering → ℕ × ℕ → ℕ

@@ -2,7 +2,8 @@
 ghost use Rattle.std.specs.Prelude.{◌≡◌, ◌++◌, ℕ, IfOk, OnOk, map, length};
 ghost use Rattle.sp_types.specs.View.{struct_of};
 ghost use Rattle.sp_struct_agree.specs.Depths.{tables};
-ghost use Rattle.sp_struct_match.specs.Matched.{of_unit, of_units, is_complete, in_turn};
+ghost use Rattle.sp_struct_match.specs.Joined.{is_complete};
+ghost use Rattle.sp_struct_match.specs.Matched.{of_unit, of_units, in_turn};
 
 use sp_struct_agree::{Entity, struct_at};
 use sp_types::StructType;

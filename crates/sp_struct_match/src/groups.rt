@@ -1,9 +1,16 @@
 //! Structs by what those that agree have in common.
-ghost use Rattle.std.specs.Prelude.{◌≡◌, map, option_map};
+ghost use Rattle.std.specs.Prelude.{◌≡◌, map, option_map, IfOk, OnOk, List, ℕ, ◌++◌, ◌∷◌, []};
 ghost use Rattle.sp_types.specs.View.{type_of, struct_of};
 ghost use Rattle.sp_struct_agree.specs.Depths.{tables, struct_at};
-ghost use Rattle.sp_struct_match.specs.Groups.{name_mark, members_mark, full_key, head_key};
+ghost use Rattle.sp_struct_match.specs.Groups.{
+  name_mark,
+  members_mark,
+  full_key,
+  head_key,
+  AreGroups,
+};
 
+use crate::entities::is_complete;
 use indexmap::IndexMap;
 use sp_struct_agree::{Entity, struct_at};
 use sp_types::{CType, StructType};
@@ -13,13 +20,10 @@ use std::alloc::{AllocError, Global};
 /// The tag, whether it is a union, and a mark of the names of its members.
 pub(crate) type Key = (Option<u32>, bool, u32);
 
-/// A struct, and the one that leads it or stands for it.
-pub(crate) type Taken = (Entity, Entity);
-
 /// Structs by key, each list in the order in which they were added.
 #[derive(Drop)]
 pub(crate) struct Groups {
-    lists: IndexMap<Key, Vec<Taken>>,
+    lists: IndexMap<Key, Vec<Entity>>,
 }
 
 impl Groups {
@@ -37,7 +41,7 @@ impl Groups {
     }
 
     /// Those of a key.
-    pub(crate) fn list(&self, key: Key) -> &[Taken]
+    pub(crate) fn list(&self, key: Key) -> &[Entity]
         ensures { result.now ≡ group self.now key }
     {
         match self.lists.get(&key) {
@@ -47,7 +51,7 @@ impl Groups {
     }
 
     /// Takes out the list of a key.
-    fn take_list(&mut self, alloc: Global, key: Key) -> Vec<Taken>
+    fn take_list(&mut self, alloc: Global, key: Key) -> Vec<Entity>
         ensures list { result.items ≡ group self.old key }
         ensures rest { (k : Key) → get same_key self.new.lists k ≡
             (if same_key key k then None else get same_key self.old.lists k) }
@@ -59,7 +63,7 @@ impl Groups {
     }
 
     /// Adds one behind those of its key.
-    pub(crate) fn add(&mut self, alloc: Global, key: Key, item: Taken) -> Result<(), AllocError>
+    pub(crate) fn add(&mut self, alloc: Global, key: Key, item: Entity) -> Result<(), AllocError>
         ensures { OnOk result ((k : Key) → group self.new k ≡
             (if same_key key k then group self.old k ++ item ∷ [] else group self.old k)) }
     {
@@ -108,4 +112,36 @@ pub(crate) fn head_key(units: &[CheckedUnit], at: Entity) -> Key
         Some(found) => (found.tag, found.union, 0),
         None => (None, false, 1),
     }
+}
+
+/// Adds a struct to those of its key, if it has members.
+fn add_one(
+    alloc: Global,
+    units: &[CheckedUnit],
+    of: Entity,
+    groups: &mut Groups,
+) -> Result<(), AllocError>
+    ensures { OnOk result ((xs : List (ℕ × ℕ)) → AreGroups (tables units.now) xs groups.old →
+        AreGroups (tables units.now) (xs ++ of ∷ []) groups.new) }
+{
+    if is_complete(units, of) {
+        groups.add(alloc, full_key(units, of), of)
+    } else {
+        Ok(())
+    }
+}
+
+/// The structs with members of a list by key.
+pub(crate) fn groups_of(
+    alloc: Global,
+    units: &[CheckedUnit],
+    all: &[Entity],
+) -> Result<Groups, AllocError>
+    ensures { IfOk result (λ g. AreGroups (tables units.now) all.now g) }
+{
+    let mut groups = Groups::new(alloc);
+    'all: for (i, x) in all.iter().enumerate() {
+        add_one(alloc, units, *x, &mut groups)?;
+    }
+    Ok(groups)
 }

@@ -1,12 +1,11 @@
 //! Namesakes: structs of one tag and kind.
-ghost use Rattle.std.specs.Prelude.{◌≡◌, ◌&&◌, not, is_some, IfOk, filter};
+ghost use Rattle.std.specs.Prelude.{◌≡◌, ◌&&◌, not, is_some, IfOk};
 ghost use Rattle.indexmap.specs.IndexMap.{get};
 ghost use Rattle.sp_struct_agree.specs.Depths.{tables};
 ghost use Rattle.sp_struct_match.specs.Groups.{same_key};
 ghost use Rattle.sp_struct_match.specs.Matched as rules;
 ghost use Rattle.sp_struct_match.specs.Turns.{AreFirsts, AreSeconds, IsHeads, is_apart, elsewhere_by};
 
-use crate::entities::is_complete;
 use crate::groups::{Key, head_key};
 use indexmap::IndexMap;
 use sp_struct_agree::{Entity, struct_at};
@@ -137,43 +136,4 @@ pub(crate) fn first_elsewhere(units: &[CheckedUnit], heads: &Heads, of: Entity) 
         Some(_) => elsewhere(heads, head_key(units, of), of),
         None => None,
     }
-}
-
-/// Whether there is one, and it has members.
-fn is_complete_one(units: &[CheckedUnit], of: Option<Entity>) -> bool
-    ensures { result ≡ rules.is_complete_one (tables units.now) of }
-{
-    match of {
-        Some(found) => is_complete(units, found),
-        None => false,
-    }
-}
-
-/// Whether a struct with members has a namesake with members in another unit.
-fn is_compared(units: &[CheckedUnit], heads: &Heads, of: Entity) -> bool
-    requires { IsHeads (tables units.now) (rules.in_turn (tables units.now)) heads.now }
-    ensures { result ≡ (rules.is_complete (tables units.now) of
-        && rules.is_complete_one (tables units.now) (rules.first_elsewhere (tables units.now) of)) }
-{
-    is_complete(units, of) && is_complete_one(units, first_elsewhere(units, heads, of))
-}
-
-/// The structs with members that have a namesake with members in another unit.
-pub(crate) fn compared(
-    alloc: Global,
-    units: &[CheckedUnit],
-    heads: &Heads,
-    all: &[Entity],
-) -> Result<Vec<Entity>, AllocError>
-    requires all { all.now ≡ rules.of_units 0 (tables units.now) }
-    requires heads { IsHeads (tables units.now) (rules.in_turn (tables units.now)) heads.now }
-    ensures { IfOk result (λ xs. xs.items ≡ rules.compared (tables units.now)) }
-{
-    let mut found = Vec::new(alloc);
-    'all: for (i, x) in all.iter().enumerate() {
-        if is_compared(units, heads, *x) {
-            found.push(*x)?;
-        }
-    }
-    Ok(found)
 }

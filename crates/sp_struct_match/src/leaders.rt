@@ -1,150 +1,220 @@
-//! Structs in turn, each with the struct that leads it.
-ghost use Rattle.std.specs.Prelude.{◌≡◌, List, [], ◌∷◌, ◌++◌, ℕ, IfOk, OnOk};
-ghost use Rattle.sp_struct_agree.specs.Depths.{tables, Agree};
+//! The struct that leads those with members that are one.
+ghost use Rattle.std.specs.Prelude.{◌≡◌, ◌∷◌, true, false, ℕ, IfOk, OnOk};
+ghost use Rattle.sp_struct_agree.specs.Depths.{tables, struct_at};
 ghost use Rattle.sp_struct_agree.specs.Known.{IsKnown};
-ghost use Rattle.sp_struct_match.specs.Matched.{IsFirst, AreLed, leader, leads};
-ghost use Rattle.sp_struct_match.specs.Groups.{AreLeaders};
-ghost use Rattle.sp_struct_match.specs.Turns.{AllComplete};
+ghost use Rattle.sp_struct_match.specs.Joined.{is_complete, IsStep};
+ghost use Rattle.sp_struct_match.specs.Matched.{of_units, AreLeaders};
+ghost use Rattle.sp_struct_match.specs.Groups.{AreGroups, full_key, of_key};
+ghost use Rattle.sp_struct_match.specs.Leading.{
+  is_before,
+  leader_by,
+  IsLeading,
+  KeepsOne,
+  IsAlike,
+};
 
 use crate::entities::is_complete;
-use crate::groups::{Groups, Taken, full_key};
+use crate::groups::{Groups, full_key, groups_of};
+use indexmap::IndexMap;
 use sp_struct_agree::{Entity, Known, agree};
 use sp_units::CheckedUnit;
 use std::alloc::{AllocError, Global};
 
-/// The structs that are taken, in order, and how they are looked up.
+/// The leader of each struct. One that isn't there leads itself.
 #[derive(Drop)]
-struct Turn {
-    list: Vec<Taken>,
-    /// Those that lead themselves.
-    leaders: Groups,
-    /// Pairs that have been compared.
-    known: Known,
+pub(crate) struct Leaders {
+    others: IndexMap<Entity, Entity>,
 }
 
-/// Whether it has members and leads itself.
-fn leads(units: &[CheckedUnit], p: Taken) -> bool
-    ensures { result ≡ leads (tables units.now) p }
+/// Whether a struct stands before another, by unit and number.
+fn is_before(left: Entity, right: Entity) -> bool
+    ensures { result ≡ is_before left right }
 {
-    is_complete(units, p.0) && p.1 == p.0
+    left.0 < right.0 || left.0 == right.0 && left.1 < right.1
 }
 
-/// Adds one to those with members that lead themselves, if it is of them.
-fn add_leader(
-    alloc: Global,
-    units: &[CheckedUnit],
-    p: Taken,
-    leaders: &mut Groups,
-) -> Result<(), AllocError>
-    ensures { OnOk result ((ps : List ((ℕ × ℕ) × (ℕ × ℕ))) →
-        AreLeaders (tables units.now) ps leaders.old →
-        AreLeaders (tables units.now) (ps ++ p ∷ []) leaders.new) }
-{
-    if leads(units, p) {
-        leaders.add(alloc, full_key(units, p.0), p)
-    } else {
+impl Leaders {
+    ghost use Rattle.std.specs.Prelude.{◌≡◌, ◌&&◌, ℕ, OnOk, if◌then◌else◌};
+    ghost use Rattle.sp_struct_agree.specs.Inner.{same_entity};
+    ghost use Rattle.sp_struct_match.specs.Leading.{leader_by, earlier, later, moved};
+
+    /// Each leads itself.
+    fn new(alloc: Global) -> Leaders
+        ensures { (x : ℕ × ℕ) → leader_by result x ≡ x }
+    {
+        Leaders {
+            others: IndexMap::new(alloc),
+        }
+    }
+
+    /// The leader of a struct.
+    pub(crate) fn leader(&self, of: Entity) -> Entity
+        ensures { result ≡ leader_by self.now of }
+    {
+        match self.others.get(&of) {
+            Some(found) => *found,
+            None => of,
+        }
+    }
+
+    /// Gives a struct a leader in place of another.
+    fn move_one(&mut self, of: Entity, old: Entity, new: Entity) -> Result<(), AllocError>
+        ensures { OnOk result ((x : ℕ × ℕ) → leader_by self.new x ≡
+            (if same_entity of x && same_entity (leader_by self.old x) old then new
+            else leader_by self.old x)) }
+    {
+        if self.leader(of) == old {
+            self.others.insert(of, new)?;
+        }
         Ok(())
+    }
+
+    /// Gives those of a list that have this leader another one.
+    fn move_all(&mut self, list: &[Entity], old: Entity, new: Entity) -> Result<(), AllocError>
+        ensures { OnOk result ((x : ℕ × ℕ) →
+            leader_by self.new x ≡ moved list.now old new x (leader_by self.old x)) }
+    {
+        'list: for (i, x) in list.iter().enumerate() {
+            self.move_one(*x, old, new)?;
+        }
+        Ok(())
+    }
+
+    /// Makes those of a list that one of two structs leads one with those that the other leads.
+    fn join(&mut self, list: &[Entity], left: Entity, right: Entity) -> Result<(), AllocError>
+        ensures { OnOk result ((x : ℕ × ℕ) → leader_by self.new x ≡
+            moved list.now (later left right) (earlier left right) x (leader_by self.old x)) }
+    {
+        if is_before(right, left) {
+            self.move_all(list, left, right)
+        } else {
+            self.move_all(list, right, left)
+        }
     }
 }
 
-/// The first of the list that agrees.
-fn first_agreeing(
+/// Whether there is a step from a struct to another of the same key that has another leader.
+fn is_new_step(
     alloc: Global,
     units: &[CheckedUnit],
-    of: Entity,
-    list: &[Taken],
+    leaders: &Leaders,
+    pair: (Entity, Entity),
     known: &mut Known,
-) -> Result<Option<Taken>, AllocError>
-    requires { IsKnown (tables units.now) known.old }
-    ensures first { IfOk result (λ r.
-        IsFirst (λ p. Agree (tables units.now) p.0 of) list.now r) }
+) -> Result<bool, AllocError>
+    requires left { is_complete (tables units.now) pair.0 ≡ true }
+    requires right { is_complete (tables units.now) pair.1 ≡ true }
+    requires known { IsKnown (tables units.now) known.old }
+    ensures step { IfOk result (λ b. b ≡ true → IsStep (tables units.now) pair.0 pair.1) }
+    ensures none { IfOk result (λ b. b ≡ false → IsStep (tables units.now) pair.0 pair.1 →
+        leader_by leaders.now pair.0 ≡ leader_by leaders.now pair.1) }
+    ensures known { OnOk result (IsKnown (tables units.now) known.new) }
+{
+    if pair.0.0 >= pair.1.0 {
+        return Ok(false);
+    }
+    if leaders.leader(pair.0) == leaders.leader(pair.1) {
+        return Ok(false);
+    }
+    agree(alloc, units, pair, known)
+}
+
+/// Takes the step from a struct to another, if there is one.
+fn take_step(
+    alloc: Global,
+    units: &[CheckedUnit],
+    list: &[Entity],
+    pair: (Entity, Entity),
+    leaders: &mut Leaders,
+    known: &mut Known,
+) -> Result<(), AllocError>
+    requires list { list.now ≡ of_key (tables units.now)
+        (full_key (struct_at (tables units.now) pair.1)) (of_units 0 (tables units.now)) }
+    requires alike { IsAlike (tables units.now) pair.1 pair.0 }
+    requires complete { is_complete (tables units.now) pair.1 ≡ true }
+    requires known { IsKnown (tables units.now) known.old }
+    requires leading { IsLeading (tables units.now) (leader_by leaders.old) }
+    ensures leading { OnOk result (IsLeading (tables units.now) (leader_by leaders.new)) }
+    ensures one { OnOk result (KeepsOne (tables units.now) (leader_by leaders.old)
+        (leader_by leaders.new)) }
+    ensures taken { OnOk result (IsStep (tables units.now) pair.0 pair.1 →
+        leader_by leaders.new pair.0 ≡ leader_by leaders.new pair.1) }
+    ensures known { OnOk result (IsKnown (tables units.now) known.new) }
+{
+    if is_new_step(alloc, units, leaders, pair, known)? {
+        let left = leaders.leader(pair.0);
+        let right = leaders.leader(pair.1);
+        leaders.join(list, left, right)?;
+    }
+    Ok(())
+}
+
+/// Takes all steps to a struct from those of its key.
+fn take_steps(
+    alloc: Global,
+    units: &[CheckedUnit],
+    list: &[Entity],
+    of: Entity,
+    leaders: &mut Leaders,
+    known: &mut Known,
+) -> Result<(), AllocError>
+    requires list { list.now ≡ of_key (tables units.now)
+        (full_key (struct_at (tables units.now) of)) (of_units 0 (tables units.now)) }
+    requires complete { is_complete (tables units.now) of ≡ true }
+    requires known { IsKnown (tables units.now) known.old }
+    requires leading { IsLeading (tables units.now) (leader_by leaders.old) }
+    ensures leading { OnOk result (IsLeading (tables units.now) (leader_by leaders.new)) }
+    ensures one { OnOk result (KeepsOne (tables units.now) (leader_by leaders.old)
+        (leader_by leaders.new)) }
+    ensures taken { OnOk result ((p : ℕ × ℕ) → IsStep (tables units.now) p of →
+        leader_by leaders.new p ≡ leader_by leaders.new of) }
     ensures known { OnOk result (IsKnown (tables units.now) known.new) }
 {
     'list: for (i, p) in list.iter().enumerate() {
-        if agree(alloc, units, (p.0, of), known)? {
-            return Ok(Some(*p));
-        }
+        take_step(alloc, units, list, (*p, of), leaders, known)?;
     }
-    Ok(None)
+    Ok(())
 }
 
-impl Turn {
-    ghost use Rattle.std.specs.Prelude.{◌≡◌, ◌++◌, ◌∷◌, [], ℕ, List, true, false, IfOk, OnOk};
-    ghost use Rattle.sp_types.specs.Types.{Struct};
-    ghost use Rattle.sp_struct_agree.specs.Depths.{tables};
-    ghost use Rattle.sp_struct_match.specs.Matched.{IsFirst, Follows, is_complete};
-    ghost use Rattle.sp_struct_match.specs.Turns.{IsTurn};
-
-    /// None is taken yet.
-    fn new(alloc: Global) -> Turn
-        ensures list { result.list.items ≡ [] }
-        ensures turn { (us : List (List Struct)) → IsTurn us result }
-    {
-        Turn {
-            list: Vec::new(alloc),
-            leaders: Groups::new(alloc),
-            known: Known::new(alloc),
-        }
-    }
-
-    /// The one that a struct with members follows.
-    fn find(
-        &mut self,
-        alloc: Global,
-        units: &[CheckedUnit],
-        of: Entity,
-    ) -> Result<Option<Taken>, AllocError>
-        requires turn { IsTurn (tables units.now) self.old }
-        requires complete { is_complete (tables units.now) of ≡ true }
-        ensures first { IfOk result (λ r.
-            IsFirst (Follows (tables units.now) of) self.old.list.items r) }
-        ensures list { self.new.list.items ≡ self.old.list.items }
-        ensures turn { OnOk result (IsTurn (tables units.now) self.new) }
-    {
-        let list = self.leaders.list(full_key(units, of));
-        first_agreeing(alloc, units, of, list, &mut self.known)
-    }
-
-    /// Takes one.
-    fn add(&mut self, alloc: Global, units: &[CheckedUnit], item: Taken) -> Result<(), AllocError>
-        requires { IsTurn (tables units.now) self.old }
-        ensures list { OnOk result (self.new.list.items ≡ self.old.list.items ++ item ∷ []) }
-        ensures turn { OnOk result (IsTurn (tables units.now) self.new) }
-    {
-        add_leader(alloc, units, item, &mut self.leaders)?;
-        self.list.push(item)?;
-        Ok(())
-    }
-}
-
-/// The struct that leads one that follows this, or follows none.
-fn leader(of: Entity, found: Option<Taken>) -> Entity
-    ensures { result ≡ leader of found }
-{
-    match found {
-        Some(p) => p.1,
-        None => of,
-    }
-}
-
-/// The structs of a list, which have members, each with the one that leads it.
-pub(crate) fn take_all(
+/// Takes all steps to a struct.
+fn take_all_to(
     alloc: Global,
     units: &[CheckedUnit],
-    turn: &[Entity],
-) -> Result<Vec<Taken>, AllocError>
-    requires { AllComplete (tables units.now) turn.now }
-    ensures { IfOk result (λ ps. AreLed (tables units.now) [] turn.now ps.items) }
+    groups: &Groups,
+    of: Entity,
+    leaders: &mut Leaders,
+    known: &mut Known,
+) -> Result<(), AllocError>
+    requires groups { AreGroups (tables units.now) (of_units 0 (tables units.now)) groups.now }
+    requires known { IsKnown (tables units.now) known.old }
+    requires leading { IsLeading (tables units.now) (leader_by leaders.old) }
+    ensures leading { OnOk result (IsLeading (tables units.now) (leader_by leaders.new)) }
+    ensures one { OnOk result (KeepsOne (tables units.now) (leader_by leaders.old)
+        (leader_by leaders.new)) }
+    ensures taken { OnOk result ((p : ℕ × ℕ) → IsStep (tables units.now) p of →
+        leader_by leaders.new p ≡ leader_by leaders.new of) }
+    ensures known { OnOk result (IsKnown (tables units.now) known.new) }
 {
-    let mut done = Turn::new(alloc);
-    'turn: for (i, x) in turn.iter().enumerate() {
-        let found = done.find(alloc, units, *x)?;
-        done.add(alloc, units, (*x, leader(*x, found)))?;
+    if is_complete(units, of) {
+        let list = groups.list(full_key(units, of));
+        take_steps(alloc, units, list, of, leaders, known)?;
     }
-    let Turn {
-        list,
-        leaders: _,
-        known: _,
-    } = done;
-    Ok(list)
+    Ok(())
+}
+
+/// The leader of each struct with members: the first of those that are joined with it.
+pub(crate) fn leaders_of(
+    alloc: Global,
+    units: &[CheckedUnit],
+    all: &[Entity],
+) -> Result<Leaders, AllocError>
+    requires { all.now ≡ of_units 0 (tables units.now) }
+    ensures { IfOk result (λ t. AreLeaders (tables units.now) (leader_by t)) }
+{
+    let groups = groups_of(alloc, units, all)?;
+    let mut leaders = Leaders::new(alloc);
+    let mut known = Known::new(alloc);
+    'all: for (i, x) in all.iter().enumerate() {
+        take_all_to(alloc, units, &groups, *x, &mut leaders, &mut known)?;
+    }
+    Ok(leaders)
 }

@@ -1,22 +1,23 @@
 //! Which structs of several units are one struct of their program (C90 6.1.2.6).
 //!
-//! A struct is named by its unit and its number there. *Namesakes* are of one tag, or have none, and
-//! are both structs or both unions. Structs with members that have such a namesake in another unit
-//! are taken in the order of units and numbers. Each *follows* the first before it that agrees with
-//! it (`sp_struct_agree`) and follows none itself, its *leader*. Those of one leader are one struct
-//! where they are of two units; structs of one unit alone stay apart. A struct without members joins
-//! its first namesake of another unit, one with members if it can.
+//! A struct is named by its unit and its number there. Two structs with members, of different
+//! units, that agree (`sp_struct_agree`) are one. So those that a chain of such pairs joins are one,
+//! and no others. Agreement isn't transitive where structs without members, lengths or parameter
+//! lists stand inside. The first by unit and number stands for all (`Joined` in
+//! `specs/Joined.antt`).
 //!
-//! So where the unit 0 has `struct s;`, and the units 1 and 2 both have `struct s { int a; };`, the
-//! program has one struct: that of the unit 1. The types `typedef struct { int a; } P;` and
+//! *Namesakes* are of one tag, or have none, and are both structs or both unions. A struct without
+//! members joins its first namesake of another unit, one with members if it can. So where the unit
+//! 0 has `struct s;`, and the units 1 and 2 both have `struct s { int a; };`, the program has one
+//! struct: that of the unit 1. The types `typedef struct { int a; } P;` and
 //! `typedef struct { int a; } V;` of one unit are two structs. They are one where another unit has
 //! such a struct too, since it is compatible with both.
 //!
 //! The layer above uses the one contract of [`matching`]: its answer is the matching of the units'
 //! structs (`AreMatched` in `specs/Matched.antt`), of which there is one.
 //!
-//! Leaders are looked up by tag and names of members, and pairs that are found to agree are kept, so
-//! that a struct is mostly compared once.
+//! Structs are looked up by tag and names of members. One is compared with those of its key that
+//! have another leader yet, so mostly once. Pairs that have been compared are kept.
 #![tactic(auto)]
 
 mod entities;

@@ -6,11 +6,10 @@ ghost use Rattle.sp_struct_agree.specs.Depths.{tables};
 ghost use Rattle.sp_struct_match.specs.Matched.{of_units, AreStandIns, AreMatched};
 
 use crate::entities::{entities, in_turn};
-use crate::groups::Taken;
-use crate::heads::{compared, heads_of};
-use crate::leaders::take_all;
-use crate::numbers::number;
-use crate::stand_ins::{all_stand_ins, with_leaders};
+use crate::heads::heads_of;
+use crate::leaders::leaders_of;
+use crate::numbers::{Taken, number};
+use crate::stand_ins::all_stand_ins;
 use sp_matching::Matching;
 use sp_struct_agree::Entity;
 use sp_units::CheckedUnit;
@@ -27,10 +26,8 @@ fn stand_ins_of(
 {
     let turn = in_turn(alloc, units, all)?;
     let heads = heads_of(alloc, units, &turn)?;
-    let compared = compared(alloc, units, &heads, all)?;
-    let taken = take_all(alloc, units, &compared)?;
-    let led = with_leaders(alloc, taken)?;
-    all_stand_ins(alloc, units, &heads, &led, all)
+    let leaders = leaders_of(alloc, units, all)?;
+    all_stand_ins(alloc, units, &heads, &leaders, all)
 }
 
 /// Which structs of the units are one (C90 6.1.2.6).

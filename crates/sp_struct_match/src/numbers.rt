@@ -11,13 +11,15 @@ ghost use Rattle.sp_struct_match.specs.Matched.{of_unit, of_units, numbers_of_un
 ghost use Rattle.sp_struct_match.specs.Turns.{number_by};
 
 use crate::entities::{entity, narrow};
-use crate::groups::Taken;
 use indexmap::IndexMap;
 use sp_matching::Matching;
 use sp_struct_agree::Entity;
 use sp_types::StructType;
 use sp_units::CheckedUnit;
 use std::alloc::{AllocError, Global};
+
+/// A struct, and the one that stands for it.
+pub(crate) type Taken = (Entity, Entity);
 
 /// How the number of a struct is looked up.
 #[derive(Drop)]
@@ -29,10 +31,7 @@ struct Numbering {
 }
 
 /// What a list of pairs has first behind each struct.
-pub(crate) fn first_values(
-    alloc: Global,
-    taken: &[Taken],
-) -> Result<IndexMap<Entity, Entity>, AllocError>
+fn first_values(alloc: Global, taken: &[Taken]) -> Result<IndexMap<Entity, Entity>, AllocError>
     ensures { IfOk result (λ m. (x : ℕ × ℕ) →
         get same_entity m x ≡ lookup (same_entity x) taken.now) }
 {

@@ -11,16 +11,15 @@ use Rattle.sp_operands.specs.Answers.{Checked, accepted, refused, where_given}
 use Rattle.sp_units.specs.Units.{CheckedUnit}
 use Rattle.sp_matching.specs.Matching.{Matching}
 use Rattle.sp_struct_agree.specs.Depths.{struct_of_table, struct_at}
-use Rattle.sp_struct_match.specs.Matched.{AreMatched}
 use Rattle.sp_struct_match.specs.Laws.{StructsAreThere}
 use Rattle.sp_conflicts.specs.Conflicts.{tables_of}
 use Rattle.sp_joining.specs.Entries.{Joined, Numbers, nothing_joined}
 use Rattle.sp_joining.specs.Units.{unit_joined, next_unit, units_joined}
 use Rattle.sp_link.specs.Making.{final_types, renaming, no_renaming, renaming_of_unit, structs_of, struct_told, struct_made}
-use Rattle.sp_link.specs.Linking.{main_from, renamings, program_made, linked}
-use Rattle.sp_program.specs.Links.{Links, in_conflict, in_agreement}
-use Rattle.sp_table_laws.specs.Tables.{program_struct, program_structs, AreTables, TablesStay, LinkedTables}
-use Rattle.sp_table_laws.proofs.Lists.{some_is, map_got, map_from, index_got}
+use Rattle.sp_link.specs.Linking.{main_from, renamings, program_made}
+use Rattle.sp_program.specs.Links.{in_conflict, in_agreement}
+use Rattle.sp_table_laws.specs.Tables.{program_struct, program_structs, TablesStay, LinkedTables}
+use Rattle.sp_table_laws.proofs.Lists.{map_got, map_from, index_got}
 
 -- ---- the numbers of structs
 

@@ -1,5 +1,5 @@
 -- Elements of lists.
-use Rattle.std.proofs.Common.{◌≡◌, ℕ, zero, suc, ◌+◌, ◌<◌, Bool, true, false, ◌&&◌, length, map, List, [], ◌∷◌, Option, Some, None, is_some, refl, ap, sym, ◌∙◌, true≢false, arith}
+use Rattle.std.proofs.Common.{◌≡◌, ℕ, zero, suc, ◌<◌, Bool, true, false, ◌&&◌, length, map, List, [], ◌∷◌, Some, None, is_some, refl, ap, sym, true≢false, arith}
 use Rattle.std.specs.Prelude.{slice_get, slice_index_or, All}
 
 pub some_is : {A : Type 0} (x y : A) → Some x ≡ Some y → x ≡ y

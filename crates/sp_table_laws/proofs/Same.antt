@@ -1,20 +1,20 @@
 -- Structs with members that agree have one size, level and counts.
-use Rattle.std.proofs.Common.{◌≡◌, ℕ, zero, suc, ◌+◌, ◌*◌, ◌^◌, ◌<◌, ◌≤◌, max, Bool, true, false, ◌&&◌, ◌==◌, nat_le, if◌then◌else◌, List, [], ◌∷◌, Option, Some, None, is_some, refl, ap, sym, subst, ◌∙◌, true≢false, eqb-true, arith}
+use Rattle.std.proofs.Common.{◌≡◌, ℕ, zero, suc, ◌<◌, max, Bool, true, false, ◌&&◌, ◌==◌, List, [], ◌∷◌, Option, Some, None, refl, ap, sym, subst, ◌∙◌, true≢false, eqb-true, arith}
 use Rattle.std.specs.Prelude.{slice_get, All, ⊤}
 use Rattle.std.specs.Option.{option_eq}
 use Rattle.sp_types.specs.Types.{CType, void, integer, floating, pointer, array, structure, function, Struct}
 use Rattle.sp_types.specs.Layout.{extent, layout, repeated, struct_extent, integer_size, floating_size}
 use Rattle.sp_types.specs.Compatible.{same_kind, same_float, same_flag}
-use Rattle.sp_types.specs.Structs.{IsTable, IsWhole, IsAbove, IsFormed, held, height, height_of, leaves, leaves_of, cells, cells_of, times, plus, sum_of, level_above, with_member, with_members, leaves_of_members, cells_of_members}
+use Rattle.sp_types.specs.Structs.{IsWhole, IsAbove, IsFormed, held, height, height_of, leaves, leaves_of, cells, cells_of, times, plus, sum_of, level_above, with_member, with_members, leaves_of_members, cells_of_members}
 use Rattle.sp_types.specs.declared.ctype.IntKind.{IntKind}
 use Rattle.sp_types.specs.declared.ctype.IntKind.TheVariants.{Char, SChar, UChar, Short, UShort, Int, UInt, Long, ULong}
 use Rattle.sp_types.specs.declared.ctype.FloatKind.{FloatKind}
 use Rattle.sp_types.specs.declared.ctype.FloatKind.TheVariants.{Float, Double, LongDouble}
 use Rattle.sp_types.specs.declared.extents.Extent.{Extent}
 use Rattle.sp_struct_agree.specs.Agreement.{compatible_by, members_agree, contents_agree, same_head, structs_agree}
-use Rattle.sp_struct_agree.specs.Depths.{struct_of_table, struct_at, found_agree, agrees_within, Agree, TypesAgree}
+use Rattle.sp_struct_agree.specs.Depths.{struct_of_table, found_agree, agrees_within, Agree, TypesAgree}
 use Rattle.sp_table_laws.specs.Tables.{AreTables}
-use Rattle.sp_table_laws.proofs.Lists.{some_is, none_some, head_all, tail_all, and_left, and_right}
+use Rattle.sp_table_laws.proofs.Lists.{none_some, head_all, tail_all, and_left, and_right}
 
 -- ---- sizes of kinds
 

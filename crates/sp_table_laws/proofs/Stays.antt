@@ -1,15 +1,16 @@
 -- The structs of a program form a table where those of its units do.
-use Rattle.std.proofs.Common.{◌≡◌, ℕ, zero, suc, ◌+◌, ◌*◌, ◌^◌, ◌<◌, ◌≤◌, Bool, true, false, nat_le, cond, if◌then◌else◌, get_or, length, map, List, [], ◌∷◌, Option, Some, None, is_some, option_map, ◌⊎◌, inl, inr, refl, ap, sym, subst, ◌∙◌, true≢false, arith}
+use Rattle.std.proofs.Common.{◌≡◌, ℕ, zero, suc, ◌*◌, ◌^◌, ◌<◌, Bool, true, false, nat_le, if◌then◌else◌, get_or, length, List, [], ◌∷◌, Option, Some, None, is_some, option_map, ◌⊎◌, inl, inr, refl, ap, sym, subst, ◌∙◌, true≢false, arith}
 use Rattle.std.proofs.lemmas.Bool.{leb-true}
-use Rattle.std.specs.Prelude.{slice_get, slice_index_or, All, ⊤}
+use Rattle.std.specs.Prelude.{slice_get, slice_index_or, All}
 use Rattle.sp_types.specs.Types.{CType, void, integer, floating, pointer, array, structure, function, Signature, signature, Parameters, untold, listed, CTypes, no_types, next_type, Struct}
 use Rattle.sp_types.specs.Layout.{extent, layout, repeated, struct_extent}
-use Rattle.sp_types.specs.Structs.{IsTable, IsWhole, IsAbove, IsFormed, IsFormedSignature, AreFormedParameters, AreFormed, IsSmall, held, height_of, leaves_of, cells_of, times, with_member, with_members}
+use Rattle.sp_types.specs.Structs.{IsWhole, IsAbove, IsFormed, IsFormedSignature, AreFormedParameters, AreFormed, IsSmall, held, height_of, leaves_of, cells_of, times, with_member, with_members}
 use Rattle.sp_types.specs.declared.extents.Extent.{Extent}
 use Rattle.sp_renaming.specs.Renaming.{number_in, renamed_type, renamed_signature, renamed_parameters, renamed_types}
 use Rattle.sp_matching.specs.Matching.{Matching}
 use Rattle.sp_struct_agree.specs.Depths.{struct_of_table, struct_at, Agree}
-use Rattle.sp_struct_match.specs.Matched.{has_members, is_complete, AreMatched}
+use Rattle.sp_struct_match.specs.Joined.{has_members, is_complete, IsStep, Joined, itself, onward, backward}
+use Rattle.sp_struct_match.specs.Matched.{of_units, IsFirst, AreMatched}
 use Rattle.sp_struct_match.specs.Laws.{number_of, StructsAreNumbered, StructsAreThere}
 use Rattle.sp_link.specs.Making.{renamed_members, renamed_struct, struct_told}
 use Rattle.sp_table_laws.specs.Tables.{program_struct, program_structs, AreTables, TablesStay}
@@ -44,6 +45,19 @@ table_there us x s e = by (slice_get us x.0) refl e
     by None g h = absurd (none_some s h)
     by (Some ss) g h = (ss, g, h)
 
+found_some : (o : Option Struct) → is_some o ≡ true → (s : Struct) × (o ≡ Some s)
+found_some None h = absurd (true≢false (sym h))
+found_some (Some s) h = (s, refl)
+
+-- a struct with members, in its table and with its extent
+pub record InTable (us : List (List Struct)) (x : ℕ × ℕ) : Type 0 where
+  table : List Struct
+  entry : Struct
+  whole : Extent
+  table-is : slice_get us x.0 ≡ Some table
+  entry-is : slice_get table x.1 ≡ Some entry
+  whole-is : entry.extent ≡ Some whole
+
 -- the entry that the program has for a struct of a unit
 pub record Entry (us : List (List Struct)) (m : Matching) (x : ℕ × ℕ) (s : Struct) : Type 0 where
   number : ℕ
@@ -52,7 +66,7 @@ pub record Entry (us : List (List Struct)) (m : Matching) (x : ℕ × ℕ) (s : 
   there : slice_get (program_structs us m) number ≡ Some entry
   same : (e : Extent) → s.extent ≡ Some e → SameStruct entry s
 
-module _ (us : List (List Struct)) (m : Matching) (matched : AreMatched us m) (tables : AreTables us) (numbered : StructsAreNumbered) where
+module _ (us : List (List Struct)) (m : Matching) (matched : AreMatched us m) (tables : AreTables us) (numbered : StructsAreNumbered) (are_there : StructsAreThere) where
   told : (r : ℕ × ℕ) (t : Struct) → struct_at us r ≡ Some t → program_struct us m r ≡ renamed_struct (slice_index_or m.numbers r.0 []) t
   told r t e = ap (struct_told (slice_index_or m.numbers r.0 [])) e
 
@@ -70,32 +84,67 @@ module _ (us : List (List Struct)) (m : Matching) (matched : AreMatched us m) (t
   some_members : (ms : Option (List (ℕ × CType))) (l : List (ℕ × CType)) → ms ≡ Some l → is_some ms ≡ true
   some_members ms l e = ap is_some e
 
-  another : (x r : ℕ × ℕ) (ss : List Struct) (s : Struct) (e : Extent) → slice_get us x.0 ≡ Some ss → slice_get ss x.1 ≡ Some s → s.extent ≡ Some e → Agree us r x → is_complete us r ≡ true → SameStruct (program_struct us m r) s
-  another x r ss s e a b p h c =
-      let t : (t : Struct) × (struct_at us r ≡ Some t) × (is_some t.members ≡ true) = full (struct_at us r) c in
-      let w : (tt : List Struct) × (slice_get us r.0 ≡ Some tt) × (slice_get tt r.1 ≡ Some t.0) = table_there us r t.0 t.1 in
-      let q : (f : Extent) × (t.0.extent ≡ Some f) = sized w.0 t.0 t.0.members t.2 (tables r.0 w.0 w.1 r.1 t.0 w.2) in
-      let same : SameStruct t.0 s = within us tables (suc t.0.level) r x w.0 ss t.0 s q.0 e w.1 a w.2 b q.1 p (omega arith) h in
+  in_table : (x : ℕ × ℕ) → is_complete us x ≡ true → InTable us x
+  in_table x c =
+      let t : (t : Struct) × (struct_at us x ≡ Some t) × (is_some t.members ≡ true) = full (struct_at us x) c in
+      let w : (tt : List Struct) × (slice_get us x.0 ≡ Some tt) × (slice_get tt x.1 ≡ Some t.0) = table_there us x t.0 t.1 in
+      let q : (f : Extent) × (t.0.extent ≡ Some f) = sized w.0 t.0 t.0.members t.2 (tables x.0 w.0 w.1 x.1 t.0 w.2) in
+      record { table = w.0; entry = t.0; whole = q.0; table-is = w.1; entry-is = w.2; whole-is = q.1 }
+
+  same_back : (s t : Struct) → SameStruct s t → SameStruct t s
+  same_back s t h = record { extents = sym h.extents; levels = sym h.levels; leaf_counts = sym h.leaf_counts; cell_counts = sym h.cell_counts }
+
+  same_on : (r s t : Struct) → SameStruct r s → SameStruct s t → SameStruct r t
+  same_on r s t h g = record { extents = h.extents ∙ g.extents; levels = h.levels ∙ g.levels; leaf_counts = h.leaf_counts ∙ g.leaf_counts; cell_counts = h.cell_counts ∙ g.cell_counts }
+
+  -- a step leads to a struct of the same size
+  step_same : (x y : ℕ × ℕ) (s t : Struct) → IsStep us x y → struct_at us x ≡ Some s → struct_at us y ≡ Some t → SameStruct s t
+  step_same x y s t step a b =
+      let v : InTable us x = in_table x step.0 in
+      let w : InTable us y = in_table y step.1 in
+      let same : SameStruct v.entry w.entry =
+      within us tables (suc v.entry.level) x y v.table w.table v.entry w.entry v.whole w.whole v.table-is w.table-is v.entry-is w.entry-is v.whole-is w.whole-is (omega arith) step.3 in
+      let left : v.entry ≡ s = some_is v.entry s (sym (ap (λ o. struct_of_table o x.1) v.table-is ∙ v.entry-is) ∙ a) in
+      let right : w.entry ≡ t = some_is w.entry t (sym (ap (λ o. struct_of_table o y.1) w.table-is ∙ w.entry-is) ∙ b) in
+      subst (λ z. SameStruct z t) left (subst (SameStruct v.entry) right same)
+
+  -- and so does a chain
+  chain_same : (x y : ℕ × ℕ) (s t : Struct) → Joined us x y → struct_at us x ≡ Some s → struct_at us y ≡ Some t → SameStruct s t
+  chain_same x y s t (itself e) a b =
+      subst (SameStruct s) (some_is s t (sym a ∙ ap (struct_at us) e ∙ b)) (record { extents = refl; levels = refl; leaf_counts = refl; cell_counts = refl })
+  chain_same x y s t (onward z j step) a b =
+      let w : (r : Struct) × (struct_at us z ≡ Some r) × (is_some r.members ≡ true) = full (struct_at us z) step.0 in
+      same_on s w.0 t (chain_same x z s w.0 j a w.1) (step_same z y w.0 t step w.1 b)
+  chain_same x y s t (backward z j step) a b =
+      let w : (r : Struct) × (struct_at us z ≡ Some r) × (is_some r.members ≡ true) = full (struct_at us z) step.1 in
+      same_on s w.0 t (chain_same x z s w.0 j a w.1) (same_back t w.0 (step_same y z t w.0 step b w.1))
+
+  first_there : {A : Type 0} (P : A → Type 0) (xs : List A) (r : A) → IsFirst P xs (Some r) → P r
+  first_there P [] r h = absurd (none_some r (sym h))
+  first_there P (x ∷ xs) r (inl h) = subst P (some_is x r (sym h.1)) h.0
+  first_there P (x ∷ xs) r (inr h) = first_there P xs r h.1
+
+  another : (x r : ℕ × ℕ) (s : Struct) → struct_at us x ≡ Some s → is_complete us x ≡ true → Joined us x r → (t : Struct) × (struct_at us r ≡ Some t) → SameStruct (program_struct us m r) s
+  another x r s a c j t =
+      let same : SameStruct t.0 s = same_back s t.0 (chain_same x r s t.0 j a t.1) in
       subst (λ z. SameStruct z s) (sym (told r t.0 t.1)) (record { extents = same.extents; levels = same.levels; leaf_counts = same.leaf_counts; cell_counts = same.cell_counts })
 
   pub entry_of : (x : ℕ × ℕ) (ss : List Struct) (s : Struct) → slice_get us x.0 ≡ Some ss → slice_get ss x.1 ≡ Some s → Entry us m x s
   entry_of x ss s a b =
       let found : struct_at us x ≡ Some s = ap (λ o. struct_of_table o x.1) a ∙ b in
-      let w : (n : ℕ) × (r : ℕ × ℕ) × (number_of m x ≡ Some n) × (slice_get m.structs n ≡ Some r) × ((r ≡ x) ⊎ (Agree us r x × (is_complete us x ≡ true → is_complete us r ≡ true))) = numbered us m x s matched found in
+      let w : (n : ℕ) × (r : ℕ × ℕ) × (number_of m x ≡ Some n) × (slice_get m.structs n ≡ Some r) × (is_complete us x ≡ true → IsFirst (Joined us x) (of_units 0 us) (Some r)) × (is_complete us x ≡ false → (r ≡ x) ⊎ Agree us r x) =
+      numbered us m x s matched found in
       record {
         number = w.0;
         entry = program_struct us m w.1;
         named = index_got (slice_index_or m.numbers x.0 []) x.1 w.0 0 w.2;
         there = map_got (program_struct us m) m.structs w.0 w.1 w.3;
-        same = λ e p. by e p found w.1 w.4;
+        same = λ e p.
+            let v : (ms : List (ℕ × CType)) × (s.members ≡ Some ms) × IsWhole ss s (Some ms) = whole_members ss s s.members e p (tables x.0 ss a x.1 s b) in
+            let c : is_complete us x ≡ true = ap has_members found ∙ ap is_some v.1 in
+            another x w.1 s found c (first_there (Joined us x) (of_units 0 us) w.1 (w.4 c))
+            (found_some (struct_at us w.1) (are_there us m w.0 w.1 matched w.3));
       }
-    where
-      by : (e : Extent) → s.extent ≡ Some e → struct_at us x ≡ Some s → (r : ℕ × ℕ) → (r ≡ x) ⊎ (Agree us r x × (is_complete us x ≡ true → is_complete us r ≡ true)) → SameStruct (program_struct us m r) s
-      by e p found r (inl same) = subst (λ z. SameStruct (program_struct us m z) s) (sym same) (its_own x s found)
-      by e p found r (inr h) =
-          let v : (ms : List (ℕ × CType)) × (s.members ≡ Some ms) × IsWhole ss s (Some ms) = whole_members ss s s.members e p (tables x.0 ss a x.1 s b) in
-          let c : is_complete us x ≡ true = ap has_members found ∙ ap is_some v.1 in
-          another x r ss s e a b p h.0 (h.1 c)
 
   -- ---- types of a unit
 
@@ -208,12 +257,8 @@ module _ (us : List (List Struct)) (m : Matching) (matched : AreMatched us m) (t
       let w : (ss : List Struct) × (slice_get us r.0 ≡ Some ss) × (slice_get ss r.1 ≡ Some s) = table_there us r s e in
       subst (λ z. IsWhole (program_structs us m) z z.members) (sym (told r s e)) (whole_kept r.0 w.0 w.1 s s.members (tables r.0 w.0 w.1 r.1 s w.2))
 
-found_some : (o : Option Struct) → is_some o ≡ true → (s : Struct) × (o ≡ Some s)
-found_some None h = absurd (true≢false (sym h))
-found_some (Some s) h = (s, refl)
-
 pub tables_stay : StructsAreNumbered → StructsAreThere → TablesStay
 tables_stay numbered there us m matched tables n t at =
     let w : (r : ℕ × ℕ) × (slice_get m.structs n ≡ Some r) × (program_struct us m r ≡ t) = map_from (program_struct us m) m.structs n t at in
     let s : (s : Struct) × (struct_at us w.0 ≡ Some s) = found_some (struct_at us w.0) (there us m n w.0 matched w.1) in
-    subst (λ z. IsWhole (program_structs us m) z z.members) w.2 (made_whole us m matched tables numbered w.0 s.0 s.1)
+    subst (λ z. IsWhole (program_structs us m) z z.members) w.2 (made_whole us m matched tables numbered there w.0 s.0 s.1)

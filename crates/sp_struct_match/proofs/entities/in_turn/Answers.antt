@@ -1,6 +1,6 @@
 use Rattle.std.proofs.Common.{◌≤◌, ◌++◌, not, filter, length, sym, ap, ◌∙◌, append-nil, arith, drop_of_length-le}
 use Rattle.sp_struct_agree.specs.Depths.{tables}
-use Rattle.sp_struct_match.specs.Matched.{is_complete}
+use Rattle.sp_struct_match.specs.Joined.{is_complete}
 use Rattle.sp_struct_match.proofs.entities.in_turn.Goals as goal
 
 pub returns : goal.returns

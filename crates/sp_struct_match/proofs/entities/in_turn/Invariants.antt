@@ -1,6 +1,6 @@
 use Rattle.std.proofs.Common.{◌≡◌, ◌++◌, not, filter, drop}
 use Rattle.sp_struct_agree.specs.Depths.{tables}
-use Rattle.sp_struct_match.specs.Matched.{is_complete}
+use Rattle.sp_struct_match.specs.Joined.{is_complete}
 use Rattle.sp_struct_match.proofs.entities.in_turn.Given as goal
 
 abbrev pub invariant-complete : goal.invariant-complete

@@ -1,4 +1,4 @@
-use Rattle.std.proofs.Common.{◌≡◌, ◌+◌, ◌<◌, ◌∷◌, ◌⊎◌, ◌&&◌, not, length, drop, get_or, is_some, inl, inr, ⊎_elim, sym, ap, subst, cond, Some, true, false, ◌∙◌, arith}
+use Rattle.std.proofs.Common.{◌≡◌, ◌+◌, ◌<◌, ◌∷◌, ◌&&◌, not, length, drop, get_or, is_some, inl, inr, ⊎_elim, sym, ap, cond, Some, true, false, ◌∙◌, arith}
 use Rattle.indexmap.specs.IndexMap.{get}
 use Rattle.sp_struct_agree.specs.Depths.{tables, struct_at}
 use Rattle.sp_struct_match.specs.Groups.{same_key, head_key}

@@ -1,0 +1,6 @@
+pub mod Steps
+pub mod Picked
+pub mod Stored
+pub mod Owned
+pub mod Listed
+pub mod Local

@@ -1,0 +1,63 @@
+//! The nodes of the system.
+ghost use Rattle.std.specs.Prelude.{◌≡◌, ◌<◌, ◌^◌, length, IfOk};
+ghost use Rattle.std.specs.List.Sorted.{IsStrictlyIncreasing};
+ghost use Rattle.sp_scenes.specs.View.{analysed_of};
+ghost use Rattle.sp_accesses.specs.Locals.{AreLocals};
+ghost use Rattle.sp_defuse.specs.Nodes.{IsNode, AreNodes};
+
+use crate::sources::sources;
+use sp_accesses::{definitions, local_cells, uses};
+use sp_scenes::Analysis;
+use sp_sets::NumberSet;
+use std::alloc::{AllocError, Global};
+
+/// A node of the supergraph.
+#[derive(Drop)]
+pub struct Node {
+    /// Its number in the program.
+    pub number: u32,
+    /// The nodes from which edges lead into it, by their places in the graph.
+    pub into: NumberSet,
+    /// The locations that it defines, ascending.
+    pub defs: Vec<u32>,
+    /// The locations that it uses, ascending.
+    pub uses: Vec<u32>,
+}
+
+/// The node of this number.
+fn node_at(
+    alloc: Global,
+    analysis: &Analysis,
+    locals: &[NumberSet],
+    number: u32,
+) -> Result<Node, AllocError>
+    requires locals { AreLocals (analysed_of analysis.now) locals.now }
+    requires ascend { IsStrictlyIncreasing analysis.now.flow.nodes }
+    requires few { length analysis.now.flow.nodes < 2 ^ 32 }
+    ensures { IfOk result (IsNode (analysed_of analysis.now) analysis.now.flow number) }
+{
+    let into = sources(alloc, &analysis.flow, number)?;
+    let defs = definitions(alloc, analysis, locals, number)?;
+    let uses = uses(alloc, analysis, &defs, number)?;
+    Ok(Node {
+        number,
+        into,
+        defs,
+        uses,
+    })
+}
+
+/// The nodes of the graph, in the order of their numbers.
+pub(crate) fn nodes_of(alloc: Global, analysis: &Analysis) -> Result<Vec<Node>, AllocError>
+    requires ascend { IsStrictlyIncreasing analysis.now.flow.nodes }
+    requires few { length analysis.now.flow.nodes < 2 ^ 32 }
+    ensures { IfOk result (λ nodes. AreNodes (analysed_of analysis.now) analysis.now.flow
+        analysis.now.flow.nodes nodes.items) }
+{
+    let locals = local_cells(alloc, analysis)?;
+    let mut nodes = Vec::new(alloc);
+    for number in analysis.flow.nodes() {
+        nodes.push(node_at(alloc, analysis, &locals, *number)?)?;
+    }
+    Ok(nodes)
+}

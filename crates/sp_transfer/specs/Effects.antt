@@ -1,0 +1,94 @@
+-- The effect of each node of an analysed program, with the locations that it defines and uses.
+use Rattle.std.specs.Prelude.{ℕ, Bool, false, List, ◌++◌, Option, Some, None}
+use Rattle.sp_lattice.specs.System.{has}
+use Rattle.sp_lattice.specs.declared.relations.Relation.{Relation}
+use Rattle.sp_ir.specs.Commands.{Expression, Command, start, entry, exit, skip, assign, copy, init, assume, eval, call, return, library, outside}
+use Rattle.sp_ir.specs.Terrain.{terrain_of}
+use Rattle.sp_ir.specs.Denoted.{uses_of}
+use Rattle.sp_puts.specs.Puts.{command_at}
+use Rattle.sp_eval.specs.Numbers.{relation_of}
+use Rattle.sp_rows.specs.Rows.{Store, Row, applied, untouched}
+use Rattle.sp_rows.specs.Setting.{cell_of}
+use Rattle.sp_rows.specs.Storing.{may_hit}
+use Rattle.sp_stores.specs.Destinations.{destination, assigning, assign_uses}
+use Rattle.sp_conditions.specs.Conditions.{assuming, assume_defines, assume_uses}
+use Rattle.sp_scenes.specs.Analysed.{Analysed, setting_of, scene_of}
+use Rattle.sp_entries.specs.Starts.{starting, start_defines, start_uses}
+use Rattle.sp_entries.specs.Entries.{entering, entry_defines}
+use Rattle.sp_entries.specs.Initials.{initialising, init_defines, init_uses}
+use Rattle.sp_calls.specs.Copies.{leaf_destination, copying, copy_uses, arguments_read, result_defines, result_found}
+use Rattle.sp_calls.specs.Outside.{from_outside, outside_uses}
+use Rattle.sp_calls.specs.Passed.{calling, call_defines, call_uses}
+use Rattle.sp_calls.specs.Returns.{returning, return_uses}
+
+-- a formed program has no condition of another mark
+abbrev pub assuming_by : Analysed → Option Relation → Expression → Expression → Store → Row
+assuming_by a None e f = λ s. untouched
+assuming_by a (Some op) e f = assuming (scene_of a) e op f
+
+-- What the command of the node n makes of a store. Functions of the library have no effect yet.
+abbrev pub row_of : Analysed → ℕ → Command → Store → Row
+row_of a n start = starting a
+row_of a n (entry f) = entering a f
+row_of a n (exit f) = λ s. untouched
+row_of a n skip = λ s. untouched
+row_of a n (assign to e) = assigning (scene_of a) to e
+row_of a n (copy to from) = copying a to from
+row_of a n (init o values zeros) = initialising a o values zeros
+row_of a n (assume e op f) = assuming_by a (relation_of op) e f
+row_of a n (eval e) = λ s. untouched
+row_of a n (call callee args) = calling a n args
+row_of a n (return c to) = returning a c to
+row_of a n (library which to args site) = λ s. untouched
+row_of a n (outside to args site) = from_outside a to site
+
+-- the locations that it may change
+abbrev pub defined_by : Analysed → ℕ → Command → ℕ → Bool
+defined_by a n start = start_defines a
+defined_by a n (entry f) = entry_defines a f
+defined_by a n (exit f) = λ l. false
+defined_by a n skip = λ l. false
+defined_by a n (assign to e) = may_hit (destination (scene_of a) to)
+defined_by a n (copy to from) = may_hit (leaf_destination a to)
+defined_by a n (init o values zeros) = init_defines a o
+defined_by a n (assume e op f) = assume_defines (scene_of a) e f
+defined_by a n (eval e) = λ l. false
+defined_by a n (call callee args) = call_defines a n
+defined_by a n (return c to) = result_defines a to
+defined_by a n (library which to args site) = λ l. false
+defined_by a n (outside to args site) = result_defines a to
+
+-- whether a location's cell is among these regions
+abbrev pub is_among : Analysed → List ℕ → ℕ → Bool
+is_among a regions l = has (cell_of (setting_of a) l) regions
+
+-- the locations on which what it makes, and what may go wrong there, depends
+abbrev pub used_by : Analysed → ℕ → Command → ℕ → Bool
+used_by a n start = start_uses a
+used_by a n (entry f) = λ l. false
+used_by a n (exit f) = λ l. false
+used_by a n skip = λ l. false
+used_by a n (assign to e) = assign_uses (scene_of a) to e
+used_by a n (copy to from) = copy_uses a to from
+used_by a n (init o values zeros) = init_uses a o values
+used_by a n (assume e op f) = assume_uses (scene_of a) e f
+used_by a n (eval e) = is_among a (uses_of (terrain_of a.program) (setting_of a).points_to e)
+used_by a n (call callee args) = call_uses a n callee args
+used_by a n (return c to) = return_uses a c to
+used_by a n (library which to args site) = is_among a (arguments_read a args ++ result_found a to)
+used_by a n (outside to args site) = outside_uses a to args
+
+-- ---- nodes
+
+abbrev pub row_at : Analysed → ℕ → Store → Row
+row_at a n = row_of a n (command_at a.program n)
+
+abbrev pub defined_at : Analysed → ℕ → ℕ → Bool
+defined_at a n = defined_by a n (command_at a.program n)
+
+abbrev pub used_at : Analysed → ℕ → ℕ → Bool
+used_at a n = used_by a n (command_at a.program n)
+
+-- what a node makes of the store that reaches it
+abbrev pub effect_at : Analysed → ℕ → Store → Store
+effect_at a n s = applied (row_at a n s) s

@@ -1,0 +1,18 @@
+//! The effect of each node of an analysed program.
+//!
+//! A node makes a store of the store that reaches it, by its command: the *effect* (`effect_at` of
+//! `specs.Effects`). It is a row that says of each location whether what it held is kept, and what
+//! is put beside that. What a node may change it *defines*, and that hangs on what it *uses* alone.
+//! So for `*p = q;` where `p` may point to `a` and to `b`, the node defines `a` and `b`. It uses `p`
+//! and `q`, and `a` and `b` too, which may keep what they hold.
+//!
+//! The layer above uses that [`effect`] fills a node's row of slots by exactly `effect_at`. It uses
+//! that effects keep the laws of a system (`TransferLaws` of `specs.Laws`, which
+//! [`effects_are_lawful`] ensures). Functions of the library have no effect yet.
+#![tactic(auto)]
+
+mod effects;
+mod laws;
+
+pub use effects::effect;
+pub use laws::effects_are_lawful;
