@@ -1,4 +1,7 @@
+void *malloc(unsigned long size);
+
 int main(void){
-  char c;
-  return 0;
+  int *p;
+  p = malloc(4);
+  return p == 0;
 }

@@ -1,6 +1,6 @@
 #!/usr/bin/env bash
-# Runs the built program on each text of tests/cases/ under both commands, and compares what it
-# writes and its status. tests/cases/README.md tells the format.
+# Runs the built program on each text of tests/cases/ and each program of tests/programs/ under both
+# commands, and compares what it writes and its status. tests/cases/README.md tells the formats.
 . "$(dirname "$0")/lib.sh"
 # ./sparrow builds the program where that is needed.
 ./sparrow >/dev/null 2>&1
@@ -17,6 +17,23 @@ for file in tests/cases/*.tsv; do
         printf '%b' "$text" >"$room/a.c"
         for command in analyse dense; do
             check "$file, $name, $command" "$status" "${answer//|/$'\n'}"$'\n' in_room "$command" a.c
+        done
+    done <"$file"
+done
+
+for file in tests/programs/*.tsv; do
+    flags=()
+    [ "$file" != tests/programs/values.tsv ] || flags=(--values)
+    while IFS=$'\t' read -r name status first second answer || [ -n "$name" ]; do
+        files=(a.c)
+        printf '%b' "$first" >"$room/a.c"
+        if [ "$second" != '(none)' ]; then
+            printf '%b' "$second" >"$room/b.c"
+            files+=(b.c)
+        fi
+        for command in analyse dense; do
+            check "$file, $name, $command" "$status" "${answer//|/$'\n'}"$'\n' \
+                in_room "$command" "${flags[@]}" "${files[@]}"
         done
     done <"$file"
 done

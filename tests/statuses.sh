@@ -6,22 +6,27 @@ room=$(mktemp -d)
 trap 'rm -rf "$room"' EXIT
 
 usage=$'usage: sparrow COMMAND [OPTION] WORD..\n'
-commands='sparrow: the commands are: analyse FILE, dense FILE'
+commands='sparrow: the commands are: analyse [--values] FILE.., dense [--values] FILE..'
 file=examples/overrun.c
 check 'no words' 3 "$usage" ./sparrow
 check 'a command alone' 3 "$usage" ./sparrow analyse
 check 'an option' 3 "$usage" ./sparrow analyse --fast "$file"
-check 'values, which come later' 3 "$usage" ./sparrow analyse --values "$file"
-check 'two files' 3 "$usage" ./sparrow analyse "$file" "$file"
+check 'the flag twice' 3 "$usage" ./sparrow analyse --values --values "$file"
+check 'a value for the flag' 3 "$usage" ./sparrow analyse --values=1 "$file"
+check 'the flag without a file' 3 "$usage" ./sparrow dense --values
+check 'no file behind the end of options' 3 "$usage" ./sparrow dense --
+check 'help' 3 "$usage" ./sparrow analyse --help
 check 'an option in place of the file' 3 "$usage" ./sparrow analyse --fast
-check 'a dash in place of the file' 3 "$usage" ./sparrow analyse -
-check 'the empty word in place of the file' 3 "$usage" ./sparrow analyse ''
 check 'another command' 3 "$usage" ./sparrow Analyse "$file"
 check 'the file first' 3 "$usage" ./sparrow "$file" analyse
 check 'a bench of nothing' 3 "$usage" ./sparrow bench 0
 check_said 'wrong words' "$commands" ./sparrow Analyse "$file"
 
 check 'a missing file' 4 '' ./sparrow analyse examples/none.c
+check 'a dash as a file' 4 '' ./sparrow analyse -
+check 'the empty word as a file' 4 '' ./sparrow analyse ''
+check 'the flag as a file' 4 '' ./sparrow analyse -- --values
+check 'a second file that is missing' 4 '' ./sparrow analyse "$file" examples/none.c
 check 'a folder' 4 '' ./sparrow dense examples
 check_said 'a missing file' "sparrow: examples/none.c can't be read" ./sparrow analyse examples/none.c
 check_said 'a folder' "sparrow: examples can't be read" ./sparrow dense examples
@@ -35,14 +40,26 @@ check_said 'a full device' "sparrow: standard output can't be written" full
 endless=$'/dev/zero:1:1: refused M7: text past 16777216 bytes\n'
 check 'a file without an end' 2 "$endless" ./sparrow analyse /dev/zero
 
-# The longest text of the small language has 16,384 bytes.
-for length in 16384 16385; do
-    { cat "$file"; head -c "$length" /dev/zero | tr '\0' ' '; } | head -c "$length" >"$room/$length.c"
-done
-report="$room/16384.c"$':6:5: overrun: offset [0,10], size [10,10]\n1 alarm\n'
-check '16,384 bytes' 1 "$report" ./sparrow analyse "$room/16384.c"
-refused="$room/16385.c"$':1:1: refused N0: form not built yet\n'
-check '16,385 bytes' 2 "$refused" ./sparrow analyse "$room/16385.c"
+# The words of two files and the flag, in any order.
+printf 'extern int x;int main(void){return x;}' >"$room/a.c"
+printf 'int x;' >"$room/b.c"
+in_room() { (cd "$room" && "$program" "$@"); }
+program=$top/crates/sparrow/out/sparrow
+values=$'0 alarms\nnode 2 a.c:1:29: x = [0,0]\n'
+check 'two files' 0 $'0 alarms\n' in_room analyse a.c b.c
+check 'values behind the files' 0 "$values" in_room analyse a.c b.c --values
+check 'values before the end of options' 0 "$values" in_room dense --values -- a.c b.c
+check 'one file twice' 2 $'a.c:1:18: refused F23: second definition\n' in_room analyse a.c b.c a.c
+
+# Files may have 16,777,216 bytes together, and there may be 64.
+head -c 16777200 /dev/zero | tr '\0' ' ' >"$room/blank.c"
+check 'bytes past the limit' 2 $'a.c:1:1: refused M7: text past 16777216 bytes\n' in_room analyse blank.c a.c
+printf 'int main(){;;;;}' >"$room/main.c"
+check 'the last byte within it' 0 $'0 alarms\n' in_room analyse blank.c main.c
+printf 'extern int x;' >"$room/x.c"
+many() { for _ in $(seq "$1"); do echo x.c; done; }
+check '64 files' 0 $'0 alarms\n' in_room analyse main.c $(many 63)
+check '65 files' 2 $'x.c:1:1: refused M9: files past 64\n' in_room analyse main.c $(many 64)
 
 # A text may have 2,000,000 tokens beside its end. These declare nothing, and no `main`.
 head -c 2000000 /dev/zero | tr '\0' ';' >"$room/tokens.c"

@@ -30,7 +30,7 @@ use Rattle.sp_transfer.specs.Equations.{number_of, AreLocations, AreEquations}
 use Rattle.sp_defuse.specs.declared.nodes.Node.{Node}
 use Rattle.sp_defuse.specs.Nodes.{is_source, IsNode, AreNodes}
 use Rattle.sp_defuse.specs.View.{equations_of}
-use Rattle.sp_defuse.proofs.Graphs.{any-default}
+use Rattle.sp_defuse.proofs.Graphs.{any-default, is-lower}
 
 -- ---- nodes one by one
 
@@ -98,9 +98,6 @@ any-there test (e ∷ edges) (suc i) d low h = by (test e) (any-there test edges
 
 lower : (k n : ℕ) → nat_lt k n ≡ true → k < n
 lower k n h = grind (arith, nat_tests, h)
-
-is-lower : (k n : ℕ) → k < n → nat_lt k n ≡ true
-is-lower k n h = grind (arith, nat_tests, h)
 
 module _ (a : Analysed) (g : Graph) (graph : IsSupergraph a.program a.told.calls false g) where
   stands : (j : ℕ) → j < length g.nodes → InGraph a.program a.told.calls (get_or g.nodes j 0)

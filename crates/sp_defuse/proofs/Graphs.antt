@@ -6,8 +6,8 @@ use Rattle.std.proofs.lemmas.List.Kept.{AllPairs-from_increasing}
 use Rattle.sp_updates.proofs.Numbers.{which, side, same_number, apart_numbers}
 use Rattle.sp_defuse.specs.Nodes.{stands_at}
 
-lower : (k n : ℕ) → k < n → nat_lt k n ≡ true
-lower k n h = grind (arith, nat_tests, h)
+pub is-lower : (k n : ℕ) → k < n → nat_lt k n ≡ true
+is-lower k n h = grind (arith, nat_tests, h)
 
 not-lower : (k n : ℕ) → n ≤ k → nat_lt k n ≡ false
 not-lower k n h = grind (arith, nat_tests, h)
@@ -26,12 +26,12 @@ one-place nodes node p rises low at j = by (which j p)
     apart (inr more) other there = λ e. omega (arith, e, at, AllPairs-from_increasing nodes rises p j 0 (grind (arith, more, other)) there)
 
     elsewhere : j ≢ p → (j < length nodes) ⊎ (length nodes ≤ j) → false ≡ stands_at nodes node j
-    elsewhere other (inl there) = sym (ap (λ b. b && nat_eq node (get_or nodes j 0)) (lower j (length nodes) there) ∙ apart_numbers node (get_or nodes j 0) (apart (side j p) other there))
+    elsewhere other (inl there) = sym (ap (λ b. b && nat_eq node (get_or nodes j 0)) (is-lower j (length nodes) there) ∙ apart_numbers node (get_or nodes j 0) (apart (side j p) other there))
     elsewhere other (inr past) = sym (ap (λ b. b && nat_eq node (get_or nodes j 0)) (not-lower j (length nodes) past))
 
     by : (j ≡ p) ⊎ (j ≢ p) → nat_eq j p ≡ stands_at nodes node j
     by (inl e) = ap (λ k. nat_eq k p) e ∙ same_number p
-        ∙ sym (ap (λ k. stands_at nodes node k) e ∙ ap (λ b. b && nat_eq node (get_or nodes p 0)) (lower p (length nodes) low) ∙ ap (λ n. nat_eq node n) at ∙ same_number node)
+        ∙ sym (ap (λ k. stands_at nodes node k) e ∙ ap (λ b. b && nat_eq node (get_or nodes p 0)) (is-lower p (length nodes) low) ∙ ap (λ n. nat_eq node n) at ∙ same_number node)
     by (inr other) = apart_numbers j p other ∙ elsewhere other (side j (length nodes))
 
 pub either-way : (a b : Bool) → (a || b) ≡ (b || a)

@@ -1,4 +1,3 @@
-pub mod EndedLaws
-pub mod LineLaws
-pub mod ReportLaws
-pub mod RunLaws
+mod ReadingLaws
+mod AnswerLaws
+mod RunLaws

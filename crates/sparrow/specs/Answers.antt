@@ -1,98 +1,81 @@
--- What is written for a text, and with which status.
-use Rattle.std.specs.Prelude.{◌≡◌, ℕ, ◌<◌, ◌≤◌, List, [], ◌∷◌, ◌++◌, length, codes, Option, Some, None, Result, Ok, Err, slice_get}
-use Rattle.std.specs.Fmt.{decimal}
+-- What is written for files, and with which status.
+use Rattle.std.specs.Prelude.{◌≡◌, ◌⊎◌, ◌<◌, ◌≤◌, ℕ, zero, suc, Bool, List}
 use Rattle.sp_tree.specs.declared.fault.Fault.{Fault}
-use Rattle.sp_tree.specs.declared.token.Token.{Token}
-use Rattle.sp_lexer.specs.Scan.{start}
-use Rattle.sp_lexer.specs.Answers.{IsOnlyAnswer}
-use Rattle.sp_tree.specs.Faults.{code_of, text_of}
 use Rattle.sp_tree.specs.declared.fault.FaultKind.{FaultKind}
-use Rattle.sp_tree.specs.declared.fault.FaultKind.TheVariants.{Unbuilt, M7, M8}
-use Rattle.sp_small.specs.Syntax.{IsOutside}
-use Rattle.sp_scalars.specs.declared.alarms.Alarm.{Alarm}
-use Rattle.sp_scalars.specs.Equations.{HasAlarms}
-use Rattle.sp_scalars.specs.Outcomes.{HasSlots, most_slots}
-use Rattle.sparrow.specs.Judgement.{Judges, file_begin}
-use Rattle.sparrow.specs.Report.{Lists}
-use Rattle.sparrow.specs.declared.command.Status.{Status}
-use Rattle.sparrow.specs.declared.command.Status.TheVariants.{Clean, Alarms, Refused, Usage, ReadFault, WriteFault, NoMemory}
+use Rattle.sp_tree.specs.declared.fault.FaultKind.TheVariants.{M6, M8}
+use Rattle.sp_ir.specs.Programs.{Lowered}
+use Rattle.sp_lower.specs.Programs.{start_place}
+use Rattle.sp_dense.specs.Solution.{cells, most_cells}
+use Rattle.sp_transfer.specs.Equations.{Equations, meaning_of}
+use Rattle.sp_deps.specs.Answer.{HasTooMany}
+use Rattle.sp_analysis.specs.Outcomes.{AreEquationsOf, IsReportOf, IsStepped}
+use Rattle.sp_analysis.specs.Sparse.{AreKept, IsServed}
+use Rattle.sp_words.specs.declared.request.Engine.{Engine}
+use Rattle.sp_words.specs.declared.request.Engine.TheVariants.{Sparse, Dense}
+use Rattle.sp_front.specs.Sources.{Source}
+use Rattle.sp_front.specs.Answers.{IsLoweredOf, AreRefused}
+use Rattle.sparrow.specs.Refusals.{fault_text}
+use Rattle.sparrow.specs.declared.status.Status.{Status}
+use Rattle.sparrow.specs.declared.status.Status.TheVariants.{Clean, Alarms, Refused, Usage, ReadFault, WriteFault, NoMemory}
 
--- the line that refuses a file at its beginning
-abbrev pub refusal_text : List ℕ → FaultKind → List ℕ
-refusal_text name kind = name ++ (codes ":1:1: refused " ++ (code_of kind ++ (codes ": " ++ (text_of kind ++ 10 ∷ []))))
+-- ---- a program
 
--- the bytes of a name by its number
-abbrev pub name_of : Option (List ℕ) → List ℕ
-name_of None = []
-name_of (Some bytes) = bytes
+-- the equations aren't past the limit of an engine
+abbrev pub IsWithin : Engine → Equations → Type 0
+IsWithin Sparse e = AreKept e
+IsWithin Dense e = cells (meaning_of e) ≤ most_cells
 
--- what follows the name in the line of a fault
-abbrev pub fault_tail : Fault → List ℕ
-fault_tail f = codes ":" ++ (decimal f.place.line ++ (codes ":" ++ (decimal f.place.column ++ (codes ": refused " ++ (code_of f.kind ++ (codes ": " ++ (text_of f.kind ++ 10 ∷ [])))))))
+-- they are, and this tells it
+abbrev pub IsPast : Engine → Equations → FaultKind → Type 0
+IsPast Sparse e kind = HasTooMany (meaning_of e) × (kind ≡ M6)
+IsPast Dense e kind = (most_cells < cells (meaning_of e)) × (kind ≡ M8 (cells (meaning_of e)))
 
--- the line that refuses a file at the place of a fault
-abbrev pub fault_text : List (List ℕ) → Fault → List ℕ
-fault_text names f = name_of (slice_get names f.place.name) ++ fault_tail f
+-- The bytes are the report on a program, and it lists so many alarms.
+pub record HasReport (engine : Engine) (with_values : Bool) (p : Lowered) (names : List (List ℕ)) (count : ℕ) (bytes : List ℕ) : Type 0 where
+  pub equations : Equations
+  pub are : AreEquationsOf p equations
+  pub within : IsWithin engine equations
+  pub report : IsReportOf names with_values equations bytes count
 
--- the longest text that is read, and the most tokens of one
-abbrev pub max_text : ℕ
-max_text = 16777216
+-- A program is past the limit of an engine, and the bytes refuse it where the first file begins.
+pub record IsTooLarge (engine : Engine) (p : Lowered) (names : List (List ℕ)) (bytes : List ℕ) : Type 0 where
+  pub equations : Equations
+  pub are : AreEquationsOf p equations
+  pub kind : FaultKind
+  pub past : IsPast engine equations kind
+  pub bytes_are : bytes ≡ fault_text names (record { kind = kind; place = start_place })
 
-abbrev pub max_tokens : ℕ
-max_tokens = 2000000
+-- the status of a report that lists so many alarms
+abbrev pub reporting : ℕ → Status
+reporting zero = Clean
+reporting (suc n) = Alarms
 
--- The text has this first fault or these tokens, where names have these numbers, its own this one.
-pub record IsScannedTo (name text : List ℕ) (names : List (List ℕ)) (number : ℕ) (found : Result (List Token) Fault) : Type 0 where
-  pub own : slice_get names number ≡ Some name
-  pub answer : IsOnlyAnswer names text (start number) max_tokens found
+-- The bytes are what is written for a program, with this status.
+pub data IsAnswerTo (engine : Engine) (with_values : Bool) (p : Lowered) (names : List (List ℕ)) (status : Status) (bytes : List ℕ) : Type 0 where
+  reported : (count : ℕ) → status ≡ reporting count → HasReport engine with_values p names count bytes → IsAnswerTo engine with_values p names status bytes
+  too_large : status ≡ Refused → IsTooLarge engine p names bytes → IsAnswerTo engine with_values p names status bytes
 
--- The bytes refuse the text: at its first fault as text; or at what stands against its tokens; or,
--- where nothing does, as a form that isn't built.
-pub data IsJudged (name text bytes : List ℕ) : Type 0 where
-  faulty :
-      (names : List (List ℕ)) (number : ℕ) (fault : Fault) → IsScannedTo name text names number (Err fault)
-      → bytes ≡ fault_text names fault → IsJudged name text bytes
-  judged :
-      (names : List (List ℕ)) (number : ℕ) (tokens : List Token) (fault : Fault)
-      → IsScannedTo name text names number (Ok tokens) → Judges names (file_begin number) tokens (Some fault)
-      → bytes ≡ fault_text names fault → IsJudged name text bytes
-  unbuilt :
-      (names : List (List ℕ)) (number : ℕ) (tokens : List Token) → IsScannedTo name text names number (Ok tokens)
-      → Judges names (file_begin number) tokens None → bytes ≡ refusal_text name Unbuilt
-      → IsJudged name text bytes
+-- as many evaluations as an engine may use on a program
+abbrev pub IsCounted : Engine → Lowered → ℕ → ℕ → Type 0
+IsCounted Sparse p before after = IsServed p before after
+IsCounted Dense p before after = IsStepped p before after
 
--- The bytes are the report on the alarms of the text's program, and there are so many.
-pub record HasReport (name text : List ℕ) (count : ℕ) (bytes : List ℕ) : Type 0 where
-  pub alarms : List Alarm
-  pub has_alarms : HasAlarms text alarms
-  pub slots : ℕ
-  pub has_slots : HasSlots text slots
-  pub fits : slots ≤ most_slots
-  pub lists : Lists name alarms bytes count
+-- ---- files
 
--- The text's program has too many slots, and the bytes refuse it.
-pub record HasTooMany (name text bytes : List ℕ) : Type 0 where
-  pub slots : ℕ
-  pub has_slots : HasSlots text slots
-  pub many : most_slots < slots
-  pub bytes_are : bytes ≡ refusal_text name (M8 slots)
+-- The bytes are what is written for files, with this status: what is written for their program; or they are
+-- refused at the fault that stands.
+pub data IsAnswer (engine : Engine) (with_values : Bool) (sources : List Source) (status : Status) (bytes : List ℕ) : Type 0 where
+  accepted :
+      (names : List (List ℕ)) (p : Lowered) → IsLoweredOf sources names p
+      → IsAnswerTo engine with_values p names status bytes → IsAnswer engine with_values sources status bytes
+  refused :
+      (names : List (List ℕ)) (fault : Fault) → AreRefused sources names fault
+      → bytes ≡ fault_text names fault → status ≡ Refused → IsAnswer engine with_values sources status bytes
 
--- The bytes refuse the text: it is too long; or it isn't in the small language, and is judged as C90; or its
--- program has too many slots.
-pub data Refuses (name text bytes : List ℕ) : Type 0 where
-  too_long : max_text < length text → bytes ≡ refusal_text name M7 → Refuses name text bytes
-  outside : length text ≤ max_text → IsOutside text → IsJudged name text bytes → Refuses name text bytes
-  too_many : HasTooMany name text bytes → Refuses name text bytes
-
--- The bytes are what is written for the text under this name, with this status.
-abbrev pub IsAnswer : List ℕ → List ℕ → Status → List ℕ → Type 0
-IsAnswer name text Clean bytes = HasReport name text 0 bytes
-IsAnswer name text Alarms bytes = (count : ℕ) × (0 < count) × HasReport name text count bytes
-IsAnswer name text Refused bytes = Refuses name text bytes
-IsAnswer name text Usage bytes = ⊥
-IsAnswer name text ReadFault bytes = ⊥
-IsAnswer name text WriteFault bytes = ⊥
-IsAnswer name text NoMemory bytes = ⊥
+-- nothing was evaluated, or as much as an engine may on the files' program
+abbrev pub IsSteppedFor : Engine → List Source → ℕ → ℕ → Type 0
+IsSteppedFor engine sources before after = (after ≡ before)
+    ⊎ ((names : List (List ℕ)) × ((p : Lowered) × (IsLoweredOf sources names p × IsCounted engine p before after)))
 
 -- an answer that no evaluation went into
 abbrev pub WithoutSteps : Status → Type 0 → Type 0
@@ -103,17 +86,3 @@ WithoutSteps Usage P = P
 WithoutSteps ReadFault P = P
 WithoutSteps WriteFault P = Unit {0}
 WithoutSteps NoMemory P = Unit {0}
-
--- the status of a report on so many alarms
-abbrev pub IsReporting : Status → ℕ → Type 0
-IsReporting Clean count = count ≡ 0
-IsReporting Alarms count = 0 < count
-IsReporting Refused count = ⊥
-IsReporting Usage count = ⊥
-IsReporting ReadFault count = ⊥
-IsReporting WriteFault count = ⊥
-IsReporting NoMemory count = ⊥
-
--- The bytes list the lines of these alarms, and the status is that of such a report.
-abbrev pub Reports : List ℕ → List Alarm → Status → List ℕ → Type 0
-Reports name alarms status bytes = (count : ℕ) × Lists name alarms bytes count × IsReporting status count

@@ -1,6 +1,5 @@
-pub mod Report
-pub mod Line
 pub mod Words
+pub mod Reading
+pub mod Refusals
 pub mod Answers
 pub mod Run
-pub mod Judgement

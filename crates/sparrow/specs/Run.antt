@@ -1,13 +1,18 @@
 -- How a run ends: what each status says of what was read and written.
-use Rattle.std.specs.Prelude.{◌≡◌, ◌⊎◌, ℕ, ◌<◌, Bool, false, List, Option, Some, None, length, take, String}
+use Rattle.std.specs.Prelude.{◌≡◌, ◌⊎◌, ℕ, ◌<◌, ◌≤◌, Bool, false, List, map, Option, Some, None, length, take, String, string_bytes}
 use Rattle.std.specs.declared.alloc.Global.{Global}
 use Rattle.std.specs.Io.KnownBytes.{Appends}
-use Rattle.sp_outside.specs.Told.{Told, untold, missing, held}
+use Rattle.sp_tree.specs.declared.fault.FaultKind.TheVariants.{M7, M9}
+use Rattle.sp_outside.specs.Told.{Told}
 use Rattle.sp_outside.specs.Counts.{Rose}
-use Rattle.sparrow.specs.declared.command.Status.{Status}
-use Rattle.sparrow.specs.declared.command.Status.TheVariants.{Clean, Alarms, Refused, Usage, ReadFault, WriteFault, NoMemory}
-use Rattle.sparrow.specs.Words.{file_of, usage_text}
-use Rattle.sparrow.specs.Answers.{IsAnswer}
+use Rattle.sp_words.specs.Words.{Asked, fits}
+use Rattle.sp_front.specs.Sources.{Source, AreWithin, most_files}
+use Rattle.sparrow.specs.declared.status.Status.{Status}
+use Rattle.sparrow.specs.declared.status.Status.TheVariants.{Clean, Alarms, Refused, Usage, ReadFault, WriteFault, NoMemory}
+use Rattle.sparrow.specs.Words.{usage_text}
+use Rattle.sparrow.specs.Reading.{AreRead, IsPastFiles, IsPastBytes, FailsAt}
+use Rattle.sparrow.specs.Refusals.{refusal_text}
+use Rattle.sparrow.specs.Answers.{IsAnswer, IsSteppedFor}
 
 -- what the files and the sink tell
 pub record World : Type 0 where
@@ -18,44 +23,63 @@ pub record World : Type 0 where
   pub written : Option (List ℕ)
   pub write_faults : ℕ
 
--- P holds of the text, where it is told; of a name that is told to have none nothing holds
-abbrev pub IfReadable : Told → (List ℕ → Type 0) → Type 0
-IfReadable untold P = Unit {0}
-IfReadable missing P = ⊥
-IfReadable (held text) P = P text
+-- ---- answers
 
--- the words are a command and this FILE, and the answer to its text, with this status, is these bytes
-pub record Answers (words : List (String Global)) (texts : List ℕ → Told) (status : Status) (bytes : List ℕ) : Type 0 where
-  pub name : List ℕ
-  pub file : file_of words ≡ Some name
-  pub answer : IfReadable (texts name) (λ text. IsAnswer name text status bytes)
+-- the bytes of the words
+abbrev pub bytes_of : List (String Global) → List (List ℕ)
+bytes_of words = map (λ w. string_bytes w) words
+
+-- The bytes refuse what is asked for before a file is scanned: the first file past their limit, or the first
+-- with whose text they are past that of bytes.
+pub data IsUnread (texts : List ℕ → Told) (files : List (List ℕ)) (bytes : List ℕ) : Type 0 where
+  many_files : (name : List ℕ) → IsPastFiles files name → bytes ≡ refusal_text name M9 → IsUnread texts files bytes
+  many_bytes :
+      (name : List ℕ) → length files ≤ most_files → IsPastBytes texts files name
+      → bytes ≡ refusal_text name M7 → IsUnread texts files bytes
+
+-- The files are read, and the bytes are the answer to them.
+pub record IsReadTo (texts : List ℕ → Told) (request : Asked) (status : Status) (bytes : List ℕ) : Type 0 where
+  pub sources : List Source
+  pub read : AreRead texts request.files sources
+  pub within : AreWithin sources
+  pub answer : IsAnswer request.engine request.values sources status bytes
+
+-- The bytes are the answer to what is asked for, with this status.
+abbrev pub Answers : (List ℕ → Told) → Asked → Status → List ℕ → Type 0
+Answers texts request status bytes =
+    IsReadTo texts request status bytes ⊎ ((status ≡ Refused) × IsUnread texts request.files bytes)
 
 -- the bytes are the answer to the words: the usage line where they don't fit
-abbrev pub IsWhole : List (String Global) → (List ℕ → Told) → List ℕ → Type 0
-IsWhole words texts bytes = ((file_of words ≡ None) × (bytes ≡ usage_text)) ⊎ ((status : Status) × Answers words texts status bytes)
+abbrev pub IsWhole : List (List ℕ) → (List ℕ → Told) → List ℕ → Type 0
+IsWhole words texts bytes = ((fits words ≡ None) × (bytes ≡ usage_text))
+    ⊎ ((request : Asked) × (fits words ≡ Some request) × ((status : Status) × Answers texts request status bytes))
 
-pub record IsAnswered (words : List (String Global)) (texts : List ℕ → Told) (status : Status) (old new : World) : Type 0 where
+-- ---- ends
+
+pub record IsAnswered (words : List (List ℕ)) (texts : List ℕ → Told) (status : Status) (old new : World) : Type 0 where
+  pub request : Asked
+  pub fitting : fits words ≡ Some request
   pub bytes : List ℕ
-  pub answers : Answers words texts status bytes
+  pub answers : Answers texts request status bytes
   pub grown : Appends old.written new.written bytes
 
-pub record IsUsage (words : List (String Global)) (old new : World) : Type 0 where
-  pub misfit : file_of words ≡ None
+pub record IsUsage (words : List (List ℕ)) (old new : World) : Type 0 where
+  pub misfit : fits words ≡ None
   pub grown : Appends old.written new.written usage_text
   pub same_asked : new.asked ≡ old.asked
   pub same_begun : new.begun ≡ old.begun
   pub same_at : new.at ≡ old.at
   pub same_faults : new.read_faults ≡ old.read_faults
 
-pub record IsReadFault (words : List (String Global)) (old new : World) : Type 0 where
-  pub name : List ℕ
-  pub file : file_of words ≡ Some name
-  pub asked : new.asked ≡ Some name
-  pub closed : new.begun ≡ false
-  pub rose : Rose old.read_faults new.read_faults
+-- the limits aren't passed up to the file of which a read failed
+pub record IsReadFault (words : List (List ℕ)) (texts : List ℕ → Told) (old new : World) : Type 0 where
+  pub request : Asked
+  pub fitting : fits words ≡ Some request
+  pub few : length request.files ≤ most_files
+  pub fails : FailsAt texts request.files new.asked new.begun old.read_faults new.read_faults
   pub unwritten : new.written ≡ old.written
 
-pub record IsWriteFault (words : List (String Global)) (texts : List ℕ → Told) (old new : World) : Type 0 where
+pub record IsWriteFault (words : List (List ℕ)) (texts : List ℕ → Told) (old new : World) : Type 0 where
   pub bytes : List ℕ
   pub whole : IsWhole words texts bytes
   pub sent : ℕ
@@ -64,14 +88,24 @@ pub record IsWriteFault (words : List (String Global)) (texts : List ℕ → Tol
   pub rose : Rose old.write_faults new.write_faults
 
 -- what each status says
-abbrev pub Ends : List (String Global) → (List ℕ → Told) → World → World → Status → Type 0
+abbrev pub Ends : List (List ℕ) → (List ℕ → Told) → World → World → Status → Type 0
 Ends words texts old new Clean = IsAnswered words texts Clean old new
 Ends words texts old new Alarms = IsAnswered words texts Alarms old new
 Ends words texts old new Refused = IsAnswered words texts Refused old new
 Ends words texts old new Usage = IsUsage words old new
-Ends words texts old new ReadFault = IsReadFault words old new
+Ends words texts old new ReadFault = IsReadFault words texts old new
 Ends words texts old new WriteFault = IsWriteFault words texts old new
 Ends words texts old new NoMemory = new.written ≡ old.written
+
+-- nothing was evaluated, or what the files that are asked for allow
+abbrev pub IsSteppedAsked : (List ℕ → Told) → Asked → ℕ → ℕ → Type 0
+IsSteppedAsked texts request before after = (after ≡ before)
+    ⊎ ((sources : List Source) × (AreRead texts request.files sources × IsSteppedFor request.engine sources before after))
+
+-- and those of the words
+abbrev pub IsSteppedBy : List (List ℕ) → (List ℕ → Told) → ℕ → ℕ → Type 0
+IsSteppedBy words texts before after = (after ≡ before)
+    ⊎ ((request : Asked) × ((fits words ≡ Some request) × IsSteppedAsked texts request before after))
 
 -- the exit status of a program that ends so
 abbrev pub exit_status : Status → ℕ
@@ -96,7 +130,3 @@ IsDone Usage = ⊥
 IsDone ReadFault = ⊥
 IsDone WriteFault = ⊥
 IsDone NoMemory = ⊥
-
--- a read of this name failed: it was asked for and isn't open, and the count rose
-abbrev pub IsFault : Option (List ℕ) → Bool → List ℕ → ℕ → ℕ → Type 0
-IsFault asked begun name before after = (asked ≡ Some name) × (begun ≡ false) × Rose before after

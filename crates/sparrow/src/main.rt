@@ -7,15 +7,17 @@
 //! words, and calls it.
 #![tactic(auto)]
 
+mod analysis;
 mod command;
-mod command_line;
-mod judgement;
-mod report;
+mod reading;
+mod refusals;
+mod status;
 
 ghost use Rattle.std.specs.Prelude.{◌≡◌, ◌≢◌, ◌<◌};
-ghost use Rattle.sparrow.specs.Run.{Ends, exit_status};
+ghost use Rattle.sparrow.specs.Run.{Ends, bytes_of, exit_status};
 
-use crate::command::{Status, run};
+use crate::command::run;
+use crate::status::Status;
 use sp_lattice::Steps;
 use sp_outside::{Files, HostFiles, HostSink, Sink};
 use std::alloc::{AllocError, Global};
@@ -38,7 +40,7 @@ fn run_counted<F: Files, W: Sink, L: Ledger>(
     requires name { blank.name ≡ L.name }
     requires parts { blank.parts ≡ L.parts }
     requires some { 0 < L.parts }
-    ensures ends { (status : Status) × (result ≡ exit_status status) × Ends words.now (F.text_of files.old)
+    ensures ends { (status : Status) × (result ≡ exit_status status) × Ends (bytes_of words.now) (F.text_of files.old)
         (record { asked = F.asked files.old; begun = F.begun files.old; at = F.at files.old; read_faults = F.faults files.old; written = W.written out.old; write_faults = W.faults out.old })
         (record { asked = F.asked files.new; begun = F.begun files.new; at = F.at files.new; read_faults = F.faults files.new; written = W.written out.new; write_faults = W.faults out.new })
         status

@@ -1,0 +1,3 @@
+mod SolvedLaws
+mod UsedLaws
+mod SparseLaws

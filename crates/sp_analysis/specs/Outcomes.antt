@@ -1,0 +1,72 @@
+-- What the analysis of a program ends with: its report, or that it is too large.
+use Rattle.std.specs.Prelude.{◌≡◌, ◌<◌, ◌≤◌, ◌+◌, ◌⊎◌, ℕ, Bool, cond, List, ◌++◌, Option}
+use Rattle.sp_lattice.specs.Bound.{most_steps}
+use Rattle.sp_lattice.specs.Dense.{Table, input, IsLeast}
+use Rattle.sp_ir.specs.Programs.{Lowered}
+use Rattle.sp_value.specs.declared.slots.Slot.{Slot}
+use Rattle.sp_value.specs.Slots.{slot_order}
+use Rattle.sp_verdicts.specs.declared.alarm.Alarm.{Alarm}
+use Rattle.sp_dense.specs.Solution.{cells, most_cells, within_counts}
+use Rattle.sp_report.specs.declared.lines.Report.{Report}
+use Rattle.sp_report.specs.Inputs.{alarms_from}
+use Rattle.sp_report.specs.Values.{values_from}
+use Rattle.sp_report.specs.Report.{report_text, report_count}
+use Rattle.sp_scenes.specs.Analysed.{locations_of}
+use Rattle.sp_scenes.specs.Whole.{IsAnalysed}
+use Rattle.sp_transfer.specs.Equations.{Equations, AreEquations, meaning_of}
+use Rattle.sp_analysis.specs.declared.dense.Outcome.{Outcome}
+use Rattle.sp_analysis.specs.declared.dense.Outcome.TheVariants.{Reported, TooLarge}
+
+-- the equations of a program
+pub record AreEquationsOf (p : Lowered) (e : Equations) : Type 0 where
+  pub program : e.analysed.program ≡ p
+  pub whole : ∥ IsAnalysed e.analysed ∥₁
+  pub are : ∥ AreEquations e ∥₁
+
+-- ---- reports, over the slots that reach each node at each location
+
+module _ (e : Equations) (given : ℕ → ℕ → Option Slot) where
+  -- the alarms of all nodes
+  abbrev pub alarms_of : List Alarm
+  alarms_of = alarms_from e.analysed.program (locations_of e.analysed.program) given 0 e.nodes
+
+  -- the report, and where they are wanted, the lines of values behind it
+  abbrev pub text_of : List (List ℕ) → Bool → List ℕ
+  text_of names with_values = cond with_values
+      (report_text names alarms_of ++ values_from names e.analysed.program
+      (locations_of e.analysed.program) given e.uses 0 e.nodes)
+      (report_text names alarms_of)
+
+  -- these are its bytes, and it has so many alarms
+  pub record IsReport (names : List (List ℕ)) (with_values : Bool) (text : List ℕ) (count : ℕ) : Type 0 where
+    pub text_is : text ≡ text_of names with_values
+    pub count_is : count ≡ report_count names alarms_of
+
+-- what reaches each node at each location in a table
+abbrev pub reaching : Equations → Table Slot → ℕ → ℕ → Option Slot
+reaching e table n l = within_counts (meaning_of e) n l (input slot_order (meaning_of e) table n l)
+
+-- the report over the least solution
+pub record IsReportOf (names : List (List ℕ)) (with_values : Bool) (e : Equations) (text : List ℕ) (count : ℕ) : Type 0 where
+  pub table : Table Slot
+  pub least : IsLeast slot_order (meaning_of e) table
+  pub reports : IsReport e (reaching e table) names with_values text count
+
+-- ---- ends
+
+-- what comes of equations by the dense engine, which evaluates nothing where there are too many cells
+abbrev pub Gives : List (List ℕ) → Bool → Equations → ℕ → ℕ → Outcome → Type 0
+Gives names with_values e before after (Reported report) =
+    (cells (meaning_of e) ≤ most_cells) × IsReportOf names with_values e report.text.items report.count
+Gives names with_values e before after (TooLarge count) =
+    (count ≡ cells (meaning_of e)) × (most_cells < cells (meaning_of e)) × (after ≡ before)
+
+-- what comes of a program
+abbrev pub Ends : Lowered → List (List ℕ) → Bool → ℕ → ℕ → Outcome → Type 0
+Ends p names with_values before after outcome =
+    (e : Equations) × AreEquationsOf p e × Gives names with_values e before after outcome
+
+-- nothing was evaluated, or at most so often as the dense engine may
+abbrev pub IsStepped : Lowered → ℕ → ℕ → Type 0
+IsStepped p before after = (after ≡ before)
+    ⊎ ((e : Equations) × AreEquationsOf p e × (after ≤ before + most_steps (meaning_of e)))

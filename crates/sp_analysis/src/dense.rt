@@ -1,0 +1,73 @@
+//! The report of a lowered program by the dense engine.
+ghost use Rattle.std.specs.Prelude.{◌≤◌, ◌+◌, IfOk};
+ghost use Rattle.sp_lattice.specs.Bound.{most_steps};
+ghost use Rattle.sp_ir.specs.Programs.{lowered_of};
+ghost use Rattle.sp_ir.specs.Formed.{IsFormed};
+ghost use Rattle.sp_scenes.specs.View.{analysed_of};
+ghost use Rattle.sp_transfer.specs.Equations.{meaning_of};
+ghost use Rattle.sp_defuse.specs.View.{equations_of};
+ghost use Rattle.sp_analysis.specs.Outcomes.{Gives, Ends, IsStepped};
+
+use crate::reports::report_on;
+use sp_defuse::CProgram;
+use sp_dense::{DenseError, solve_dense};
+use sp_ir::Lowered;
+use sp_lattice::Steps;
+use sp_report::Report;
+use sp_scenes::Analysis;
+use sp_tree::Names;
+use std::alloc::{AllocError, Global};
+use std::sync::ledger::Ledger;
+
+/// What the dense engine makes of a program.
+#[derive(Drop)]
+pub enum Outcome {
+    /// Its report.
+    Reported(Report),
+    /// It has so many cells, nodes times locations: more than the engine takes.
+    TooLarge { cells: u64 },
+}
+
+/// What the dense engine makes of equations.
+fn solve<L: Ledger>(
+    alloc: Global,
+    names: &Names,
+    with_values: bool,
+    program: &CProgram,
+    steps: &mut Steps<L>,
+) -> Result<Outcome, AllocError>
+    ensures gives { IfOk result (Gives names.now with_values
+        (equations_of (analysed_of program.now.analysis) program.now.nodes.items)
+        steps.old steps.new) }
+    ensures bound { steps.new ≤ steps.old + most_steps (meaning_of
+        (equations_of (analysed_of program.now.analysis) program.now.nodes.items)) }
+{
+    match solve_dense(alloc, program, steps) {
+        Ok(table) => {
+            let report = report_on(alloc, names, with_values, program, &table)?;
+            Ok(Outcome::Reported(report))
+        }
+        Err(DenseError::TooLarge { cells }) => Ok(Outcome::TooLarge { cells }),
+        Err(DenseError::NoMemory) => Err(AllocError),
+    }
+}
+
+/// The report of a formed program, or that it is too large. `names` tells the bytes of each file's
+/// name; `with_values` wants the lines of values behind the report. A call of the library counts as
+/// one that does nothing: whoever calls this refuses programs that have one.
+pub fn dense_report<L: Ledger>(
+    alloc: Global,
+    names: &Names,
+    with_values: bool,
+    lowered: Lowered,
+    steps: &mut Steps<L>,
+) -> Result<Outcome, AllocError>
+    requires { IsFormed (lowered_of lowered) }
+    ensures ends { IfOk result
+        (Ends (lowered_of lowered) names.now with_values steps.old steps.new) }
+    ensures steps { IsStepped (lowered_of lowered) steps.old steps.new }
+{
+    let analysis = Analysis::new(alloc, lowered)?;
+    let program = CProgram::new(alloc, analysis)?;
+    solve(alloc, names, with_values, &program, steps)
+}

@@ -1,0 +1,27 @@
+//! The analysis of a lowered program, and its report.
+//!
+//! A formed program is analysed: where its cells may point, its supergraph, and its equations. An
+//! engine finds their least solution. The report lists the alarms of all nodes over the stores that
+//! reach them there. So for `int a[3]; int main(void){ a[3] = 0; return 0; }` the report is
+//!
+//! ```text
+//! a.c:1:31: overrun: offset [3,3], size [3,3]
+//! 1 alarm
+//! ```
+//!
+//! Behind it come the lines of values, where they are wanted: what reaches each node at the
+//! locations that it uses.
+//!
+//! The layer above uses two contracts. [`dense_report`]: what comes `Ends` the program
+//! (`specs.Outcomes`), and the evaluations are at most those of the dense engine (`IsStepped`
+//! there). [`sparse_report`]: the same report (`Ends` of `specs.Sparse`), with evaluations bounded
+//! by the data dependencies (`IsServed`). Functions of the library have no effect yet, so the layer
+//! above refuses programs that call one.
+#![tactic(auto)]
+
+mod dense;
+mod reports;
+mod sparse;
+
+pub use dense::{Outcome, dense_report};
+pub use sparse::{SparseOutcome, sparse_report};

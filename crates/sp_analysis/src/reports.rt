@@ -1,0 +1,78 @@
+//! The report on what reaches the nodes of a program.
+ghost use Rattle.std.specs.Prelude.{◌≡◌, IfOk, OnOk, ◌++◌, length, map};
+ghost use Rattle.sp_ir.specs.Programs.{lowered_of};
+ghost use Rattle.sp_report.specs.Values.{values_from};
+ghost use Rattle.sp_scenes.specs.View.{analysed_of};
+ghost use Rattle.sp_scenes.specs.Analysed.{locations_of};
+ghost use Rattle.sp_defuse.specs.View.{equations_of};
+ghost use Rattle.sp_defuse.specs.declared.nodes.Node.{Node};
+ghost use Rattle.sp_analysis.specs.Outcomes.{IsReport};
+
+use sp_defuse::{CProgram, Node};
+use sp_lattice::Inputs;
+use sp_report::{Report, alarms, print_alarms, print_values};
+use sp_tree::Names;
+use sp_value::Slot;
+use std::alloc::{AllocError, Global};
+
+/// What each node uses.
+fn uses_of(alloc: Global, nodes: &[Node]) -> Result<Vec<Vec<u32>>, AllocError>
+    ensures { IfOk result (λ uses. map (λ u. u.items) uses.items
+        ≡ map (λ (x : Node). x.uses.items) nodes.now) }
+{
+    let mut uses = Vec::new(alloc);
+    for node in nodes {
+        uses.push(Vec::from_slice(alloc, node.uses.as_slice())?)?;
+    }
+    Ok(uses)
+}
+
+/// Adds the lines of values.
+fn add_values<I: Inputs<Value = Slot>>(
+    alloc: Global,
+    names: &Names,
+    program: &CProgram,
+    inputs: &I,
+    text: &mut Vec<u8>,
+) -> Result<(), AllocError>
+    ensures { OnOk result (text.new.items ≡ text.old.items ++ values_from names.now
+        (lowered_of program.now.analysis.lowered)
+        (locations_of (lowered_of program.now.analysis.lowered)) (I.given inputs.now)
+        (equations_of (analysed_of program.now.analysis) program.now.nodes.items).uses 0
+        (equations_of (analysed_of program.now.analysis) program.now.nodes.items).nodes) }
+{
+    let analysis = program.analysis();
+    let uses = uses_of(alloc, program.nodes())?;
+    let lines = print_values(
+        alloc,
+        names,
+        &analysis.lowered,
+        &analysis.locations,
+        analysis.flow.nodes(),
+        &uses,
+        inputs,
+    )?;
+    text.extend_from_slice(&lines)
+}
+
+/// The report on what reaches a program's nodes, with the lines of values where they are wanted.
+pub(crate) fn report_on<I: Inputs<Value = Slot>>(
+    alloc: Global,
+    names: &Names,
+    with_values: bool,
+    program: &CProgram,
+    inputs: &I,
+) -> Result<Report, AllocError>
+    ensures { IfOk result (λ report. IsReport
+        (equations_of (analysed_of program.now.analysis) program.now.nodes.items)
+        (I.given inputs.now) names.now with_values report.text.items report.count) }
+{
+    let analysis = program.analysis();
+    let nodes = analysis.flow.nodes();
+    let found = alarms(alloc, &analysis.lowered, &analysis.locations, nodes, inputs)?;
+    let mut report = print_alarms(alloc, names, &found)?;
+    if with_values {
+        add_values(alloc, names, program, inputs, &mut report.text)?;
+    }
+    Ok(report)
+}

@@ -1,0 +1,74 @@
+//! The report of a lowered program by the sparse engine.
+ghost use Rattle.std.specs.Prelude.{IfOk};
+ghost use Rattle.sp_ir.specs.Programs.{lowered_of};
+ghost use Rattle.sp_ir.specs.Formed.{IsFormed};
+ghost use Rattle.sp_scenes.specs.View.{analysed_of};
+ghost use Rattle.sp_defuse.specs.View.{equations_of};
+ghost use Rattle.sp_analysis.specs.Sparse.{Gives, Ends, ServesWithin, IsServed};
+
+use crate::reports::report_on;
+use sp_defuse::CProgram;
+use sp_deps::{DepError, dependencies};
+use sp_ir::Lowered;
+use sp_lattice::{Steps, solution_laws};
+use sp_report::Report;
+use sp_scenes::Analysis;
+use sp_sparse::{First, solve_sparse};
+use sp_tree::Names;
+use std::alloc::{AllocError, Global};
+use std::sync::ledger::Ledger;
+
+/// What the sparse engine makes of a program.
+#[derive(Drop)]
+pub enum SparseOutcome {
+    /// Its report.
+    Reported(Report),
+    /// It has more data dependencies than are kept.
+    TooMany,
+}
+
+/// What the sparse engine makes of equations.
+fn solve<L: Ledger>(
+    alloc: Global,
+    names: &Names,
+    with_values: bool,
+    program: &CProgram,
+    steps: &mut Steps<L>,
+) -> Result<SparseOutcome, AllocError>
+    ensures gives { IfOk result (Gives names.now with_values
+        (equations_of (analysed_of program.now.analysis) program.now.nodes.items)
+        steps.old steps.new) }
+    ensures bound { ServesWithin
+        (equations_of (analysed_of program.now.analysis) program.now.nodes.items)
+        steps.old steps.new }
+{
+    solution_laws(program);
+    let deps = match dependencies(alloc, program) {
+        Ok(deps) => deps,
+        Err(DepError::TooMany { .. }) => return Ok(SparseOutcome::TooMany),
+        Err(DepError::NoMemory) => return Err(AllocError),
+    };
+    let table = solve_sparse(alloc, program, &deps, &mut First, steps)?;
+    let report = report_on(alloc, names, with_values, program, &table)?;
+    Ok(SparseOutcome::Reported(report))
+}
+
+/// The report of a formed program, or that it has too many dependencies. `names` tells the bytes of
+/// each file's name; `with_values` wants the lines of values behind the report. A call of the
+/// library counts as one that does nothing: whoever calls this refuses programs that have one.
+pub fn sparse_report<L: Ledger>(
+    alloc: Global,
+    names: &Names,
+    with_values: bool,
+    lowered: Lowered,
+    steps: &mut Steps<L>,
+) -> Result<SparseOutcome, AllocError>
+    requires { IsFormed (lowered_of lowered) }
+    ensures ends { IfOk result
+        (Ends (lowered_of lowered) names.now with_values steps.old steps.new) }
+    ensures steps { IsServed (lowered_of lowered) steps.old steps.new }
+{
+    let analysis = Analysis::new(alloc, lowered)?;
+    let program = CProgram::new(alloc, analysis)?;
+    solve(alloc, names, with_values, &program, steps)
+}

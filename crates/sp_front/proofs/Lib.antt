@@ -1,0 +1,3 @@
+pub mod EndedLaws
+pub mod FileSteps
+pub mod ProgramSteps

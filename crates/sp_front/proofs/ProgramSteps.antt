@@ -1,0 +1,59 @@
+-- The program of files, and its lowering.
+use Rattle.std.proofs.Common.{◌≡◌, ℕ, Bool, List, [], ◌∷◌, map, Err, inr, refl, ap, subst}
+use Rattle.std.specs.Prelude.{◌||◌}
+use Rattle.std.specs.List.{list_any}
+use Rattle.sp_tree.specs.declared.fault.Fault.{Fault}
+use Rattle.sp_types.specs.Programs.{Program}
+use Rattle.sp_operands.specs.Answers.{accepted, refused}
+use Rattle.sp_operands.specs.declared.error.CheckError.{CheckError}
+use Rattle.sp_operands.specs.declared.error.CheckError.TheVariants as check
+use Rattle.sp_units.specs.Units.{CheckedUnit}
+use Rattle.sp_program.specs.Links.{Links, LinksTo}
+use Rattle.sp_lower.specs.Programs.{start_place}
+use Rattle.sp_front.specs.declared.front.FrontError.{FrontError}
+use Rattle.sp_front.specs.declared.front.FrontError.TheVariants as errors
+use Rattle.sp_front.specs.Sources.{Source}
+use Rattle.sp_front.specs.Answers as specs
+use Rattle.sp_front.specs.Answers.{IsProgramOf, IsRefusedAt, IsUnlinked, AreRefused, in_file, unlinked, Answers}
+use Rattle.sp_front.specs.inner.Errors.{of_check}
+use Rattle.sp_front.specs.inner.Steps.{AreUnits, MakesProgram, IsRefusedProgram, past_limit, unbuilt, LowersProgram}
+
+-- units that are linked are a program
+pub linked : (sources : List Source) (names : List (List ℕ)) (units seen : List CheckedUnit) (p : Program)
+    → AreUnits sources names units → seen ≡ units → Links names start_place seen (accepted p)
+    → IsProgramOf sources names p
+linked sources names units seen p read same links = record {
+  units = units;
+  room = read.room;
+  files = read.files;
+  linked = subst (λ us. Links names start_place us (accepted p)) same links;
+}
+
+-- units that aren't are refused
+pub not_linked : (sources : List Source) (names : List (List ℕ)) (units seen : List CheckedUnit) (e : CheckError)
+    → AreUnits sources names units → seen ≡ units → LinksTo names start_place seen (Err e)
+    → MakesProgram sources names (Err (of_check e))
+not_linked sources names units seen (check.Fault f) read same links = inr (record {
+  units = units;
+  room = read.room;
+  files = read.files;
+  linked = subst (λ us. Links names start_place us (refused f.kind f.place)) same links;
+})
+not_linked sources names units seen check.NoMemory read same links = tt
+
+refused_whole : (sources : List Source) (names : List (List ℕ)) (p : Program) (fault : Fault)
+    → IsProgramOf sources names p → IsRefusedProgram p names fault → AreRefused sources names fault
+refused_whole sources names p fault is (past_limit past place) = specs.past_limit p is past place
+refused_whole sources names p fault is (unbuilt l lowering fits calls e) = specs.unbuilt p l is lowering fits calls e
+
+-- files are refused as their program is
+pub not_lowered : (sources : List Source) (names : List (List ℕ)) (p : Program) (e : FrontError)
+    → IsProgramOf sources names p → LowersProgram p names (Err e) → Answers sources names (Err e)
+not_lowered sources names p (errors.Fault f) is stands = refused_whole sources names p f is stands
+not_lowered sources names p errors.NoMemory is stands = tt
+
+-- a test of what a list stands for
+pub any_of : {A B : Type 0} (p : B → Bool) (f : A → B) (xs : List A)
+    → list_any (λ x. p (f x)) xs ≡ list_any p (map f xs)
+any_of p f [] = refl
+any_of p f (x ∷ xs) = ap (λ b. p (f x) || b) (any_of p f xs)

@@ -1,0 +1,4 @@
+pub mod Sources
+pub mod Files
+pub mod Answers
+pub mod inner

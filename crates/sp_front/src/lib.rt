@@ -1,0 +1,24 @@
+//! From the texts of files to one lowered program.
+//!
+//! In go files, each a name and a text, within the limits of `specs/Sources.antt`. Each file is
+//! scanned, parsed and checked before the next is begun; then their units are linked, and the
+//! program is lowered. Out comes the lowered program, which is formed, or the first fault: that of
+//! the first file that is refused, else one of the whole program, which stands where the first file
+//! begins. The *room* is how many tokens the files that are left may have.
+//!
+//! So the files a.c, `int x[3];`, and b.c, `int main(void) { return 1; }`, are one program. Without
+//! the second semicolon b.c is refused at b.c:1:27, and a.c alone at a.c:1:1, since it has no
+//! `main`.
+//!
+//! The layer above uses [`lowered_of`] alone. Its contract (`Answers` of `specs/Answers.antt`) says
+//! which program it is, or which fault.
+#![tactic(auto)]
+
+mod files;
+mod front;
+mod program;
+mod sources;
+
+pub use front::FrontError;
+pub use program::lowered_of;
+pub use sources::Source;

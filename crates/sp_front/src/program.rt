@@ -1,0 +1,91 @@
+//! The program of files, and its lowering.
+ghost use Rattle.std.specs.Prelude.{◌≡◌, [], map};
+ghost use Rattle.std.specs.List.{list_any};
+ghost use Rattle.sp_types.specs.Programs.{program_of};
+ghost use Rattle.sp_ir.specs.View.{command_of};
+ghost use Rattle.sp_ir.specs.Programs as ir;
+ghost use Rattle.sp_front.specs.Sources.{source_of, AreWithin};
+ghost use Rattle.sp_front.specs.Answers.{Answers, is_library, calls_library};
+ghost use Rattle.sp_front.specs.inner.Steps.{MakesProgram, LowersProgram};
+
+use crate::files::read_files;
+use crate::front::FrontError;
+use crate::sources::Source;
+use sp_formed::is_formed;
+use sp_ir::{Command, Lowered, Node};
+use sp_lower::lower;
+use sp_program::link;
+use sp_tree::{Fault, FaultKind, Names, Place};
+use sp_types::Program;
+use std::alloc::Global;
+
+/// Where the first file begins: its name is the first of all.
+const START: Place = Place {
+    name: 0,
+    line: 1,
+    column: 1,
+};
+
+/// The program of files.
+fn program_of(alloc: Global, sources: &[Source], names: &mut Names) -> Result<Program, FrontError>
+    requires empty { names.old ≡ [] }
+    requires within { AreWithin (map source_of sources.now) }
+    ensures { MakesProgram (map source_of sources.now) names.new result }
+{
+    let units = read_files(alloc, sources, names)?;
+    let program = link(alloc, &units, START, names)?;
+    Ok(program)
+}
+
+/// Whether a command calls a function of the library.
+fn is_library(command: &Command) -> bool
+    ensures { result ≡ is_library (command_of command.now) }
+{
+    matches!(command, Command::Library { .. })
+}
+
+/// Whether one of these nodes calls a function of the library.
+fn call_library(nodes: &[Node]) -> bool
+    ensures { result ≡ list_any (λ n. is_library (command_of n.command)) nodes.now }
+{
+    nodes.iter().any(|node| is_library(&node.command))
+}
+
+/// Whether a program calls a function of the library. Such a call has no effect here yet.
+fn calls_library(lowered: &Lowered) -> bool
+    ensures { result ≡ calls_library (ir.lowered_of lowered.now) }
+{
+    call_library(&lowered.nodes)
+}
+
+/// The lowering of a program.
+fn lowering(alloc: Global, program: &Program, names: &Names) -> Result<Lowered, FrontError>
+    ensures { LowersProgram (program_of program.now) names.now result }
+{
+    let lowered = lower(alloc, program, names)?;
+    if calls_library(&lowered) {
+        let kind = FaultKind::Unbuilt;
+        let place = START;
+        return Err(FrontError::Fault(Fault { kind, place }));
+    }
+    if !is_formed(alloc, &lowered)? {
+        return Err(FrontError::NoMemory);
+    }
+    Ok(lowered)
+}
+
+/// The lowering of the program that files make, or the first fault. `names` then holds the names
+/// that places tell by number: those of the program, or that of the fault.
+pub fn lowered_of(
+    alloc: Global,
+    sources: &[Source],
+    names: &mut Names,
+) -> Result<Lowered, FrontError>
+    requires empty { names.old ≡ [] }
+    requires within { AreWithin (map source_of sources.now) }
+    ensures { Answers (map source_of sources.now) names.new result }
+{
+    let program = program_of(alloc, sources, names)?;
+    let lowered = lowering(alloc, &program, names)?;
+    Ok(lowered)
+}

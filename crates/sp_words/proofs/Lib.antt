@@ -1,0 +1,5 @@
+mod Examples
+mod SeenLaws
+mod WordLaws
+mod WalkLaws
+mod RequestLaws

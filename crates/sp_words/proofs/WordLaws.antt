@@ -1,0 +1,193 @@
+-- What a word is to the definitions and to `clap`, by its first bytes.
+use Rattle.std.proofs.Common.{◌≡◌, ◌∙◌, ◌+◌, ◌==◌, ℕ, suc, Bool, true, false, not, cond, true≢false}
+use Rattle.std.proofs.Common.{refl, sym, ap, ap₂, subst, arith, eqb-true, Option, Some, None, codes}
+use Rattle.std.proofs.Common.{List, [], ◌∷◌, ◌++◌, slice_get, drop, take, length, filter}
+use Rattle.std.specs.Str.{bytes_eq, chars, IsUtf8, encode_utf8_all}
+use Rattle.std.specs.List.{before_first, after_first, position_or_len}
+use Rattle.std.proofs.lemmas.Str.{IsUtf8-past_char, encode_ascii, chars-encodes}
+use Rattle.std.proofs.lemmas.Slice.Eq.{bytes_eq-Decides}
+use Rattle.clap.specs.Lexer.{long_of, short_of, has_byte}
+use Rattle.clap.specs.Faults.{bundle_fault, bundle_step_fault, flags_fault, other_fault}
+use Rattle.clap.specs.declared.error.kind.ErrorKind.{ErrorKind}
+use Rattle.clap.specs.declared.error.kind.ErrorKind.TheVariants.{UnknownArgument, TooManyValues}
+use Rattle.sp_words.specs.Words.{Word, is_option, ends_flags, options_of, files_of}
+use Rattle.sp_words.proofs.SeenLaws.{Seen, held, flag_word, top, rules}
+
+-- `clap` refuses the word before `--`
+abbrev pub IsRefused : Word → Type 0
+IsRefused word = (p : Option Word) (s : Seen)
+    → (kind : ErrorKind) × (other_fault top None word (held p s) ≡ kind ∷ [])
+
+-- `clap` takes the word for a value
+pub record IsValue (word : Word) : Type 0 where
+  pub ends : ends_flags word ≡ false
+  pub long : long_of word ≡ None
+  pub short : short_of word ≡ None
+
+-- an option that isn't the flag
+pub record IsOther (word : Word) : Type 0 where
+  pub option : is_option word ≡ true
+  pub ends : ends_flags word ≡ false
+  pub differs : bytes_eq word flag_word ≡ false
+  pub refused : IsRefused word
+
+pub data Sort (word : Word) : Type 0 where
+  end : word ≡ codes "--" → Sort word
+  flag : word ≡ flag_word → Sort word
+  file : is_option word ≡ false → IsValue word → Sort word
+  other : IsOther word → Sort word
+
+-- ---- what stands before and after the first that passes
+
+module _ {X : Type 0} (p : X → Bool) (x : X) (xs : List X) (fails : p x ≡ false) where
+  before_more : before_first p (x ∷ xs) ≡ x ∷ before_first p xs
+  before_more =
+      let one : 1 + position_or_len p xs ≡ suc (position_or_len p xs) = omega arith in
+      rw fails (ap (λ k. take k (x ∷ xs)) one)
+
+  after_more : after_first p (x ∷ xs) ≡ after_first p xs
+  after_more =
+      let one : 1 + position_or_len p xs + 1 ≡ suc (position_or_len p xs + 1) = omega arith in
+      rw fails (ap (λ k. drop k (x ∷ xs)) one)
+
+-- the options and the files of the words, by the first word
+pub options_more : (word : Word) (words : List Word) → ends_flags word ≡ false
+    → options_of (word ∷ words) ≡ cond (is_option word) (word ∷ options_of words) (options_of words)
+options_more word words e = ap (filter is_option) (before_more ends_flags word words e)
+
+pub files_more : (word : Word) (words : List Word) → ends_flags word ≡ false
+    → files_of (word ∷ words) ≡ cond (is_option word) (files_of words) (word ∷ files_of words)
+files_more word words e =
+    ap₂ (λ before after. plain before ++ after) (before_more ends_flags word words e)
+    (after_more ends_flags word words e) ∙ go (is_option word)
+  where
+    plain : List Word → List Word
+    plain = filter (λ w. not (is_option w))
+
+    before : List Word
+    before = plain (before_first ends_flags words)
+
+    go : (b : Bool) → cond (not b) (word ∷ before) before ++ after_first ends_flags words
+        ≡ cond b (files_of words) (word ∷ files_of words)
+    go true = refl
+    go false = refl
+
+-- ---- `-` and other bytes
+
+-- a text that isn't empty has a first character
+first_char : (b : ℕ) (bs : List ℕ) → IsUtf8 (b ∷ bs)
+    → (x : ℕ) × (slice_get (chars (b ∷ bs)) 0 ≡ Some x)
+first_char b bs u = go u.0 (sym (ap chars u.1.1) ∙ chars-encodes u.0 u.1.0) u.1.1
+  where
+    go : (cs : List ℕ) → chars (b ∷ bs) ≡ cs → encode_utf8_all cs ≡ b ∷ bs
+        → (x : ℕ) × (slice_get (chars (b ∷ bs)) 0 ≡ Some x)
+    go [] e made = let bad : 0 ≡ length (b ∷ bs) = ap length made in absurd (omega arith)
+    go (x ∷ xs) e made = (x, ap (λ l. slice_get l 0) e)
+
+-- no argument has a short name
+bundle_refused : (c : ℕ) (bs : List ℕ) (x : ℕ) → slice_get (chars (c ∷ bs)) 0 ≡ Some x
+    → (p : Option Word) (s : Seen)
+    → bundle_fault rules false (c ∷ bs) (held p s) ≡ UnknownArgument ∷ []
+unfolding flags_fault
+bundle_refused c bs x e p s = ap (λ o.
+    bundle_step_fault rules false o (c ∷ bs) 0 (held p s) (flags_fault rules false (length bs))) e
+
+short_refused : (c : ℕ) (bs : List ℕ) → IsUtf8 (c ∷ bs) → (c == 45) ≡ false
+    → IsRefused (45 ∷ c ∷ bs)
+short_refused c bs u e p s =
+    let first = first_char c bs u in
+    let no_end : ends_flags (45 ∷ c ∷ bs) ≡ false = rw e refl in
+    let no_long : long_of (45 ∷ c ∷ bs) ≡ None = rw e refl in
+    let is_short : short_of (45 ∷ c ∷ bs) ≡ Some (c ∷ bs) = rw e refl in
+    let read : other_fault top None (45 ∷ c ∷ bs) (held p s)
+    ≡ bundle_fault rules false (c ∷ bs) (held p s) = rw (no_end, no_long, is_short) refl in
+    (UnknownArgument, read ∙ bundle_refused c bs first.0 first.1 p s)
+
+-- ---- `--` and other bytes
+
+-- what stands before `=` (61)
+abbrev name_in : List ℕ → List ℕ
+name_in = before_first (λ x. x == 61)
+
+-- a text without `=` is its own name
+whole_name : (t : List ℕ) → has_byte 61 t ≡ false → name_in t ≡ t
+whole_name [] e = refl
+whole_name (x ∷ xs) e = go (x == 61) refl (whole_name xs) e
+  where
+    go : (b : Bool) → (x == 61) ≡ b → (has_byte 61 xs ≡ false → name_in xs ≡ xs)
+        → has_byte 61 (x ∷ xs) ≡ false → name_in (x ∷ xs) ≡ x ∷ xs
+    go true t rest none = let bad : true ≡ false = rw t at none in absurd (true≢false bad)
+    go false t rest none =
+        let left : has_byte 61 xs ≡ false = rw t at none in
+        before_more (λ y. y == 61) x xs t ∙ ap (λ l. x ∷ l) (rest left)
+
+module _ (x : ℕ) (xs : List ℕ) where
+  abbrev text : List ℕ
+  text = x ∷ xs
+
+  abbrev has_flag_name : Bool
+  has_flag_name = bytes_eq (codes "values") (name_in text)
+
+  long_refused : bytes_eq text (codes "values") ≡ false → IsRefused (45 ∷ 45 ∷ text)
+  long_refused differs = by_name has_flag_name refl
+    where
+      by_value : (b : Bool) → has_byte 61 text ≡ b → has_flag_name ≡ true
+          → IsRefused (45 ∷ 45 ∷ text)
+      by_value true has same p s = (TooManyValues, rw (same, has) refl)
+      by_value false has same p s =
+          let is : codes "values" ≡ text = (bytes_eq-Decides _ _).0 same ∙ whole_name text has in
+          let again = (bytes_eq-Decides text (codes "values")).1 (sym is) in
+          absurd (true≢false (sym again ∙ differs))
+
+      by_name : (b : Bool) → has_flag_name ≡ b → IsRefused (45 ∷ 45 ∷ text)
+      by_name false e p s = (UnknownArgument, rw e refl)
+      by_name true e p s = by_value (has_byte 61 text) refl e p s
+
+  long_sort : Sort (45 ∷ 45 ∷ text)
+  long_sort = go (bytes_eq text (codes "values")) refl
+    where
+      go : (b : Bool) → bytes_eq text (codes "values") ≡ b → Sort (45 ∷ 45 ∷ text)
+      go true e = flag (ap (λ l. 45 ∷ 45 ∷ l) ((bytes_eq-Decides _ _).0 e))
+      go false e = other (record {
+        option = refl;
+        ends = refl;
+        differs = e;
+        refused = long_refused e;
+      })
+
+-- ---- each word
+
+double_sort : (bs : List ℕ) → Sort (45 ∷ 45 ∷ bs)
+double_sort [] = end refl
+double_sort (x ∷ xs) = long_sort x xs
+
+option_sort : (c : ℕ) (bs : List ℕ) → IsUtf8 (45 ∷ c ∷ bs) → Sort (45 ∷ c ∷ bs)
+option_sort c bs u = go (c == 45) refl
+  where
+    go : (b : Bool) → (c == 45) ≡ b → Sort (45 ∷ c ∷ bs)
+    go true e = subst (λ x. Sort (45 ∷ x ∷ bs)) (sym (eqb-true c 45 e)) (double_sort bs)
+    go false e =
+        let one = ap (λ l. l ++ c ∷ bs) (sym (encode_ascii 45 (omega arith))) in
+        let rest = IsUtf8-past_char (45 ∷ c ∷ bs) (c ∷ bs) 45 u one in
+        other (record {
+          option = refl;
+          ends = rw e refl;
+          differs = rw e refl;
+          refused = short_refused c bs rest e;
+        })
+
+pub sort_of : (word : Word) → IsUtf8 word → Sort word
+sort_of [] u = file refl (record { ends = refl; long = refl; short = refl })
+sort_of (b ∷ []) u = file refl (go (b == 45) refl)
+  where
+    go : (t : Bool) → (b == 45) ≡ t → IsValue (b ∷ [])
+    go true e = record { ends = rw e refl; long = rw e refl; short = rw e refl }
+    go false e = record { ends = rw e refl; long = rw e refl; short = rw e refl }
+sort_of (b ∷ c ∷ bs) u = go (b == 45) refl
+  where
+    go : (t : Bool) → (b == 45) ≡ t → Sort (b ∷ c ∷ bs)
+    go true e =
+        let is = eqb-true b 45 e in
+        let utf8 = subst (λ x. IsUtf8 (x ∷ c ∷ bs)) is u in
+        subst (λ x. Sort (x ∷ c ∷ bs)) (sym is) (option_sort c bs utf8)
+    go false e = file e (record { ends = rw e refl; long = rw e refl; short = rw e refl })

@@ -1,0 +1,23 @@
+-- The command by which `clap` reads the words behind the first: the flag, and the FILEs.
+use Rattle.std.specs.Prelude.{true, codes, Some}
+use Rattle.clap.specs.Walk.{Rule}
+use Rattle.clap.specs.Simple.{App, new_app, new_rule, on_top, with_rule}
+use Rattle.clap.specs.declared.builder.action.ArgAction.TheVariants.{Append, SetTrue}
+
+abbrev pub flag_rule : Rule
+flag_rule =
+    record (new_rule (codes "values")) { long = Some (codes "values"); action = Some SetTrue }
+
+abbrev pub file_rule : Rule
+file_rule = record (new_rule (codes "files")) { action = Some Append; required = true }
+
+-- the words begin with the first argument, and no word asks for help or a version
+abbrev pub bare_app : App
+bare_app = on_top (λ s. record s {
+  no_binary_name = true;
+  disable_help_flag = true;
+  disable_version_flag = true;
+}) (new_app (codes "sparrow"))
+
+abbrev pub reader_app : App
+reader_app = with_rule (with_rule bare_app flag_rule) file_rule
