@@ -61,6 +61,17 @@ many() { for _ in $(seq "$1"); do echo x.c; done; }
 check '64 files' 0 $'0 alarms\n' in_room analyse main.c $(many 63)
 check '65 files' 2 $'x.c:1:1: refused M9: files past 64\n' in_room analyse main.c $(many 64)
 
+# 1,000 objects and the result are 1,001 locations; 2,000 assignments, start, entry, result and exit
+# are 2,004 nodes.
+{
+    printf 'int x%d;' $(seq 1000)
+    printf 'int main(void){'
+    printf 'x%d=1;' $(seq 1000) $(seq 1000)
+    printf 'return 0;}'
+} >"$room/slots.c"
+check 'slots past the limit' 2 $'slots.c:1:1: refused M8: 2006004 dense slots\n' in_room dense slots.c
+check 'few dependencies' 0 $'0 alarms\n' in_room analyse slots.c
+
 # A text may have 2,000,000 tokens beside its end. These declare nothing, and no `main`.
 head -c 2000000 /dev/zero | tr '\0' ';' >"$room/tokens.c"
 check '2,000,000 tokens' 2 "$room/tokens.c"$':1:1: refused F25: no main\n' ./sparrow analyse "$room/tokens.c"

@@ -34,7 +34,7 @@ use Rattle.sp_scenes.specs.Whole.{IsAnalysed}
 use Rattle.sp_scenes.proofs.AllLaws.{scene_laws}
 use Rattle.sp_calls.proofs.StoringSteps.{low-member}
 use Rattle.sp_transfer.specs.Effects.{used_by}
-use Rattle.sp_transfer.specs.Equations.{Equations, AreEquations, meaning_of, number_of}
+use Rattle.sp_transfer.specs.Equations.{Equations, AreEquations, nodes_of, meaning_of, number_of}
 use Rattle.sp_analysis.specs.Outcomes.{alarms_of, text_of, IsReport, IsReportOf, reaching}
 use Rattle.sp_analysis.proofs.UsedLaws.{alarms-used}
 
@@ -89,43 +89,43 @@ module _ (e : Equations) (whole : IsAnalysed e.analysed) (are : AreEquations e) 
   abbrev all_given : ℕ → ℕ → Option Slot
   all_given = reaching e table
 
-  used-low : (k l : ℕ) → k < length e.nodes → has l (row e.uses k) ≡ true → l < locations
+  used-low : (k l : ℕ) → k < length (nodes_of e) → has l (row e.uses k) ≡ true → l < locations
   used-low k l low there = low-member locations (row e.uses k) l (are.uses k low).below there
 
-  same-there : (k l : ℕ) → k < length e.nodes → has l (row e.uses k) ≡ true → some_given k l ≡ all_given k l
+  same-there : (k l : ℕ) → k < length (nodes_of e) → has l (row e.uses k) ≡ true → some_given k l ≡ all_given k l
   same-there k l low there =
       let v = input slot_order (meaning_of e) table k l in
-      given-both (nat_lt k (length e.nodes)) (has l (row e.uses k)) v (is-low k (length e.nodes) low) there
-      ∙ sym (given-both (nat_lt k (length e.nodes)) (nat_lt l locations) v (is-low k (length e.nodes) low) (is-low l locations (used-low k l low there)))
+      given-both (nat_lt k (length (nodes_of e))) (has l (row e.uses k)) v (is-low k (length (nodes_of e)) low) there
+      ∙ sym (given-both (nat_lt k (length (nodes_of e))) (nat_lt l locations) v (is-low k (length (nodes_of e)) low) (is-low l locations (used-low k l low there)))
 
-  same-past : (k l : ℕ) → length e.nodes ≤ k → some_given k l ≡ all_given k l
+  same-past : (k l : ℕ) → length (nodes_of e) ≤ k → some_given k l ≡ all_given k l
   same-past k l past =
       let v = input slot_order (meaning_of e) table k l in
-      given-first (nat_lt k (length e.nodes)) (has l (row e.uses k)) v (isn't-low k (length e.nodes) past)
-      ∙ sym (given-first (nat_lt k (length e.nodes)) (nat_lt l locations) v (isn't-low k (length e.nodes) past))
+      given-first (nat_lt k (length (nodes_of e))) (has l (row e.uses k)) v (isn't-low k (length (nodes_of e)) past)
+      ∙ sym (given-first (nat_lt k (length (nodes_of e))) (nat_lt l locations) v (isn't-low k (length (nodes_of e)) past))
 
-  unused : (k l : ℕ) → k < length e.nodes → locations ≤ l → (b : Bool) → has l (row e.uses k) ≡ b → b ≡ false
+  unused : (k l : ℕ) → k < length (nodes_of e) → locations ≤ l → (b : Bool) → has l (row e.uses k) ≡ b → b ≡ false
   unused k l low past true h = let less : l < locations = used-low k l low h in absurd (omega (arith, less, past))
   unused k l low past false h = refl
 
   -- past the locations there is neither
-  same-beyond : (k l : ℕ) → k < length e.nodes → locations ≤ l → some_given k l ≡ all_given k l
+  same-beyond : (k l : ℕ) → k < length (nodes_of e) → locations ≤ l → some_given k l ≡ all_given k l
   same-beyond k l low past =
       let v = input slot_order (meaning_of e) table k l in
-      given-none (nat_lt k (length e.nodes)) (has l (row e.uses k)) v (unused k l low past (has l (row e.uses k)) refl)
-      ∙ sym (given-none (nat_lt k (length e.nodes)) (nat_lt l locations) v (isn't-low l locations past))
+      given-none (nat_lt k (length (nodes_of e))) (has l (row e.uses k)) v (unused k l low past (has l (row e.uses k)) refl)
+      ∙ sym (given-none (nat_lt k (length (nodes_of e))) (nat_lt l locations) v (isn't-low l locations past))
 
   -- ---- alarms
 
   -- all that reaches a node lies under the ceiling
-  under : (k : ℕ) → k < length e.nodes → UnderCeiling (setting_of a) (store_given all_given k)
+  under : (k : ℕ) → k < length (nodes_of e) → UnderCeiling (setting_of a) (store_given all_given k)
   under k low l l_low =
       let v = input slot_order (meaning_of e) table k l in
       subst (λ o. slot_le (slot_or_nothing o) (ceiling (setting_of a) l) ≡ true)
-      (sym (given-both (nat_lt k (length e.nodes)) (nat_lt l locations) v (is-low k (length e.nodes) low) (is-low l locations l_low)))
+      (sym (given-both (nat_lt k (length (nodes_of e))) (nat_lt l locations) v (is-low k (length (nodes_of e)) low) (is-low l locations l_low)))
       (inputs table least.under k low l l_low)
 
-  module _ (k : ℕ) (low : k < length e.nodes) (node : Node) (is : slice_get a.program.nodes (number_of e k) ≡ Some node) where
+  module _ (k : ℕ) (low : k < length (nodes_of e)) (node : Node) (is : slice_get a.program.nodes (number_of e k) ≡ Some node) where
     abbrev read : List ℕ
     read = command_uses (terrain_of a.program) (setting_of a).points_to node.command
 
@@ -153,38 +153,38 @@ module _ (e : Equations) (whole : IsAnalysed e.analysed) (are : AreEquations e) 
         (cells-within (setting_of a) (scene_laws a whole).scene.setting (store_given all_given k) (under k low)) node
         (cells-agree (setting_of a) (scene_laws a whole).scene.setting (store_given all_given k) (store_given some_given k) read agree))
 
-  alarms-at : (k : ℕ) → k < length e.nodes → (found : Option Node) → slice_get a.program.nodes (number_of e k) ≡ found
+  alarms-at : (k : ℕ) → k < length (nodes_of e) → (found : Option Node) → slice_get a.program.nodes (number_of e k) ≡ found
       → alarms_at a.program (locations_of a.program) (store_given some_given k) found ≡ alarms_at a.program (locations_of a.program) (store_given all_given k) found
   alarms-at k low None is = refl
   alarms-at k low (Some node) is = node-same k low node is
 
   alarms-same : alarms_of e some_given ≡ alarms_of e all_given
-  alarms-same = input_laws.alarms_agree a.program (locations_of a.program) some_given all_given e.nodes each
+  alarms-same = input_laws.alarms_agree a.program (locations_of a.program) some_given all_given (nodes_of e) each
     where
-      each : (k n : ℕ) → slice_get e.nodes k ≡ Some n
+      each : (k n : ℕ) → slice_get (nodes_of e) k ≡ Some n
           → alarms_at a.program (locations_of a.program) (store_given some_given k) (slice_get a.program.nodes n)
           ≡ alarms_at a.program (locations_of a.program) (store_given all_given k) (slice_get a.program.nodes n)
       each k n at =
-          let found = found-at e.nodes k n 0 at in
+          let found = found-at (nodes_of e) k n 0 at in
           subst (λ m. alarms_at a.program (locations_of a.program) (store_given some_given k) (slice_get a.program.nodes m)
           ≡ alarms_at a.program (locations_of a.program) (store_given all_given k) (slice_get a.program.nodes m)) found.1
           (alarms-at k found.0 (slice_get a.program.nodes (number_of e k)) refl)
 
   -- ---- values
 
-  values-same : (names : List (List ℕ)) → values_from names a.program (locations_of a.program) some_given e.uses 0 e.nodes
-      ≡ values_from names a.program (locations_of a.program) all_given e.uses 0 e.nodes
-  values-same names = input_laws.values_agree names a.program (locations_of a.program) some_given all_given e.uses e.nodes each
+  values-same : (names : List (List ℕ)) → values_from names a.program (locations_of a.program) some_given e.uses 0 (nodes_of e)
+      ≡ values_from names a.program (locations_of a.program) all_given e.uses 0 (nodes_of e)
+  values-same names = input_laws.values_agree names a.program (locations_of a.program) some_given all_given e.uses (nodes_of e) each
     where
       each : (k l : ℕ) → has l (uses_at (slice_get e.uses k)) ≡ true → store_given some_given k l ≡ store_given all_given k l
-      each k l there = by (side k (length e.nodes))
+      each k l there = by (side k (length (nodes_of e)))
         where
-          by : (k < length e.nodes) ⊎ (length e.nodes ≤ k) → store_given some_given k l ≡ store_given all_given k l
+          by : (k < length (nodes_of e)) ⊎ (length (nodes_of e) ≤ k) → store_given some_given k l ≡ store_given all_given k l
           by (inl low) = ap slot_or_nothing (same-there k l low (subst (λ us. has l us ≡ true) (uses-row e.uses k) there))
           by (inr past) = ap slot_or_nothing (same-past k l past)
 
   text-same : (names : List (List ℕ)) (with_values : Bool) → text_of e some_given names with_values ≡ text_of e all_given names with_values
-  text-same names true = ap (λ x. report_text names x ++ values_from names a.program (locations_of a.program) some_given e.uses 0 e.nodes) alarms-same
+  text-same names true = ap (λ x. report_text names x ++ values_from names a.program (locations_of a.program) some_given e.uses 0 (nodes_of e)) alarms-same
       ∙ ap (λ v. report_text names (alarms_of e all_given) ++ v) (values-same names)
   text-same names false = ap (report_text names) alarms-same
 

@@ -13,7 +13,7 @@ use Rattle.sp_report.specs.Values.{values_from}
 use Rattle.sp_report.specs.Report.{report_text, report_count}
 use Rattle.sp_scenes.specs.Analysed.{locations_of}
 use Rattle.sp_scenes.specs.Whole.{IsAnalysed}
-use Rattle.sp_transfer.specs.Equations.{Equations, AreEquations, meaning_of}
+use Rattle.sp_transfer.specs.Equations.{Equations, AreEquations, nodes_of, meaning_of}
 use Rattle.sp_analysis.specs.declared.dense.Outcome.{Outcome}
 use Rattle.sp_analysis.specs.declared.dense.Outcome.TheVariants.{Reported, TooLarge}
 
@@ -28,13 +28,13 @@ pub record AreEquationsOf (p : Lowered) (e : Equations) : Type 0 where
 module _ (e : Equations) (given : ℕ → ℕ → Option Slot) where
   -- the alarms of all nodes
   abbrev pub alarms_of : List Alarm
-  alarms_of = alarms_from e.analysed.program (locations_of e.analysed.program) given 0 e.nodes
+  alarms_of = alarms_from e.analysed.program (locations_of e.analysed.program) given 0 (nodes_of e)
 
   -- the report, and where they are wanted, the lines of values behind it
   abbrev pub text_of : List (List ℕ) → Bool → List ℕ
   text_of names with_values = cond with_values
       (report_text names alarms_of ++ values_from names e.analysed.program
-      (locations_of e.analysed.program) given e.uses 0 e.nodes)
+      (locations_of e.analysed.program) given e.uses 0 (nodes_of e))
       (report_text names alarms_of)
 
   -- these are its bytes, and it has so many alarms

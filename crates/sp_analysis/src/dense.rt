@@ -3,9 +3,8 @@ ghost use Rattle.std.specs.Prelude.{◌≤◌, ◌+◌, IfOk};
 ghost use Rattle.sp_lattice.specs.Bound.{most_steps};
 ghost use Rattle.sp_ir.specs.Programs.{lowered_of};
 ghost use Rattle.sp_ir.specs.Formed.{IsFormed};
-ghost use Rattle.sp_scenes.specs.View.{analysed_of};
 ghost use Rattle.sp_transfer.specs.Equations.{meaning_of};
-ghost use Rattle.sp_defuse.specs.View.{equations_of};
+ghost use Rattle.sp_defuse.specs.Program.{equations_in};
 ghost use Rattle.sp_analysis.specs.Outcomes.{Gives, Ends, IsStepped};
 
 use crate::reports::report_on;
@@ -37,10 +36,10 @@ fn solve<L: Ledger>(
     steps: &mut Steps<L>,
 ) -> Result<Outcome, AllocError>
     ensures gives { IfOk result (Gives names.now with_values
-        (equations_of (analysed_of program.now.analysis) program.now.nodes.items)
+        (equations_in program.now)
         steps.old steps.new) }
     ensures bound { steps.new ≤ steps.old + most_steps (meaning_of
-        (equations_of (analysed_of program.now.analysis) program.now.nodes.items)) }
+        (equations_in program.now)) }
 {
     match solve_dense(alloc, program, steps) {
         Ok(table) => {

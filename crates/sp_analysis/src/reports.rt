@@ -4,7 +4,8 @@ ghost use Rattle.sp_ir.specs.Programs.{lowered_of};
 ghost use Rattle.sp_report.specs.Values.{values_from};
 ghost use Rattle.sp_scenes.specs.View.{analysed_of};
 ghost use Rattle.sp_scenes.specs.Analysed.{locations_of};
-ghost use Rattle.sp_defuse.specs.View.{equations_of};
+ghost use Rattle.sp_transfer.specs.Equations.{nodes_of};
+ghost use Rattle.sp_defuse.specs.Program.{equations_in};
 ghost use Rattle.sp_defuse.specs.declared.nodes.Node.{Node};
 ghost use Rattle.sp_analysis.specs.Outcomes.{IsReport};
 
@@ -38,8 +39,8 @@ fn add_values<I: Inputs<Value = Slot>>(
     ensures { OnOk result (text.new.items ≡ text.old.items ++ values_from names.now
         (lowered_of program.now.analysis.lowered)
         (locations_of (lowered_of program.now.analysis.lowered)) (I.given inputs.now)
-        (equations_of (analysed_of program.now.analysis) program.now.nodes.items).uses 0
-        (equations_of (analysed_of program.now.analysis) program.now.nodes.items).nodes) }
+        (equations_in program.now).uses 0
+        (nodes_of (equations_in program.now))) }
 {
     let analysis = program.analysis();
     let uses = uses_of(alloc, program.nodes())?;
@@ -64,7 +65,7 @@ pub(crate) fn report_on<I: Inputs<Value = Slot>>(
     inputs: &I,
 ) -> Result<Report, AllocError>
     ensures { IfOk result (λ report. IsReport
-        (equations_of (analysed_of program.now.analysis) program.now.nodes.items)
+        (equations_in program.now)
         (I.given inputs.now) names.now with_values report.text.items report.count) }
 {
     let analysis = program.analysis();

@@ -2,8 +2,7 @@
 ghost use Rattle.std.specs.Prelude.{IfOk};
 ghost use Rattle.sp_ir.specs.Programs.{lowered_of};
 ghost use Rattle.sp_ir.specs.Formed.{IsFormed};
-ghost use Rattle.sp_scenes.specs.View.{analysed_of};
-ghost use Rattle.sp_defuse.specs.View.{equations_of};
+ghost use Rattle.sp_defuse.specs.Program.{equations_in};
 ghost use Rattle.sp_analysis.specs.Sparse.{Gives, Ends, ServesWithin, IsServed};
 
 use crate::reports::report_on;
@@ -36,10 +35,10 @@ fn solve<L: Ledger>(
     steps: &mut Steps<L>,
 ) -> Result<SparseOutcome, AllocError>
     ensures gives { IfOk result (Gives names.now with_values
-        (equations_of (analysed_of program.now.analysis) program.now.nodes.items)
+        (equations_in program.now)
         steps.old steps.new) }
     ensures bound { ServesWithin
-        (equations_of (analysed_of program.now.analysis) program.now.nodes.items)
+        (equations_in program.now)
         steps.old steps.new }
 {
     solution_laws(program);

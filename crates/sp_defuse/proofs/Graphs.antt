@@ -4,7 +4,7 @@ use Rattle.std.specs.List.Sorted.{IsStrictlyIncreasing}
 use Rattle.std.proofs.lemmas.Bool.Decides.{nat_tests}
 use Rattle.std.proofs.lemmas.List.Kept.{AllPairs-from_increasing}
 use Rattle.sp_updates.proofs.Numbers.{which, side, same_number, apart_numbers}
-use Rattle.sp_defuse.specs.Nodes.{stands_at}
+use Rattle.sp_defuse.specs.Sources.{stands_at}
 
 pub is-lower : (k n : ℕ) → k < n → nat_lt k n ≡ true
 is-lower k n h = grind (arith, nat_tests, h)

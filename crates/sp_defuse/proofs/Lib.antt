@@ -1,2 +1,9 @@
 pub mod Graphs
-mod EquationLaws
+pub mod Lists
+pub mod Grouping
+pub mod Passing
+pub mod Adding
+pub mod Touching
+pub mod Spreads
+pub mod Accessing
+pub mod EquationLaws

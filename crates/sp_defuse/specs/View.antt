@@ -1,14 +1,16 @@
--- The equations that a list of nodes stands for.
+-- The equations that what is kept stands for.
 use Rattle.std.specs.Prelude.{List, map}
+use Rattle.sp_graph.specs.Supergraph.{Graph}
 use Rattle.sp_scenes.specs.Analysed.{Analysed}
 use Rattle.sp_transfer.specs.Equations.{Equations}
 use Rattle.sp_defuse.specs.declared.nodes.Node.{Node}
+use Rattle.sp_defuse.specs.declared.sources.Sources.{Sources}
 
-abbrev pub equations_of : Analysed → List Node → Equations
-equations_of a nodes = record {
+abbrev pub equations_of : Analysed → Graph → List Node → List Sources → Equations
+equations_of a g nodes sources = record {
   analysed = a;
-  nodes = map (λ (x : Node). x.number) nodes;
-  into = map (λ (x : Node). x.into) nodes;
+  graph = g;
+  into = map (λ (s : Sources). s.places) sources;
   defs = map (λ (x : Node). x.defs.items) nodes;
   uses = map (λ (x : Node). x.uses.items) nodes;
 }

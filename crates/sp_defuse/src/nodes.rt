@@ -1,11 +1,9 @@
 //! The nodes of the system.
-ghost use Rattle.std.specs.Prelude.{◌≡◌, ◌<◌, ◌^◌, length, IfOk};
-ghost use Rattle.std.specs.List.Sorted.{IsStrictlyIncreasing};
+ghost use Rattle.std.specs.Prelude.{◌≡◌, IfOk};
 ghost use Rattle.sp_scenes.specs.View.{analysed_of};
 ghost use Rattle.sp_accesses.specs.Locals.{AreLocals};
 ghost use Rattle.sp_defuse.specs.Nodes.{IsNode, AreNodes};
 
-use crate::sources::sources;
 use sp_accesses::{definitions, local_cells, uses};
 use sp_scenes::Analysis;
 use sp_sets::NumberSet;
@@ -16,8 +14,6 @@ use std::alloc::{AllocError, Global};
 pub struct Node {
     /// Its number in the program.
     pub number: u32,
-    /// The nodes from which edges lead into it, by their places in the graph.
-    pub into: NumberSet,
     /// The locations that it defines, ascending.
     pub defs: Vec<u32>,
     /// The locations that it uses, ascending.
@@ -31,28 +27,18 @@ fn node_at(
     locals: &[NumberSet],
     number: u32,
 ) -> Result<Node, AllocError>
-    requires locals { AreLocals (analysed_of analysis.now) locals.now }
-    requires ascend { IsStrictlyIncreasing analysis.now.flow.nodes }
-    requires few { length analysis.now.flow.nodes < 2 ^ 32 }
-    ensures { IfOk result (IsNode (analysed_of analysis.now) analysis.now.flow number) }
+    requires { AreLocals (analysed_of analysis.now) locals.now }
+    ensures { IfOk result (IsNode (analysed_of analysis.now) number) }
 {
-    let into = sources(alloc, &analysis.flow, number)?;
     let defs = definitions(alloc, analysis, locals, number)?;
     let uses = uses(alloc, analysis, &defs, number)?;
-    Ok(Node {
-        number,
-        into,
-        defs,
-        uses,
-    })
+    Ok(Node { number, defs, uses })
 }
 
 /// The nodes of the graph, in the order of their numbers.
 pub(crate) fn nodes_of(alloc: Global, analysis: &Analysis) -> Result<Vec<Node>, AllocError>
-    requires ascend { IsStrictlyIncreasing analysis.now.flow.nodes }
-    requires few { length analysis.now.flow.nodes < 2 ^ 32 }
-    ensures { IfOk result (λ nodes. AreNodes (analysed_of analysis.now) analysis.now.flow
-        analysis.now.flow.nodes nodes.items) }
+    ensures { IfOk result (λ nodes.
+        AreNodes (analysed_of analysis.now) analysis.now.flow.nodes nodes.items) }
 {
     let locals = local_cells(alloc, analysis)?;
     let mut nodes = Vec::new(alloc);

@@ -3,10 +3,14 @@ ghost use Rattle.std.specs.Prelude.{◌≡◌, ◌<◌, ◌^◌, length, map};
 ghost use Rattle.std.proofs.Props.{props};
 ghost use Rattle.sp_scenes.specs.View.{analysed_of};
 ghost use Rattle.sp_transfer.specs.Equations.{AreEquations};
+ghost use Rattle.sp_defuse.specs.Sources.{AreSources};
 ghost use Rattle.sp_defuse.specs.View.{equations_of};
 ghost use Rattle.sp_defuse.specs.declared.nodes.Node.{Node};
 
+use crate::accessed::accessed;
 use crate::nodes::{Node, nodes_of};
+use crate::sources::Sources;
+use sp_graph::{Flow, localise};
 use sp_lattice::{Steps, System};
 use sp_scenes::Analysis;
 use sp_transfer::effect;
@@ -15,14 +19,20 @@ use sp_value::Slot;
 use std::alloc::{AllocError, Global};
 use std::sync::ledger::Ledger;
 
-/// An analysed program, and the nodes of its supergraph.
+/// An analysed program, its supergraph with the calls localised, and the nodes of it.
 #[derive(Drop)]
 pub struct CProgram {
     analysis: Analysis,
+    flow: Flow,
     nodes: Vec<Node>,
-    ghost few: { length nodes.items < 2 ^ 32 },
-    ghost numbers: { map (λ (x : Node). x.number) nodes.items ≡ analysis.flow.nodes } by { Prim.hlevel props },
-    ghost equations: { ∥ AreEquations (equations_of (analysed_of analysis) nodes.items) ∥₁ },
+    sources: Vec<Sources>,
+    ghost few: { length flow.nodes < 2 ^ 32 },
+    ghost same: { flow.nodes ≡ analysis.flow.nodes } by { Prim.hlevel props },
+    ghost numbers: { map (λ (x : Node). x.number) nodes.items ≡ flow.nodes } by { Prim.hlevel props },
+    ghost long: { length sources.items ≡ length flow.nodes },
+    ghost joined: { ∥ AreSources flow flow.nodes sources.items ∥₁ },
+    ghost equations: { ∥ AreEquations
+        (equations_of (analysed_of analysis) flow nodes.items sources.items) ∥₁ },
 }
 
 impl CProgram {
@@ -34,7 +44,21 @@ impl CProgram {
         ensures { IfOk result (λ program. analysed_of program.analysis ≡ analysed_of analysis) }
     {
         let nodes = nodes_of(alloc, &analysis)?;
-        Ok(CProgram { analysis, nodes })
+        let accessed = accessed(alloc, &analysis, &nodes)?;
+        let flow = localise(
+            alloc,
+            &analysis.lowered,
+            &analysis.flow,
+            analysis.pre.calls(),
+            &accessed,
+        )?;
+        let sources = Sources::all(alloc, &flow)?;
+        Ok(CProgram {
+            analysis,
+            flow,
+            nodes,
+            sources,
+        })
     }
 
     /// The analysed program.
@@ -42,6 +66,13 @@ impl CProgram {
         ensures { result.now ≡ self.now.analysis }
     {
         &self.analysis
+    }
+
+    /// The supergraph, with the calls localised.
+    pub fn flow(&self) -> &Flow
+        ensures { result.now ≡ self.now.flow }
+    {
+        &self.flow
     }
 
     /// The nodes, in the order of their numbers in the program.
@@ -53,14 +84,13 @@ impl CProgram {
 }
 
 impl System for CProgram {
-    ghost use Rattle.sp_scenes.specs.View.{analysed_of};
     ghost use Rattle.sp_transfer.specs.Equations.{meaning_of};
     ghost use Rattle.sp_transfer.proofs.SystemLaws.{equations_are_system};
-    ghost use Rattle.sp_defuse.specs.View.{equations_of};
+    ghost use Rattle.sp_defuse.specs.Program.{equations_in};
 
     type Value = Slot;
 
-    ghost meaning = { λ s. meaning_of (equations_of (analysed_of s.analysis) s.nodes.items) };
+    ghost meaning = { λ s. meaning_of (equations_in s) };
 
     fn nodes(&self) -> u32 {
         self.nodes.len() as u32
@@ -71,11 +101,11 @@ impl System for CProgram {
     }
 
     fn edges_into(&self, node: u32) -> &[u32] {
-        self.nodes[node as usize].into.as_slice()
+        self.sources[node as usize].places()
     }
 
-    fn passes(&self, _from: u32, _to: u32, _location: u32) -> bool {
-        true
+    fn passes(&self, from: u32, to: u32, location: u32) -> bool {
+        self.sources[to as usize].pass(&self.flow, from, location)
     }
 
     fn defs(&self, node: u32) -> &[u32] {
@@ -108,5 +138,5 @@ impl System for CProgram {
         Ok(())
     }
 
-    ghost lawful = { λ s. equations_are_system (equations_of (analysed_of s.analysis) s.nodes.items) s.analysis.whole s.equations };
+    ghost lawful = { λ s. equations_are_system (equations_in s) s.analysis.whole s.equations };
 }

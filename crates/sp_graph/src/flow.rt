@@ -140,7 +140,7 @@ pub fn supergraph(alloc: Global, lowered: &Lowered, calls: &CallGraph) -> Result
 
 /// The supergraph with localised calls: only what a function accesses passes into it and back, and
 /// what some function that a call calls doesn't access passes beside the call. `accessed` has a set
-/// of locations for each function.
+/// of locations for each function, and `flow` is the supergraph where every location passes.
 pub fn localise(
     alloc: Global,
     lowered: &Lowered,
@@ -148,10 +148,12 @@ pub fn localise(
     calls: &CallGraph,
     accessed: &[NumberSet],
 ) -> Result<Flow, AllocError>
-    requires formed { IsFormed (lowered_of lowered.now) }
-    requires callees { AreCallees (lowered_of lowered.now) calls.now }
-    requires flow { IsSupergraph (lowered_of lowered.now) calls.now false flow.now }
-    ensures graph { IfOk result (IsSupergraph (lowered_of lowered.now) calls.now true) }
+    requires few { length calls.now < 2 ^ 32 }
+    requires long { length calls.now ≡ length (lowered_of lowered.now).nodes }
+    requires inside { (n : ℕ) → has n flow.now.nodes ≡ true → n < length calls.now }
+    ensures graph { IfOk result (λ g. IsSupergraph (lowered_of lowered.now) calls.now false flow.now
+        → IsSupergraph (lowered_of lowered.now) calls.now true g) }
+    ensures nodes { IfOk result (λ g. g.nodes ≡ flow.now.nodes) }
     ensures accessed { IfOk result (λ g. g.accessed ≡ accessed.now) }
     ensures calls { IfOk result (λ g. g.calls ≡ calls.now) }
 {

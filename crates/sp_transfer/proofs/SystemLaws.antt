@@ -1,29 +1,31 @@
 -- The equations of an analysed program are a system.
-use Rattle.std.proofs.Common.{◌≡◌, ◌<◌, ◌≤◌, ◌+◌, ◌*◌, ◌^◌, ℕ, true, false, length, refl, sym, ◌∙◌, subst, arith}
-use Rattle.std.specs.Prelude.{All}
+use Rattle.std.proofs.Common.{◌≡◌, ◌<◌, ◌≤◌, ◌+◌, ◌*◌, ◌^◌, ℕ, true, nat_lt, length, get_or, sym, ◌∙◌, subst, arith}
 use Rattle.std.proofs.Props.{props}
 use Rattle.std.proofs.Math.Logic.{∥∥₁_elim}
-use Rattle.std.proofs.lemmas.List.{length-map}
-use Rattle.sp_lattice.specs.System.{Meaning, IsSystem, has, Below, Held}
+use Rattle.std.proofs.lemmas.Bool.Decides.{nat_tests}
+use Rattle.std.proofs.lemmas.List.{length-map, get_or_default}
+use Rattle.sp_lattice.specs.System.{IsSystem, has, AllBelow, Held}
 use Rattle.sp_sets.specs.Reached.{row}
+use Rattle.sp_sets.proofs.Members.{has_there}
 use Rattle.sp_value.specs.declared.slots.Slot.{Slot}
 use Rattle.sp_value.specs.declared.slots.Slot.TheVariants.{Nothing}
+use Rattle.sp_value.specs.Tests.{first}
 use Rattle.sp_value.specs.Known.{known_le}
 use Rattle.sp_value.specs.Slots.{slot_le, slot_join, slot_order, known_in}
 use Rattle.sp_value.specs.SlotLaws.{known_in-monotone}
-use Rattle.sp_value.specs.Held.{IsHeldSlot, slot_rank}
+use Rattle.sp_value.specs.Held.{slot_rank}
 use Rattle.sp_value.specs.HeldLaws.{slot_join-held, slot_rank-rises, slot_rank-most}
 use Rattle.sp_rows.specs.Rows.{Store}
 use Rattle.sp_rows.specs.Setting.{count, cell_of, ceiling, ceiling_known, widest}
-use Rattle.sp_rows.specs.Laws.{HeldStore, UnderCeiling, AgreeAt}
+use Rattle.sp_rows.specs.Laws.{HeldStore, AgreeAt}
 use Rattle.sp_rows.proofs.SettingLaws.{ceiling-knows}
-use Rattle.sp_scenes.specs.Analysed.{Analysed, setting_of}
+use Rattle.sp_scenes.specs.Analysed.{setting_of}
 use Rattle.sp_scenes.specs.Whole.{IsAnalysed}
 use Rattle.sp_scenes.proofs.AllLaws.{scene_laws}
 use Rattle.sp_scenes.proofs.Few.{targets-few}
 use Rattle.sp_calls.proofs.StoringSteps.{low-member}
-use Rattle.sp_transfer.specs.Effects.{defined_at, used_at, effect_at}
-use Rattle.sp_transfer.specs.Equations.{Equations, number_of, is_held, height_of, meaning_of, AreLocations, AreEquations}
+use Rattle.sp_transfer.specs.Effects.{used_at, effect_at}
+use Rattle.sp_transfer.specs.Equations.{Equations, nodes_of, number_of, is_joined, height_of, meaning_of, AreEquations}
 use Rattle.sp_transfer.proofs.EffectLaws.{effect-lawful}
 use Rattle.sp_transfer.proofs.Holding.{held-from, held-to}
 
@@ -40,11 +42,14 @@ high t r h g =
     let m : r * (1 + 2 * t) ≤ 200000 * (1 + 2 * t) = times r 200000 (1 + 2 * t) g in
     omega (arith, h, wide, m)
 
+lower : (k n : ℕ) → nat_lt k n ≡ true → k < n
+lower k n h = grind (arith, nat_tests, h)
+
 module _ (e : Equations) (whole : IsAnalysed e.analysed) (are : AreEquations e) where
   held-store : (s : Store) → Held (meaning_of e) s → HeldStore (setting_of e.analysed) s
   held-store s h l low = held-from e.analysed.ladder whole.ladder (s l) (h l low)
 
-  agree-at : (k : ℕ) (s t : Store) → k < length e.nodes → ((u : ℕ) → has u (row e.uses k) ≡ true → s u ≡ t u) → AgreeAt (used_at e.analysed (number_of e k)) s t
+  agree-at : (k : ℕ) (s t : Store) → k < length (nodes_of e) → ((u : ℕ) → has u (row e.uses k) ≡ true → s u ≡ t u) → AgreeAt (used_at e.analysed (number_of e k)) s t
   agree-at k s t low agree u used = agree u ((are.uses k low).are u ∙ used)
 
   few-targets : (l : ℕ) → length ((setting_of e.analysed).points_to (cell_of (setting_of e.analysed) l)) ≤ length e.analysed.program.regions
@@ -60,7 +65,7 @@ module _ (e : Equations) (whole : IsAnalysed e.analysed) (are : AreEquations e) 
 
   pub equations-system : IsSystem slot_order (meaning_of e)
   equations-system = record {
-    into_below = are.into_below;
+    into_below = into-low;
     defs_ascend = λ k low. (are.defs k low).ascend;
     defs_below = λ k low. (are.defs k low).below;
     uses_ascend = λ k low. (are.uses k low).ascend;
@@ -79,7 +84,13 @@ module _ (e : Equations) (whole : IsAnalysed e.analysed) (are : AreEquations e) 
     height_below = high (length e.analysed.ladder) (length e.analysed.program.regions) whole.few_points whole.formed.few_regions;
   }
     where
-      defined-low : (k l : ℕ) → k < length e.nodes → has l (row e.defs k) ≡ true → l < count (setting_of e.analysed)
+      into-low : (k : ℕ) → k < length (nodes_of e) → AllBelow (length (nodes_of e)) (row e.into k)
+      into-low k low i d i_low =
+          let j = get_or (row e.into k) i d in
+          let there = sym (are.into j k low) ∙ has_there (row e.into k) j i i_low (get_or_default (row e.into k) i 0 d i_low) in
+          lower j (length (nodes_of e)) (first (nat_lt j (length (nodes_of e))) (is_joined e.graph (number_of e j) (number_of e k)) there)
+
+      defined-low : (k l : ℕ) → k < length (nodes_of e) → has l (row e.defs k) ≡ true → l < count (setting_of e.analysed)
       defined-low k l low defined = low-member (count (setting_of e.analysed)) (row e.defs k) l (are.defs k low).below defined
 
 IsSystem-prop : (e : Equations) → IsProp (IsSystem slot_order (meaning_of e))

@@ -1,8 +1,8 @@
 use Rattle.std.proofs.Common.{◌∙◌, ap, ◌||◌}
-use Rattle.sp_lattice.specs.System.{has}
-use Rattle.sp_defuse.specs.Nodes.{stands_at}
+use Rattle.sp_sets.specs.Sets.{has}
+use Rattle.sp_defuse.specs.Sources.{stands_at}
 use Rattle.sp_defuse.proofs.Graphs.{one-place, either-way}
-use Rattle.sp_defuse.proofs.sources.add_place.Goals as goal
+use Rattle.sp_defuse.proofs.places.add_place.Goals as goal
 
 pub returns-in_ok-add : goal.returns-in_ok-add
 returns-in_ok-add c = λ j. c.in_ok-add.ensures.numbers j
