@@ -1,7 +1,6 @@
 """Times the built program on generated C, by both engines: bench/analysis.sh runs it."""
 import os
 import random
-import resource
 import subprocess
 import sys
 import tempfile
@@ -11,14 +10,15 @@ LIMIT = 300  # seconds
 
 
 def program(functions):
-    """A program of so many functions of some 90 nodes each. They call two later ones, share a global
-    for each ten of them, and write arrays through pointers. A fixed seed makes it the same each time."""
+    """A program of so many functions of some 90 nodes each, the same each time. They call two later
+    ones, share a global for each ten of them, and write through pointers."""
     chance = random.Random(functions)
     shared = max(4, functions // 10)
     lines = [f"int g[{shared}];int table[64];"]
     lines += [f"int f{k}(int n,int *p);" for k in range(functions)]
     for k in range(functions):
-        calls = [f"y=f{chance.randrange(k + 1, min(functions, k + 40))}(x,&local);" for _ in range(2)] if k + 1 < functions else []
+        later = range(k + 1, min(functions, k + 40))
+        calls = [f"y=f{chance.choice(later)}(x,&local);" for _ in range(2)] if later else []
         body = "".join(
             f"x=y+{chance.randrange(100)};if(x>n)y=x-{chance.randrange(9)};else y=n;"
             f"p[0]=y;table[x&63]=y;g[{chance.randrange(shared)}]=*p;local=local+x;" for _ in range(6))
@@ -28,36 +28,56 @@ def program(functions):
     return "\n".join(lines) + "\n"
 
 
+def chain(nodes):
+    """A straight line of so many assignments to 64 scalars."""
+    line = "".join(f"x{(k + 1) % 64}=x{k % 64};" for k in range(nodes))
+    return "int main(void){" + "".join(f"int x{k};" for k in range(64)) + line + "return 0;}"
+
+
+def ring(nodes):
+    """One loop in which the first scalar climbs to 10, and is copied to the others so many times."""
+    copies = "".join(f"x{1 + k % 63}=x0;" for k in range(nodes))
+    declared = "".join(f"int x{k};" for k in range(64))
+    return f"int main(void){{{declared}x0=0;while(x0<10){{x0=x0+1;{copies}}}return 0;}}"
+
+
 def measured(words):
     """Seconds, peak KiB, and the last line of what is written; None where it takes too long."""
     start = time.time()
-    before = resource.getrusage(resource.RUSAGE_CHILDREN).ru_maxrss
     try:
-        done = subprocess.run(["/usr/bin/time", "-f", "%M", *words], capture_output=True, text=True, timeout=LIMIT)
+        done = subprocess.run(
+            ["/usr/bin/time", "-f", "%M", *words], capture_output=True, text=True, timeout=LIMIT)
     except subprocess.TimeoutExpired:
         return None
-    peak = int(done.stderr.split()[-1]) if done.stderr.split() else before
-    return time.time() - start, peak, (done.stdout.strip().split("\n") or [""])[-1][-60:]
+    last = done.stdout.strip().split("\n")[-1]
+    return time.time() - start, int(done.stderr.split()[-1]), last[-60:]
+
+
+def table(command, head, made, sizes, sparrow, source):
+    """Prints a row for each size, with the time of one against that of the row above."""
+    print(f"{command:8}{head:>10}{'s':>9}{'KiB':>10}{'ratio':>8}  last line")
+    last = None
+    for size in sizes:
+        with open(source, "w", encoding="ascii") as out:
+            out.write(made(size))
+        found = measured([sparrow, command, source])
+        if found is None:
+            print(f"{'':8}{size:10}{'> ' + str(LIMIT):>9}", flush=True)
+            break
+        seconds, peak, line = found
+        ratio = "-" if last is None else f"{seconds / size / last:.2f}"
+        last = seconds / size
+        print(f"{'':8}{size:10}{seconds:9.2f}{peak:10}{ratio:>8}  {line}", flush=True)
 
 
 def main():
-    sparrow, sizes = sys.argv[1], [int(it) for it in sys.argv[2:] if it] or [25, 100, 400, 1600, 6400]
+    sparrow, sizes = sys.argv[1], [int(it) for it in sys.argv[2:] if it] or [25, 100, 400, 1600]
     with tempfile.TemporaryDirectory() as room:
         source = os.path.join(room, "a.c")
-        for command in ("analyse", "dense"):
-            print(f"{command:8}{'functions':>10}{'s':>9}{'KiB':>10}{'s/fun.':>8}  last line")
-            last = None
-            for size in sizes:
-                with open(source, "w", encoding="ascii") as out:
-                    out.write(program(size))
-                found = measured([sparrow, command, source])
-                if found is None:
-                    print(f"{'':8}{size:10}{'> ' + str(LIMIT):>9}", flush=True)
-                    break
-                seconds, peak, line = found
-                ratio = "-" if last is None else f"{seconds / size / last:.2f}"
-                last = seconds / size
-                print(f"{'':8}{size:10}{seconds:9.2f}{peak:10}{ratio:>8}  {line}", flush=True)
+        table("analyse", "functions", program, sizes, sparrow, source)
+        table("dense", "functions", program, [25], sparrow, source)
+        table("dense", "chain", chain, [4000, 8000, 16100], sparrow, source)
+        table("dense", "ring", ring, [4000, 8000, 16100], sparrow, source)
 
 
 main()
