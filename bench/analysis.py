@@ -21,7 +21,8 @@ def program(functions):
         calls = [f"y=f{chance.choice(later)}(x,&local);" for _ in range(2)] if later else []
         body = "".join(
             f"x=y+{chance.randrange(100)};if(x>n)y=x-{chance.randrange(9)};else y=n;"
-            f"p[0]=y;table[x&63]=y;g[{chance.randrange(shared)}]=*p;local=local+x;" for _ in range(6))
+            f"p[0]=y;table[x&63]=y;g[{chance.randrange(shared)}]=*p;local=local+x;"
+            for _ in range(6))
         lines.append(f"int f{k}(int n,int *p){{int x;int y;int local;int i;x=0;y=n;local=0;"
                      f"for(i=0;i<64;i++)table[i]=i;{body}{''.join(calls)}return x/(y+1);}}")
     lines.append("int main(void){int a;a=0;return f0(3,&a);}")
@@ -35,7 +36,7 @@ def chain(nodes):
 
 
 def ring(nodes):
-    """One loop in which the first scalar climbs to 10, and is copied to the others so many times."""
+    """One loop in which the first scalar climbs to 10, with so many copies of it to the others."""
     copies = "".join(f"x{1 + k % 63}=x0;" for k in range(nodes))
     declared = "".join(f"int x{k};" for k in range(64))
     return f"int main(void){{{declared}x0=0;while(x0<10){{x0=x0+1;{copies}}}return 0;}}"
