@@ -56,20 +56,26 @@ IsWhole words texts bytes = ((fits words ≡ None) × (bytes ≡ usage_text))
 
 -- ---- ends
 
+-- the files tell the same as before: none was begun
+pub record IsUnasked (old new : World) : Type 0 where
+  pub same_asked : new.asked ≡ old.asked
+  pub same_begun : new.begun ≡ old.begun
+  pub same_at : new.at ≡ old.at
+  pub same_faults : new.read_faults ≡ old.read_faults
+
 pub record IsAnswered (words : List (List ℕ)) (texts : List ℕ → Told) (status : Status) (old new : World) : Type 0 where
   pub request : Asked
   pub fitting : fits words ≡ Some request
   pub bytes : List ℕ
   pub answers : Answers texts request status bytes
   pub grown : Appends old.written new.written bytes
+  -- no file is begun where there are too many
+  pub unasked : most_files < length request.files → IsUnasked old new
 
 pub record IsUsage (words : List (List ℕ)) (old new : World) : Type 0 where
   pub misfit : fits words ≡ None
   pub grown : Appends old.written new.written usage_text
-  pub same_asked : new.asked ≡ old.asked
-  pub same_begun : new.begun ≡ old.begun
-  pub same_at : new.at ≡ old.at
-  pub same_faults : new.read_faults ≡ old.read_faults
+  pub unasked : IsUnasked old new
 
 -- the limits aren't passed up to the file of which a read failed
 pub record IsReadFault (words : List (List ℕ)) (texts : List ℕ → Told) (old new : World) : Type 0 where

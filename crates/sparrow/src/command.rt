@@ -1,5 +1,5 @@
 //! The top call: from the words to the bytes written and the exit status.
-ghost use Rattle.std.specs.Prelude.{◌≡◌, ◌≢◌, ◌≤◌, ℕ, List, [], Some, Err, length, IfOk, IfErr};
+ghost use Rattle.std.specs.Prelude.{◌≡◌, ◌≢◌, ◌<◌, ◌≤◌, ℕ, List, [], Some, Err, length, IfOk, IfErr};
 ghost use Rattle.std.specs.List.{Contains};
 ghost use Rattle.sp_outside.specs.Told.{missing};
 ghost use Rattle.sp_front.specs.Sources.{most_files};
@@ -58,6 +58,7 @@ fn answer_of<F: Files, L: Ledger>(
         (asked_of request.now).files (F.asked files.new) (F.begun files.new)
         (F.faults files.old) (F.faults files.new) }
     ensures still { result ≡ Err NoAnswer.ReadFault → steps.new ≡ steps.old }
+    ensures unasked { most_files < length (asked_of request.now).files → files.new ≡ files.old }
     ensures reads { F.failing files.old ≡ Some [] →
         ((name : List ℕ) → Contains (asked_of request.now).files name →
         F.text_of files.old name ≢ missing) → result ≢ Err NoAnswer.ReadFault }

@@ -17,7 +17,9 @@ returns-in-Ok-clause-ends g c =
     let fitted : fits (bytes_of c.args.words.now) ≡ Some (asked_of request) =
     fitting c.in-Ok-Some.field-0 (fits (bytes_of c.args.words.now)) request c.in-Ok-Some.ensures (c.in-Ok-Some.field-0-is ∙ ap Some c.in-Ok-Some.request-is) in
     ended (bytes_of c.args.words.now) (g.F.Files.text_of c.args.files.now) (asked_of request) _ _ c.in-Ok.answer.status c.write_out-in-Ok.result c.in-Ok.answer.text.items
-    fitted c.in-Ok.ensures.done c.in-Ok.ensures.answer (rw c.deref.ensures.value at c.write_out-in-Ok.ensures.written)
+    fitted c.in-Ok.ensures.done c.in-Ok.ensures.answer
+    (λ many. let same = c.in-Ok.ensures.unasked many in record { same_asked = ap g.F.Files.asked same; same_begun = ap g.F.Files.begun same; same_at = ap g.F.Files.at same; same_faults = ap g.F.Files.faults same })
+    (rw c.deref.ensures.value at c.write_out-in-Ok.ensures.written)
 
 pub returns-in-Ok-clause-writes : goal.returns-in-Ok-clause-writes
 returns-in-Ok-clause-writes g c failing left room all is =
