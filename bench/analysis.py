@@ -1,17 +1,19 @@
-"""Times the built program on generated C, by both engines: bench/analysis.sh runs it."""
+"""Times the built program on generated C, beside compilers and another analyser: bench/analysis.sh runs it."""
 import os
 import random
+import shutil
 import subprocess
 import sys
 import tempfile
 import time
 
-LIMIT = 300  # seconds
+LIMIT = 600  # seconds
+NODES = 70  # of a function: 6,400 of them stay below 500,000 nodes and 2,000,000 tokens
 
 
 def program(functions):
-    """A program of so many functions of some 90 nodes each, the same each time. They call two later
-    ones, share a global for each ten of them, and write through pointers."""
+    """A program of so many functions, the same each time. They call two later ones, share a global for
+    each ten of them, and write through pointers."""
     chance = random.Random(functions)
     shared = max(4, functions // 10)
     lines = [f"int g[{shared}];int table[64];"]
@@ -20,9 +22,9 @@ def program(functions):
         later = range(k + 1, min(functions, k + 40))
         calls = [f"y=f{chance.choice(later)}(x,&local);" for _ in range(2)] if later else []
         body = "".join(
-            f"x=y+{chance.randrange(100)};if(x>n)y=x-{chance.randrange(9)};else y=n;"
-            f"p[0]=y;table[x&63]=y;g[{chance.randrange(shared)}]=*p;local=local+x;"
-            for _ in range(6))
+            f"x=y+{chance.randrange(100)};if(x>n)y=x;else y=n;*p=y;table[x&63]=y;"
+            f"g[{chance.randrange(shared)}]=*p;local+=x;x++;y--;i++;local++;x--;y++;i--;local--;"
+            for _ in range(3))
         lines.append(f"int f{k}(int n,int *p){{int x;int y;int local;int i;x=0;y=n;local=0;"
                      f"for(i=0;i<64;i++)table[i]=i;{body}{''.join(calls)}return x/(y+1);}}")
     lines.append("int main(void){int a;a=0;return f0(3,&a);}")
@@ -51,34 +53,45 @@ def measured(words):
     except subprocess.TimeoutExpired:
         return None
     last = done.stdout.strip().split("\n")[-1]
-    return time.time() - start, int(done.stderr.split()[-1]), last[-60:]
+    return time.time() - start, int(done.stderr.split()[-1]), last[-40:]
 
 
-def table(command, head, made, sizes, sparrow, source):
-    """Prints a row for each size, with the time of one against that of the row above."""
-    print(f"{command:8}{head:>10}{'s':>9}{'KiB':>10}{'ratio':>8}  last line")
+def table(command, head, made, sizes, words, source, nodes=1):
+    """Prints a row for each size, of so many nodes each: what a node takes, and the ratio of its time to
+    that of the row above."""
+    print(f"{command:9}{head:>10}{'nodes':>9}{'s':>9}{'KiB':>10}{'us/node':>9}{'KiB/node':>10}{'ratio':>7}  last line")
     last = None
     for size in sizes:
         with open(source, "w", encoding="ascii") as out:
             out.write(made(size))
-        found = measured([sparrow, command, source])
+        found = measured([*words, source])
+        count = size * nodes
         if found is None:
-            print(f"{'':8}{size:10}{'> ' + str(LIMIT):>9}", flush=True)
+            print(f"{'':9}{size:10}{count:9}{'> ' + str(LIMIT):>9}", flush=True)
             break
         seconds, peak, line = found
-        ratio = "-" if last is None else f"{seconds / size / last:.2f}"
-        last = seconds / size
-        print(f"{'':8}{size:10}{seconds:9.2f}{peak:10}{ratio:>8}  {line}", flush=True)
+        ratio = "-" if last is None else f"{seconds / count / last:.2f}"
+        last = max(seconds, 0.001) / count
+        print(f"{'':9}{size:10}{count:9}{seconds:9.2f}{peak:10}{1e6 * seconds / count:9.2f}{peak / count:10.2f}"
+              f"{ratio:>7}  {line}", flush=True)
 
 
 def main():
-    sparrow, sizes = sys.argv[1], [int(it) for it in sys.argv[2:] if it] or [25, 100, 400, 1600]
+    sparrow, sizes = sys.argv[1], [int(it) for it in sys.argv[2:] if it] or [100, 400, 1600, 6400]
     with tempfile.TemporaryDirectory() as room:
         source = os.path.join(room, "a.c")
-        table("analyse", "functions", program, sizes, sparrow, source)
-        table("dense", "functions", program, [25], sparrow, source)
-        table("dense", "chain", chain, [4000, 8000, 16100], sparrow, source)
-        table("dense", "ring", ring, [4000, 8000, 16100], sparrow, source)
+        for command in ("analyse", "dense"):
+            # dense takes 1,048,576 slots, nodes times locations
+            some = sizes if command == "analyse" else [25]
+            table(command, "functions", program, some, [sparrow, command], source, NODES)
+        others = {"gcc": ["-O2", "-Wall", "-c", "-o", os.devnull], "frama-c": ["-eva", "-eva-verbose", "0"]}
+        for name, flags in others.items():
+            if shutil.which(name):
+                table(name, "functions", program, sizes, [name, *flags], source, NODES)
+            else:
+                print(f"{name}: not installed")
+        for shape in (chain, ring):
+            table("dense", shape.__name__, shape, [4000, 8000, 16100], [sparrow, "dense"], source)
 
 
 main()

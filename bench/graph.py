@@ -1,4 +1,4 @@
-"""Times graph_rows on large programs, each beside one of a tenth: bench/graph.sh runs it."""
+"""Times text_rows on large programs, each beside one of a tenth: bench/graph.sh runs it."""
 import random
 import sys
 

@@ -1,4 +1,4 @@
-"""Times middle_rows on large programs, each beside one of a tenth: bench/lowering.sh runs it."""
+"""Times text_rows on large programs, each beside one of a tenth: bench/lowering.sh runs it."""
 import sys
 
 from rows import measured

@@ -24,7 +24,9 @@ building='sparrow: proving and building the program; the first time takes over a
 
 check 'the program is up to date' 1 '' run 1
 check 'by a link' 1 '' "$room/link" 1
-check_said 'status 3' 'sparrow: the commands are: analyse [--values] FILE.., dense [--values] FILE..' run 3
+commands='sparrow: the commands are: analyse [--values] FILE.., dense [--values] FILE..,'
+commands+=' source [--values] [--keep DIR] [CPP-OPTION..] FILE.c..'
+check_said 'status 3' "$commands" run 3
 check_said 'status 5' "sparrow: standard output can't be written" run 5
 check_said 'status 6' 'sparrow: out of memory' run 6
 check_said 'status 7' "sparrow: the words of the command line can't be read" run 7

@@ -6,7 +6,8 @@ room=$(mktemp -d)
 trap 'rm -rf "$room"' EXIT
 
 usage=$'usage: sparrow COMMAND [OPTION] WORD..\n'
-commands='sparrow: the commands are: analyse [--values] FILE.., dense [--values] FILE..'
+commands='sparrow: the commands are: analyse [--values] FILE.., dense [--values] FILE..,'
+commands+=' source [--values] [--keep DIR] [CPP-OPTION..] FILE.c..'
 file=examples/overrun.c
 check 'no words' 3 "$usage" ./sparrow
 check 'a command alone' 3 "$usage" ./sparrow analyse

@@ -6,8 +6,8 @@ ghost use Rattle.sp_defuse.specs.Program.{equations_in};
 ghost use Rattle.sp_analysis.specs.Sparse.{Gives, Ends, ServesWithin, IsServed};
 
 use crate::reports::report_on;
-use sp_defuse::CProgram;
-use sp_deps::{DepError, dependencies};
+use sp_defuse::{CProgram, open_nodes};
+use sp_deps::{DepError, dependencies_with};
 use sp_ir::Lowered;
 use sp_lattice::{Steps, solution_laws};
 use sp_report::Report;
@@ -42,7 +42,8 @@ fn solve<L: Ledger>(
         steps.old steps.new }
 {
     solution_laws(program);
-    let deps = match dependencies(alloc, program) {
+    let open = open_nodes(alloc, program)?;
+    let deps = match dependencies_with(alloc, program, &open) {
         Ok(deps) => deps,
         Err(DepError::TooMany { .. }) => return Ok(SparseOutcome::TooMany),
         Err(DepError::NoMemory) => return Err(AllocError),

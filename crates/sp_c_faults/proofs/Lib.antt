@@ -21,3 +21,11 @@ pub mod PartTypes
 pub mod MissingKinds
 pub mod MissingTold
 pub mod UnitTypes
+pub mod Walks
+pub mod WalkProductions
+pub mod ParametersTold
+pub mod BodySteps
+pub mod InsideBodies
+pub mod FoundBodies
+pub mod TypedefsTold
+pub mod PlaceRows

@@ -1,2 +1,4 @@
 pub mod Told
 pub mod Missing
+pub mod Parameters
+pub mod Functions

@@ -1,4 +1,4 @@
-//! What the kinds of faults at C90's failing tokens mean, said by trees (C90 6.5.6): laws alone.
+//! What the kinds of faults at C90's failing tokens mean, said by trees (C90 6.5 to 6.7): laws alone.
 //!
 //! The kind of a fault at the name of a type is U9 where the grammar notes that a name could stand
 //! there (`takes_name` of `sp_c_tokens`). Here that is said by trees: where a unit, an expression, a
@@ -16,9 +16,16 @@
 //!
 //! For example `typedef int T;int f(){for(;T;);}` fails at the second `T`: behind the `;` an
 //! expression may be missing, so a name could go on there. In `int a T;` none could.
+//!
+//! What stands before a token is kept production by production (proofs/Walks.antt): whether it is
+//! `(` or `,`, and whether the place is in a function. So U4 is told from U5 (specs/Parameters.antt).
+//! And so U9 at the word `typedef` is told by the body of a function (specs/Functions.antt). That is
+//! not where another storage class could be: `return typedef` is U9, but no `static` stands there.
 #![tactic(auto)]
 
+ghost use Rattle.sp_c_faults.specs.Functions.{TypedefsAreTold};
 ghost use Rattle.sp_c_faults.specs.Missing.{MissingTypesAreTold};
+ghost use Rattle.sp_c_faults.specs.Parameters.{ParametersAreTold};
 ghost use Rattle.sp_c_faults.specs.Told.{TypeNamesAreTold};
 
 /// Where a text fails at the name of a type, its fault is U9 exactly where a name could be in its
@@ -33,4 +40,19 @@ pub fn type_names_are_told()
 /// The call does nothing.
 pub fn missing_types_are_told()
     ensures { MissingTypesAreTold }
+{}
+
+/// Where a unit or one of those parts fails, its fault is U4 exactly where a parameter could begin:
+/// at a name that is no type's, behind `(` or `,`, in whose place the word `float` could be. Any
+/// other missing type is U5.
+/// The call does nothing.
+pub fn parameters_are_told()
+    ensures { ParametersAreTold }
+{}
+
+/// Where a unit fails at the word `typedef`, its fault is U9 exactly in the body of a function.
+/// Where an expression, a type name, a list of specifiers or a declarator does, it is never U9.
+/// The call does nothing.
+pub fn typedefs_are_told()
+    ensures { TypedefsAreTold }
 {}

@@ -7,10 +7,10 @@ use Rattle.sp_types.specs.declared.program.Linkage.{Linkage}
 use Rattle.sp_types.specs.declared.program.Linkage.TheVariants.{External}
 use Rattle.sp_types.specs.declared.program.Storage.{Storage}
 use Rattle.sp_types.specs.declared.program.Storage.TheVariants.{Static}
-use Rattle.sp_units.specs.Units.{CheckedUnit}
+use Rattle.sp_units.specs.Units.{CheckedUnit, Typing}
 
--- a declaration of an external name: the number of its unit, the name, the type that the unit gives
--- it, whether the unit defines it, and its place
+-- a declaration of an external name: the number of its unit, the name, the type that the name has
+-- behind it, whether it is told as the unit's definition, and its place
 pub record Declaration : Type 0 where
   pub unit : ℕ
   pub name : ℕ
@@ -34,15 +34,23 @@ object_declared u o = record { unit = u; name = o.name; of = o.of; defines = is_
 abbrev pub function_declared : ℕ → Function → Declaration
 function_declared u f = record { unit = u; name = f.name; of = function f.of; defines = is_some f.body; place = f.place }
 
+-- a declarator that gives the name its type or changes it: F24 stands there
+abbrev pub typing_declared : ℕ → Typing → Declaration
+typing_declared u t = record { unit = u; name = t.name; of = t.of; defines = false; place = t.place }
+
+abbrev pub typings_declared : ℕ → List Typing → List Declaration
+typings_declared u ts = map (typing_declared u) ts
+
 abbrev pub objects_declared : ℕ → List Object → List Declaration
 objects_declared u os = map (object_declared u) (filter (λ o. is_external o.linkage) os)
 
 abbrev pub functions_declared : ℕ → List Function → List Declaration
 functions_declared u fs = map (function_declared u) (filter (λ f. is_external f.linkage) fs)
 
--- those of the unit of a number: first its objects, then its functions
+-- those of the unit of a number: the declarators that tell its types, then its objects and its
+-- functions as the whole unit has them
 abbrev pub unit_declared : ℕ → CheckedUnit → List Declaration
-unit_declared u x = objects_declared u x.objects ++ functions_declared u x.functions
+unit_declared u x = typings_declared u x.typings ++ objects_declared u x.objects ++ functions_declared u x.functions
 
 -- those of units, from a number on
 abbrev pub declared_from : ℕ → List CheckedUnit → List Declaration

@@ -1,14 +1,14 @@
 //! The declarations of external names of several units.
 ghost use Rattle.std.specs.Prelude.{◌≡◌, ◌++◌, IfOk, OnOk, map};
 ghost use Rattle.sp_types.specs.Programs.{object_of, function_of};
-ghost use Rattle.sp_units.specs.Units.{checked_unit_of};
+ghost use Rattle.sp_units.specs.Units.{checked_unit_of, typing_of};
 ghost use Rattle.sp_conflicts.specs.Declarations as rules;
 ghost use Rattle.sp_conflicts.specs.Views.{declaration_of};
 
 use crate::linkage::{defines_function, defines_object, is_external};
 use sp_tree::Place;
 use sp_types::{CType, FunctionDef, ObjectDef};
-use sp_units::CheckedUnit;
+use sp_units::{CheckedUnit, Typing};
 use std::alloc::{AllocError, Global};
 
 /// A declaration of an external name.
@@ -17,11 +17,25 @@ pub(crate) struct Declaration {
     /// The number of its unit.
     pub unit: u32,
     pub name: u32,
-    /// The type that its unit gives it, with the unit's structs.
+    /// The type that the name has behind it, with the unit's structs.
     pub of: CType,
-    /// Whether its unit defines it.
+    /// Whether it is told as the definition of its unit.
     pub defines: bool,
     pub place: Place,
+}
+
+/// A declarator that gives its name a type.
+fn typing_declared(alloc: Global, unit: u32, typing: &Typing) -> Result<Declaration, AllocError>
+    ensures { IfOk result (λ d. declaration_of d ≡
+        rules.typing_declared unit (typing_of typing.now)) }
+{
+    Ok(Declaration {
+        unit,
+        name: typing.name,
+        of: typing.of.copy(alloc)?,
+        defines: false,
+        place: typing.place,
+    })
 }
 
 /// An object of a unit.
@@ -54,6 +68,23 @@ fn function_declared(
         defines: defines_function(function),
         place: function.place,
     })
+}
+
+/// Adds the declarators of a unit that tell types.
+fn add_typings(
+    alloc: Global,
+    all: &mut Vec<Declaration>,
+    unit: u32,
+    typings: &[Typing],
+) -> Result<(), AllocError>
+    ensures { OnOk result (map declaration_of all.new.items ≡
+        map declaration_of all.old.items
+        ++ rules.typings_declared unit (map typing_of typings.now)) }
+{
+    'typings: for typing in typings {
+        all.push(typing_declared(alloc, unit, typing)?)?;
+    }
+    Ok(())
 }
 
 /// Adds the external objects of a unit.
@@ -93,7 +124,7 @@ fn add_functions(
     Ok(())
 }
 
-/// Adds both. More than 2^32 units want memory.
+/// Adds all three. More than 2^32 units want memory.
 fn add_unit(
     alloc: Global,
     all: &mut Vec<Declaration>,
@@ -107,6 +138,7 @@ fn add_unit(
     let Ok(number) = u32::try_from(number) else {
         return Err(AllocError);
     };
+    add_typings(alloc, all, number, &unit.typings)?;
     add_objects(alloc, all, number, &unit.objects)?;
     add_functions(alloc, all, number, &unit.functions)
 }

@@ -1,18 +1,21 @@
 //! External names that units declare in conflict (C90 6.1.2.2, 6.1.2.6, 6.7).
 //!
 //! A name with external linkage is one object or one function in all units of a program. Its
-//! declarations have compatible types, and one unit at most defines it. Here the *declarations* of a
-//! program are those of its units in order, of each unit the objects and then the functions: a
-//! checked unit has one of each such name, with the type that all its text gives it. Types of two
-//! units are compared as they stand there, structs by [`sp_struct_agree`].
+//! declarations have compatible types, and one unit at most defines it. Here the *declarations* of
+//! a program are those of its units in order. Of each unit they are the declarators that give a
+//! name its type or change it, and then its objects and its functions, with the type that all its
+//! text gives them. Types of two units are compared as they stand there, structs by
+//! [`sp_struct_agree`].
 //!
-//! So of `int a[]; extern char b; char c;` and `int a[4]; int b; char c;` the fault F24 stands at the
-//! second `b`, and without `b` the fault F23 at the second `c`. The two types of `a` are compatible.
+//! So of `int a[]; extern char b; char c;` and `int a[4]; int b; char c;` the fault F24 stands at
+//! the second `b`, and without `b` the fault F23 at the second `c`. The two types of `a` are
+//! compatible. Behind `int a[4];` the fault of `extern int a[]; extern int a[3];` is F24 at the
+//! second declarator.
 //!
-//! The layer above uses one contract: [`check_declarations`] answers the first fault that stands, or
-//! that none does (`AreChecked` in `specs/Conflicts.antt`). Each declaration is compared with all of
-//! its name before it, of which there is one a unit, since compatible types need not be compatible
-//! with the same third one.
+//! The layer above uses one contract: [`check_declarations`] answers the first fault that stands,
+//! or that none does (`AreChecked` in `specs/Conflicts.antt`). Each declaration is compared with
+//! all of its name before it, since compatible types need not be compatible with the same third
+//! one.
 #![tactic(auto)]
 
 mod checked;

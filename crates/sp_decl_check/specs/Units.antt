@@ -11,7 +11,7 @@ use Rattle.sp_decl_check.specs.Definitions.{externals_checked}
 use Rattle.sp_decl_check.specs.Tentative.{open_tentative}
 
 abbrev pub checked_unit : Tables → List ℕ → CheckedUnit
-checked_unit t ns = record { structs = t.structs; objects = t.objects; functions = t.functions; constants = t.constants; definitions = ns }
+checked_unit t ns = record { structs = t.structs; objects = t.objects; functions = t.functions; constants = t.constants; definitions = ns; typings = t.typings }
 
 -- at the end of a unit: each tentative definition has a complete type, and each internal function
 -- that is mentioned has a body

@@ -39,6 +39,7 @@ fn unit_told(
         functions: tables.functions,
         constants: tables.constants,
         definitions: defined,
+        typings: tables.typings,
     })
 }
 

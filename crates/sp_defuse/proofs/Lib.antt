@@ -7,3 +7,4 @@ pub mod Touching
 pub mod Spreads
 pub mod Accessing
 pub mod EquationLaws
+pub mod Opening

@@ -5,3 +5,4 @@ pub mod Accessed
 pub mod Spreading
 pub mod View
 pub mod Program
+pub mod Open

@@ -27,11 +27,13 @@ mod accessed;
 mod edges;
 mod groups;
 mod nodes;
+mod open;
 mod places;
 mod programs;
 mod sources;
 mod spreading;
 
 pub use nodes::Node;
+pub use open::open_nodes;
 pub use programs::CProgram;
 pub use sources::Sources;

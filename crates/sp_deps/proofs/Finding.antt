@@ -1,9 +1,10 @@
 -- The dependencies are found use by use, in the order of locations and of targets.
-use Rattle.std.proofs.Common.{◌≡◌, ◌≢◌, ◌⊎◌, inl, inr, ℕ, ◌+◌, ◌<◌, ◌≤◌, Bool, true, ◌&&◌, ◌||◌, eqb, ltb, List, [], length, get_or, take, sym, ap, ◌∙◌, subst, arith, eqb-true}
+use Rattle.std.proofs.Common.{refl, zero, suc, replicate, ◌≡◌, ◌≢◌, ◌⊎◌, inl, inr, ℕ, ◌+◌, ◌<◌, ◌≤◌, Bool, true, ◌&&◌, ◌||◌, eqb, ltb, List, [], length, get_or, take, sym, ap, ◌∙◌, subst, arith, eqb-true}
 use Rattle.std.specs.Prelude.{AllPairs}
 use Rattle.std.proofs.lemmas.Bool.{false≢true}
 use Rattle.std.proofs.lemmas.Bool.Decides.{nat_tests}
-use Rattle.std.proofs.lemmas.List.{take_all, get_or-take, get_or_default, length-take-le}
+use Rattle.std.specs.List.{list_any}
+use Rattle.std.proofs.lemmas.List.{length-replicate, take_all, get_or-take, get_or_default, length-take-le}
 use Rattle.std.proofs.lemmas.List.Elements.{All-contains}
 use Rattle.std.proofs.lemmas.List.Folds.{Any-from_list_any}
 use Rattle.std.proofs.lemmas.Map.Views.{Contains-from_any}
@@ -11,7 +12,8 @@ use Rattle.sp_lattice.specs.Lattice.{Order}
 use Rattle.sp_lattice.specs.System.{Meaning, IsSystem, has}
 use Rattle.sp_lattice.specs.Dependency.{Depends}
 use Rattle.sp_lattice.proofs.Paths.{Path-end}
-use Rattle.sp_deps.specs.Rows.{held, is_before}
+use Rattle.sp_lattice.specs.Flat.{row_at}
+use Rattle.sp_deps.specs.Rows.{held, is_before, same_pair, total, Ascends}
 use Rattle.sp_deps.specs.Answer.{AreDependencies}
 use Rattle.sp_deps.specs.inner.Users.{AreUsers}
 use Rattle.sp_deps.specs.inner.Walk.{IsFound}
@@ -137,6 +139,35 @@ module _ {V : Type 0} (m : Meaning V) where
             by (inl is) = done_here location (take i targets) l c is (user b l c depends is)
             by (inr apart) = done_less location (take i targets) l c (omega (arith, apart, less))
         earlier b l c depends (inr at) = absurd (false≢true at.1)
+
+  -- before the first location there is none
+  pub upto_none : AreUpTo m (replicate m.nodes []) (is_done 0 [])
+  upto_none = record {
+    kept = record {
+      long = length-replicate m.nodes [];
+      ascending = λ k d low. subst Ascends (sym (empty_row m.nodes k d (omega (arith, low, length-replicate {A = List (ℕ × ℕ)} m.nodes [])))) (λ i j e less j_low. absurd (omega (arith, j_low)));
+      few = omega (arith, none_total m.nodes);
+    };
+    exact = λ b l c. (λ h. absurd (false≢true (sym (ap (λ xs. list_any (same_pair (l, c)) xs) (no_row m.nodes b)) ∙ h)), λ h. not_done l c (done_cases 0 [] l c h.1));
+  }
+    where
+      empty_row : (n k : ℕ) (d : List (ℕ × ℕ)) → k < n → get_or (replicate n []) k d ≡ []
+      empty_row zero k d low = absurd (omega arith)
+      empty_row (suc n) zero d low = refl
+      empty_row (suc n) (suc k) d low = empty_row n k d (omega (arith, low))
+
+      no_row : (n k : ℕ) → row_at (replicate {A = List (ℕ × ℕ)} n []) k ≡ []
+      no_row zero k = refl
+      no_row (suc n) zero = refl
+      no_row (suc n) (suc k) = no_row n k
+
+      none_total : (n : ℕ) → total (replicate n []) ≡ 0
+      none_total zero = refl
+      none_total (suc n) = none_total n
+
+      not_done : {A : Type 0} (l c : ℕ) → (l < 0) ⊎ ((l ≡ 0) × (has c [] ≡ true)) → A
+      not_done l c (inl less) = absurd (omega (arith, less))
+      not_done l c (inr at) = absurd (false≢true at.1)
 
   -- a location that is used is there
   pub use_low : (o : Order V) → IsSystem o m → (l c : ℕ) → c < m.nodes → has l (m.uses c) ≡ true → l < m.locations

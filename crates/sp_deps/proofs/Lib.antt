@@ -6,5 +6,6 @@ mod Growing
 pub mod Held
 mod Lists
 mod Searches
+mod Stretching
 mod Using
 mod Walks

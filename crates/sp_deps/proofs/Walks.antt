@@ -1,5 +1,5 @@
 -- What a walk reaches, step by step, and that in the end it has found the definitions that reach the use.
-use Rattle.std.proofs.Common.{◌≡◌, ◌⊎◌, inl, inr, ℕ, ◌+◌, ◌<◌, ◌≤◌, Bool, true, false, cond, not, ◌&&◌, ◌||◌, eqb, List, [], ◌∷◌, ◌++◌, length, get_or, set, take, refl, sym, ap, ◌∙◌, subst, arith, eqb-true, length-set}
+use Rattle.std.proofs.Common.{◌≡◌, ◌≢◌, ◌⊎◌, inl, inr, ℕ, zero, suc, ◌+◌, ◌<◌, ◌≤◌, Bool, true, false, cond, not, ◌&&◌, ◌||◌, eqb, List, [], ◌∷◌, ◌++◌, length, get_or, set, take, refl, sym, ap, ◌∙◌, subst, arith, eqb-true, length-set}
 use Rattle.std.specs.List.{IsDistinct}
 use Rattle.std.proofs.lemmas.Bool.{false≢true}
 use Rattle.std.proofs.lemmas.List.{take-append-le, take_all, append_assoc, length-append}
@@ -9,10 +9,11 @@ use Rattle.sp_lattice.specs.Lattice.{Order}
 use Rattle.sp_lattice.specs.System.{Meaning, IsSystem, AllBelow, has}
 use Rattle.sp_lattice.specs.Dependency.{Passing, Path, direct, onward}
 use Rattle.sp_lattice.proofs.Paths.{prepend}
-use Rattle.sp_deps.specs.inner.Walk.{reached, IsListed, IsFresh, AreMarked, Reaches, IsFound, IsFinding, AreKnown, GoesBehind}
+use Rattle.sp_deps.specs.inner.Stretches.{Follows, IsHead, AreHeads, IsSkip, AreReady}
+use Rattle.sp_deps.specs.inner.Walk.{reached, IsListed, IsFresh, AreMarked, Reaches, IsFound, IsFinding, AreKnown, StepsBack, GoesBehind}
 use Rattle.sp_deps.specs.declared.earlier.Earlier.{Earlier}
 use Rattle.sp_deps.specs.declared.walk.Walk.{Walk}
-use Rattle.sp_deps.proofs.Lists.{has-push, has-take_more, has-get_or, mark-set, mark_low, distinct-push, short}
+use Rattle.sp_deps.proofs.Lists.{which, eqb-refl, has-push, has-take_more, has-get_or, mark-set, mark_low, distinct-push, short}
 use Rattle.sp_deps.proofs.Bools.{and-parts, and-both, or-cases, or-left, or-right}
 
 -- ---- tests
@@ -179,17 +180,19 @@ module _ {V : Type 0} (m : Meaning V) (l : ℕ) where
   }
 
   -- what stands behind a node is reached: all nodes from which an edge that passes the location leads there, or
-  -- all definitions from which a path does
-  abbrev pub IsBehind : Walk → ℕ → Type 0
-  IsBehind w n = ((from : ℕ) → Passing m l from n → reached w from ≡ true) ⊎ ((from : ℕ) → has l (m.defs from) ≡ true → Path m l from n → reached w from ≡ true)
+  -- the head of its stretch, or all definitions from which a path does
+  abbrev pub IsBehind : List ℕ → Walk → ℕ → Type 0
+  IsBehind heads w n =
+      (((from : ℕ) → Passing m l from n → reached w from ≡ true) ⊎ ((head : ℕ) × IsSkip m l heads n head × (reached w head ≡ true)))
+      ⊎ ((from : ℕ) → has l (m.defs from) ≡ true → Path m l from n → reached w from ≡ true)
 
   -- a walk to a use, that has looked behind the first `at` of the nodes that wait
-  pub record Walks (to : ℕ) (w : Walk) (at : ℕ) : Type 0 where
+  pub record Walks (heads : List ℕ) (to : ℕ) (w : Walk) (at : ℕ) : Type 0 where
     pub listed : IsListed m l w
     pub within : at ≤ length w.waiting.items
     pub sound : (n : ℕ) → reached w n ≡ true → Path m l n to
     pub behind_use : (from : ℕ) → Passing m l from to → reached w from ≡ true
-    pub behind : (n : ℕ) → has n (take at w.waiting.items) ≡ true → IsBehind w n
+    pub behind : (n : ℕ) → has n (take at w.waiting.items) ≡ true → IsBehind heads w n
 
   leads_from : (n k : ℕ) → Passing m l k n → (has k (m.into n) && m.passes k n l) ≡ true
   leads_from n k p = and-both (has k (m.into n)) (m.passes k n l) p.edge p.passes
@@ -203,8 +206,8 @@ module _ {V : Type 0} (m : Meaning V) (l : ℕ) where
       subst (λ j. IsFound m l j found) finding.target
       (subst (λ xs. IsFound m l finding.finding.target xs) finding.is (All-contains (λ f. IsFound m l f.target f.found.items) e.findings.items finding.finding known.each finding.there))
 
-  pub walks_first : (to : ℕ) (w after : Walk) → to < m.nodes → IsFresh m.nodes w → IsListed m l after → Reaches w after (λ k. has k (m.into to) && m.passes k to l) → Walks to after 0
-  walks_first to w after low fresh listed reaches = record {
+  pub walks_first : (heads : List ℕ) (to : ℕ) (w after : Walk) → to < m.nodes → IsFresh m.nodes w → IsListed m l after → Reaches w after (λ k. has k (m.into to) && m.passes k to l) → Walks heads to after 0
+  walks_first heads to w after low fresh listed reaches = record {
     listed = listed;
     within = omega arith;
     sound = λ n h. direct (passing to n low (sym (reaches.marks n ∙ ap (λ b. b || (has n (m.into to) && m.passes n to l)) (fresh.none n)) ∙ h));
@@ -223,8 +226,50 @@ module _ {V : Type 0} (m : Meaning V) (l : ℕ) where
   pub waiting_short : (w : Walk) → IsListed m l w → length w.waiting.items ≤ m.nodes
   waiting_short w listed = short w.waiting.items m.nodes listed.waiting_once (λ n h. waits_low w n listed h)
 
+  -- ---- stretches
+
+  module _ (heads : List ℕ) (long : length heads ≡ m.nodes) (are : AreHeads m heads) where
+    -- a node that isn't its own head follows others
+    follows : (n head : ℕ) → n < m.nodes → IsSkip m l heads n head → Follows m heads n head
+    follows n head low skip = by (are.each n (omega (arith, low, long)))
+      where
+        by : IsHead m heads n (get_or heads n 0) → Follows m heads n head
+        by (inl e) = absurd (skip.apart (sym skip.is ∙ e))
+        by (inr f) = subst (λ h. Follows m heads n h) skip.is f
+
+    -- so does one before it, unless that is the head
+    skip_before : (n head p : ℕ) → IsSkip m l heads n head → Follows m heads n head → has p (m.into n) ≡ true → p ≢ head → IsSkip m l heads p head
+    skip_before n head p skip f edge apart = record { is = (f.each p edge).1; apart = λ e. apart (sym e); free = skip.free }
+
+    free_before : (n head p : ℕ) → n < m.nodes → IsSkip m l heads n head → Follows m heads n head → has p (m.into n) ≡ true → has l (m.defs p) ≡ false
+    free_before n head p low skip f edge = let less = (f.each p edge).0 in skip.free p (omega (arith, less, low)) (f.each p edge).1
+
+    -- a path leads from the head, where one leads to the node before
+    step_below : l < m.locations → (n head first : ℕ) → n < m.nodes → IsSkip m l heads n head → has first (m.into n) ≡ true
+        → (first ≡ head) ⊎ (first ≢ head) → (first ≢ head → Path m l head first) → Path m l head n
+    step_below l_low n head first low skip edge where_first earlier =
+        let f = follows n head low skip in
+        let last : Passing m l first n = record { there = low; edge = edge; passes = f.passes first l edge l_low } in
+        elim where_first [ inl e ↦ subst (λ p. Path m l p n) e (direct last) | inr apart ↦ onward (earlier apart) (free_before n head first low skip f edge) last ]
+
+    path_below : l < m.locations → (bound n head : ℕ) → n < bound → n < m.nodes → IsSkip m l heads n head → Path m l head n
+    path_below l_low zero n head less low skip = absurd (omega arith)
+    path_below l_low (suc bound) n head less low skip =
+        let f = follows n head low skip in
+        let earlier = (f.each f.first f.edge).0 in
+        step_below l_low n head f.first low skip f.edge (which f.first head)
+        (λ apart. path_below l_low bound f.first head (omega (arith, earlier, less)) (omega (arith, earlier, low)) (skip_before n head f.first skip f f.edge apart))
+
+    pub path_from_head : l < m.locations → (n head : ℕ) → n < m.nodes → IsSkip m l heads n head → Path m l head n
+    path_from_head l_low n head low skip = path_below l_low (n + 1) n head (omega arith) low skip
+
+  -- what a location passes makes a step
+  pub skip_ready : (heads : List ℕ) (marks : List Bool) (n head : ℕ) → get_or heads n 0 ≡ head → head ≢ n → get_or marks head false ≡ true
+      → ((k : ℕ) → k < m.nodes → get_or marks (get_or heads k 0) false ≡ true → has l (m.defs k) ≡ false) → IsSkip m l heads n head
+  skip_ready heads marks n head is apart passed free = record { is = is; apart = apart; free = λ k low same. free k low (ap (λ h. get_or marks h false) same ∙ passed) }
+
   -- one node more, where what an earlier walk found is all there is to find
-  module _ (e : Earlier) (known : AreKnown m l e) (to : ℕ) (w after : Walk) (at n d : ℕ) (low : at < length w.waiting.items) (is : n ≡ get_or w.waiting.items at d) (walks : Walks to w at) where
+  module _ (heads : List ℕ) (long : length heads ≡ m.nodes) (are : AreHeads m heads) (l_low : l < m.locations) (e : Earlier) (known : AreKnown m l e) (to : ℕ) (w after : Walk) (at n d : ℕ) (low : at < length w.waiting.items) (is : n ≡ get_or w.waiting.items at d) (walks : Walks heads to w at) where
     there : has n w.waiting.items ≡ true
     there = ap (λ j. has j w.waiting.items) is ∙ has-get_or w.waiting.items at d low
 
@@ -232,7 +277,7 @@ module _ {V : Type 0} (m : Meaning V) (l : ℕ) where
     marked_free = waits w n walks.listed there
 
     -- what is reached: by which test, that a path leads from there, and that nothing behind the node is missing
-    module _ (test : ℕ → Bool) (reaches : Reaches w after test) (paths : (k : ℕ) → test k ≡ true → Path m l k to) (behind_n : IsBehind after n) (listed : IsListed m l after) where
+    module _ (test : ℕ → Bool) (reaches : Reaches w after test) (paths : (k : ℕ) → test k ≡ true → Path m l k to) (behind_n : IsBehind heads after n) (listed : IsListed m l after) where
       still : (k : ℕ) → reached w k ≡ true → reached after k ≡ true
       still k h = reaches.marks k ∙ or-left (reached w k) (test k) h
 
@@ -245,15 +290,16 @@ module _ {V : Type 0} (m : Meaning V) (l : ℕ) where
           ap (λ xs. has j (take (at + 1) xs)) reaches.waiting ∙ ap (λ xs. has j xs) (take-append-le (at + 1) w.waiting.items reaches.rest (omega arith))
           ∙ has-take_more j at d w.waiting.items low ∙ ap (λ k. has j (take at w.waiting.items) || eqb j k) (sym is)
 
-      behind_still : (j : ℕ) → IsBehind w j → IsBehind after j
-      behind_still j (inl f) = inl (λ k p. still k (f k p))
+      behind_still : (j : ℕ) → IsBehind heads w j → IsBehind heads after j
+      behind_still j (inl (inl f)) = inl (inl (λ k p. still k (f k p)))
+      behind_still j (inl (inr s)) = inl (inr (s.0, s.1, still s.0 s.2))
       behind_still j (inr f) = inr (λ k defined path. still k (f k defined path))
 
-      behind : (j : ℕ) → (has j (take at w.waiting.items) ≡ true) ⊎ (eqb j n ≡ true) → IsBehind after j
+      behind : (j : ℕ) → (has j (take at w.waiting.items) ≡ true) ⊎ (eqb j n ≡ true) → IsBehind heads after j
       behind j (inl h) = behind_still j (walks.behind j h)
-      behind j (inr e) = subst (λ i. IsBehind after i) (sym (eqb-true j n e)) behind_n
+      behind j (inr e) = subst (λ i. IsBehind heads after i) (sym (eqb-true j n e)) behind_n
 
-      walks_by : Walks to after (at + 1)
+      walks_by : Walks heads to after (at + 1)
       walks_by = record {
         listed = listed;
         within = omega (arith, ap length reaches.waiting, length-append w.waiting.items reaches.rest);
@@ -262,12 +308,21 @@ module _ {V : Type 0} (m : Meaning V) (l : ℕ) where
         behind = λ j h. behind j (or-cases (has j (take at w.waiting.items)) (eqb j n) (sym (front j) ∙ h));
       }
 
-    by_edges : IsListed m l after → Reaches w after (λ k. has k (m.into n) && m.passes k n l) → Walks to after (at + 1)
-    by_edges listed reaches =
-        walks_by (λ k. has k (m.into n) && m.passes k n l) reaches (λ k h. prepend (passing n k (waits_low w n walks.listed there) h) marked_free.1 (walks.sound n marked_free.0))
-        (inl (λ k p. reaches.marks k ∙ or-right (reached w k) (has k (m.into n) && m.passes k n l) (leads_from n k p))) listed
+    n_low : n < m.nodes
+    n_low = waits_low w n walks.listed there
 
-    by_finding : IsListed m l after → (found : List ℕ) → IsFinding e n found → Reaches w after (λ k. has k found) → Walks to after (at + 1)
+    by_edges : IsListed m l after → Reaches w after (λ k. has k (m.into n) && m.passes k n l) → Walks heads to after (at + 1)
+    by_edges listed reaches =
+        walks_by (λ k. has k (m.into n) && m.passes k n l) reaches (λ k h. prepend (passing n k n_low h) marked_free.1 (walks.sound n marked_free.0))
+        (inl (inl (λ k p. reaches.marks k ∙ or-right (reached w k) (has k (m.into n) && m.passes k n l) (leads_from n k p)))) listed
+
+    by_head : IsListed m l after → (head : ℕ) → IsSkip m l heads n head → Reaches w after (λ k. eqb k head) → Walks heads to after (at + 1)
+    by_head listed head skip reaches =
+        walks_by (λ k. eqb k head) reaches
+        (λ k h. subst (λ j. Path m l j to) (sym (eqb-true k head h)) (join_paths (path_from_head heads long are l_low n head n_low skip) marked_free.1 (walks.sound n marked_free.0)))
+        (inl (inr (head, skip, reaches.marks head ∙ or-right (reached w head) (eqb head head) (eqb-refl head)))) listed
+
+    by_finding : IsListed m l after → (found : List ℕ) → IsFinding e n found → Reaches w after (λ k. has k found) → Walks heads to after (at + 1)
     by_finding listed found finding reaches =
         walks_by (λ k. has k found) reaches (λ k h. join_paths ((is_found.exact k).0 h).1 marked_free.1 (walks.sound n marked_free.0))
         (inr (λ k defined path. reaches.marks k ∙ or-right (reached w k) (has k found) ((is_found.exact k).1 (defined, path)))) listed
@@ -275,20 +330,36 @@ module _ {V : Type 0} (m : Meaning V) (l : ℕ) where
         is_found : IsFound m l n found
         is_found = finding_found e n found known finding
 
-    pub walks_more : IsListed m l after → GoesBehind m l e n w after → Walks to after (at + 1)
-    walks_more listed (inl reaches) = by_edges listed reaches
+    pub walks_more : IsListed m l after → GoesBehind m l heads e n w after → Walks heads to after (at + 1)
+    walks_more listed (inl (inl reaches)) = by_edges listed reaches
+    walks_more listed (inl (inr goes)) = by_head listed goes.0 goes.1 goes.2
     walks_more listed (inr goes) = by_finding listed goes.0 goes.1 goes.2
 
   -- behind all that wait, the definitions are found
-  module _ (to : ℕ) (w : Walk) (at : ℕ) (walks : Walks to w at) (all : length w.waiting.items ≤ at) where
+  module _ (heads : List ℕ) (long : length heads ≡ m.nodes) (are : AreHeads m heads) (to : ℕ) (w : Walk) (at : ℕ) (walks : Walks heads to w at) (all : length w.waiting.items ≤ at) where
     front_all : take at w.waiting.items ≡ w.waiting.items
     front_all = take_all at w.waiting.items all
 
-    complete : (from : ℕ) {n : ℕ} → has l (m.defs from) ≡ true → IsBehind w n → Path m l from n → reached w from ≡ true
+    -- all that is reached and doesn't define the location was looked behind
+    looked : (n : ℕ) → reached w n ≡ true → has l (m.defs n) ≡ false → IsBehind heads w n
+    looked n marked free =
+        walks.behind n (ap (λ xs. has n xs) front_all ∙ walks.listed.waiting n ∙ and-both (reached w n) (not (has l (m.defs n))) marked (ap not free))
+
+    -- before a node from which the walk went to a head comes that head, or a node from which it could go there
+    before_skip : (n head mid : ℕ) → IsSkip m l heads n head → reached w head ≡ true → Passing m l mid n → has l (m.defs mid) ≡ false → IsBehind heads w mid
+    before_skip n head mid skip marked p free = by (which mid head)
+      where
+        by : (mid ≡ head) ⊎ (mid ≢ head) → IsBehind heads w mid
+        by (inl e) = looked mid (ap (λ k. reached w k) e ∙ marked) free
+        by (inr apart) = inl (inr (head, skip_before heads long are n head mid skip (follows heads long are n head p.there skip) p.edge apart, marked))
+
+    complete : (from : ℕ) {n : ℕ} → has l (m.defs from) ≡ true → IsBehind heads w n → Path m l from n → reached w from ≡ true
     complete from defined (inr all_of) path = all_of from defined path
-    complete from defined (inl edges) (direct p) = edges from p
-    complete from defined (inl edges) (onward {mid} q free p) =
-        complete from defined (walks.behind mid (ap (λ xs. has mid xs) front_all ∙ walks.listed.waiting mid ∙ and-both (reached w mid) (not (has l (m.defs mid))) (edges mid p) (ap not free))) q
+    complete from defined (inl (inl edges)) (direct p) = edges from p
+    complete from defined (inl (inl edges)) (onward {mid} q free p) = complete from defined (looked mid (edges mid p) free) q
+    complete from {n} defined (inl (inr s)) (direct p) =
+        absurd (false≢true (sym (free_before heads long are n s.0 from p.there s.1 (follows heads long are n s.0 p.there s.1) p.edge) ∙ defined))
+    complete from {n} defined (inl (inr s)) (onward {mid} q free p) = complete from defined (before_skip n s.0 mid s.1 s.2 p free) q
 
     pub found_all : IsFound m l to w.found.items
     found_all = record {
@@ -300,4 +371,4 @@ module _ {V : Type 0} (m : Meaning V) (l : ℕ) where
         to_path from h = let parts = and-parts (reached w from) (has l (m.defs from)) (sym (walks.listed.found from) ∙ h) in (parts.1, walks.sound from parts.0)
 
         from_path : (from : ℕ) → (has l (m.defs from) ≡ true) × Path m l from to → has from w.found.items ≡ true
-        from_path from h = walks.listed.found from ∙ and-both (reached w from) (has l (m.defs from)) (complete from h.0 (inl walks.behind_use) h.1) h.0
+        from_path from h = walks.listed.found from ∙ and-both (reached w from) (has l (m.defs from)) (complete from h.0 (inl (inl walks.behind_use)) h.1) h.0

@@ -1,4 +1,5 @@
 pub mod Rows
+pub mod Open
 pub mod Answer
 pub mod Cause
 pub mod inner

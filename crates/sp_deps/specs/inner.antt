@@ -2,5 +2,6 @@
 pub mod Grouped
 pub mod Kept
 pub mod Users
+pub mod Stretches
 pub mod Walk
 pub mod Progress

@@ -21,6 +21,9 @@
 //! stops, and that node is *found*; behind another it goes on. At a node whose own use was walked to before, it takes
 //! over what that walk found. Work and marks are only of what a walk reaches.
 //!
+//! Where every location passes into a node, and the caller says so ([`dependencies_with`]), nodes join in *stretches*
+//! that a path enters by the first alone (`stretches`). A walk crosses one that doesn't touch its location in one step.
+//!
 //! [`Deps`] comes out, which tells for each node the pairs of location and target that *leave* it, ascending. The
 //! layer above uses the contract of [`dependencies`]: `AreDependencies` of `specs.Answer`, exactly the dependencies;
 //! and `TooMany` exactly where there are more than [`MOST_DEPENDENCIES`].
@@ -29,9 +32,10 @@
 mod collect;
 mod earlier;
 mod groups;
+mod stretches;
 mod triples;
 mod users;
 mod walk;
 
-pub use collect::dependencies;
+pub use collect::{dependencies, dependencies_with};
 pub use triples::{DepError, Deps, MOST_DEPENDENCIES};

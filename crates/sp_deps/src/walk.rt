@@ -1,9 +1,11 @@
 //! Walks backward from a use of a location to its definitions.
 ghost use Rattle.std.specs.Prelude.{◌≡◌, ◌<◌, ◌&&◌, ℕ, not, false, nat_eq, length, slice_index_or, vec_len, IfOk, OnOk};
 ghost use Rattle.sp_lattice.specs.System.{AllBelow, has};
-ghost use Rattle.sp_deps.specs.inner.Walk.{reached, IsListed, IsFresh, AreMarked, Reaches, IsFound, AreKnown, GoesBehind};
+ghost use Rattle.sp_deps.specs.inner.Stretches.{AreReady};
+ghost use Rattle.sp_deps.specs.inner.Walk.{reached, IsListed, IsFresh, AreMarked, Reaches, IsFound, AreKnown, StepsBack, GoesBehind};
 
 use crate::earlier::Earlier;
+use crate::stretches::Stretches;
 use sp_lattice::System;
 use std::alloc::{AllocError, Global};
 use std::mem;
@@ -43,6 +45,7 @@ pub(crate) fn walk_back<S: System>(
     system: &S,
     walk: &mut Walk,
     earlier: &Earlier,
+    stretches: &Stretches,
     location: u32,
     to: u32,
 ) -> Result<(), AllocError>
@@ -50,6 +53,7 @@ pub(crate) fn walk_back<S: System>(
     requires to { to < (S.meaning system.now).nodes }
     requires fresh { IsFresh (S.meaning system.now).nodes walk.old }
     requires known { AreKnown (S.meaning system.now) location earlier.now }
+    requires ready { AreReady (S.meaning system.now) location stretches.now }
     ensures listed { OnOk result (IsListed (S.meaning system.now) location walk.new) }
     ensures found { OnOk result (IsFound (S.meaning system.now) location to walk.new.found.items) }
 {
@@ -58,7 +62,15 @@ pub(crate) fn walk_back<S: System>(
     let mut at = 0;
     'waiting: while at < walk.waiting.len() {
         let node = walk.waiting[at];
-        go_behind(system, walk, earlier, &mut taken_over, location, node)?;
+        go_behind(
+            system,
+            walk,
+            earlier,
+            stretches,
+            &mut taken_over,
+            location,
+            node,
+        )?;
         at += 1;
     }
     Ok(())
@@ -69,6 +81,7 @@ fn go_behind<S: System>(
     system: &S,
     walk: &mut Walk,
     earlier: &Earlier,
+    stretches: &Stretches,
     taken_over: &mut usize,
     location: u32,
     node: u32,
@@ -76,9 +89,11 @@ fn go_behind<S: System>(
     requires location { location < (S.meaning system.now).locations }
     requires node { node < (S.meaning system.now).nodes }
     requires known { AreKnown (S.meaning system.now) location earlier.now }
+    requires ready { AreReady (S.meaning system.now) location stretches.now }
     requires listed { IsListed (S.meaning system.now) location walk.old }
     ensures listed { OnOk result (IsListed (S.meaning system.now) location walk.new) }
-    ensures goes { OnOk result (GoesBehind (S.meaning system.now) location earlier.now node walk.old walk.new) }
+    ensures goes { OnOk result (GoesBehind (S.meaning system.now) location stretches.now.heads.items
+        earlier.now node walk.old walk.new) }
 {
     match earlier.of(node) {
         Some(found) => {
@@ -89,6 +104,34 @@ fn go_behind<S: System>(
             }
             *taken_over = taken_over.saturating_add(found.len());
             reach_all(system, walk, location, found)?;
+            Ok(())
+        }
+        None => {
+            step_back(system, walk, stretches, location, node)?;
+            Ok(())
+        }
+    }
+}
+
+/// Reaches the head of a node's stretch, where the location passes that, else what stands behind the node.
+fn step_back<S: System>(
+    system: &S,
+    walk: &mut Walk,
+    stretches: &Stretches,
+    location: u32,
+    node: u32,
+) -> Result<(), AllocError>
+    requires location { location < (S.meaning system.now).locations }
+    requires node { node < (S.meaning system.now).nodes }
+    requires ready { AreReady (S.meaning system.now) location stretches.now }
+    requires listed { IsListed (S.meaning system.now) location walk.old }
+    ensures listed { OnOk result (IsListed (S.meaning system.now) location walk.new) }
+    ensures steps { OnOk result (StepsBack (S.meaning system.now) location
+        stretches.now.heads.items node walk.old walk.new) }
+{
+    match stretches.head(node) {
+        Some(head) => {
+            reach(system, walk, location, head)?;
             Ok(())
         }
         None => {

@@ -1,16 +1,18 @@
 -- The environment of a unit: its scopes, its names with linkage, and its tables (C90 6.1.2.1 to 6.1.2.3).
-use Rattle.std.specs.Prelude.{ℕ, zero, suc, ℤ, Bool, false, ◌==◌, List, [], ◌∷◌, ◌++◌, Option, Some, None, if◌then◌else◌, nat_eq, slice_set}
+use Rattle.std.specs.Prelude.{ℕ, zero, suc, ℤ, Bool, false, ◌==◌, List, [], ◌∷◌, ◌++◌, Option, Some, None, if◌then◌else◌, nat_eq, slice_set, unwrap_or}
 use Rattle.indexmap.specs.IndexMap.{insert_entry}
 use Rattle.sp_tree.specs.declared.fault.FaultKind.TheVariants.{F9}
 use Rattle.sp_tree.specs.declared.fault.Place.{Place}
 use Rattle.sp_types.specs.Types.{CType, Signature, Struct}
 use Rattle.sp_types.specs.Programs.{Object, Function}
 use Rattle.sp_types.specs.declared.program.Linkage.{Linkage}
+use Rattle.sp_types.specs.declared.program.Linkage.TheVariants.{External}
 use Rattle.sp_operands.specs.Answers.{Checked, accepted, refused}
 use Rattle.sp_scopes.specs.declared.meaning.Tag.{Tag}
 use Rattle.sp_scopes.specs.Meanings.{Meaning, object, function}
 use Rattle.sp_scopes.specs.Scopes.{Scopes, file_scope, entry}
 use Rattle.sp_scopes.specs.Scopes as scopes
+use Rattle.sp_units.specs.Units.{Typing}
 use Rattle.sp_env.specs.declared.env.Entity.{Entity}
 
 -- what the unit has declared, in the order of the text: a number names an entry
@@ -19,15 +21,18 @@ pub record Tables : Type 0 where
   pub objects : List Object
   pub functions : List Function
   pub constants : List ℤ
+  pub typings : List Typing
 
--- `links` has each name with linkage that is declared by now, whether it is visible here or not
+-- `links` has each name with linkage that is declared by now, whether it is visible here or not;
+-- `depths` tells of complete structs how many structs and arrays lie inside one another in them
 pub record Env : Type 0 where
   pub scopes : Scopes
   pub links : List (ℕ × Entity)
+  pub depths : List (ℕ × ℕ)
   pub tables : Tables
 
 abbrev pub unit_start : Env
-unit_start = record { scopes = file_scope; links = []; tables = record { structs = []; objects = []; functions = []; constants = [] } }
+unit_start = record { scopes = file_scope; links = []; depths = []; tables = record { structs = []; objects = []; functions = []; constants = []; typings = [] } }
 
 -- ---- scopes
 
@@ -60,6 +65,14 @@ linked env n = entry env.links n
 
 abbrev pub with_link : Env → ℕ → Entity → Env
 with_link env n e = record env { links = insert_entry nat_eq env.links n e }
+
+-- ---- how deep structs are
+
+abbrev pub struct_depth : Env → ℕ → ℕ
+struct_depth env k = unwrap_or (entry env.depths k) 0
+
+abbrev pub with_depth : Env → ℕ → ℕ → Env
+with_depth env k d = record env { depths = insert_entry nat_eq env.depths k d }
 
 -- ---- tables: a number that names no entry changes nothing
 
@@ -111,3 +124,15 @@ with_function_type env k s = record env { tables = record env.tables { functions
 
 abbrev pub with_constant : Env → ℤ → Env
 with_constant env z = record env { tables = record env.tables { constants = env.tables.constants ++ z ∷ [] } }
+
+abbrev pub with_typings : Env → List Typing → Env
+with_typings env ts = record env { tables = record env.tables { typings = ts } }
+
+-- those of names of external linkage are kept
+abbrev pub typings_with : List Typing → Linkage → Typing → List Typing
+typings_with ts External t = ts ++ t ∷ []
+typings_with ts l t = ts
+
+-- a name of this linkage has this type behind the declarator at a place
+abbrev pub with_typing : Env → Linkage → ℕ → CType → Place → Env
+with_typing env l n t p = with_typings env (typings_with env.tables.typings l (record { name = n; of = t; place = p }))

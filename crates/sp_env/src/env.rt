@@ -38,6 +38,9 @@ ghost use Rattle.sp_env.specs.Env.{
   set_function,
   with_function_type,
   with_constant,
+  struct_depth,
+  with_depth,
+  with_typing,
   changed,
   typed_by,
 };
@@ -49,6 +52,7 @@ use sp_operands::{CheckError, fault};
 use sp_scopes::{Meaning, Scopes, Tag};
 use sp_tree::{FaultKind, Place};
 use sp_types::{CType, FunctionDef, Linkage, ObjectDef, Signature, StructType};
+use sp_units::Typing;
 use std::alloc::{AllocError, Global};
 
 /// What a name with linkage stands for in the whole unit (C90 6.1.2.2).
@@ -65,6 +69,7 @@ pub enum Entity {
 pub struct Env {
     scopes: Scopes,
     links: IndexMap<u32, Entity>,
+    depths: IndexMap<u32, u32>,
     tables: UnitTables,
 }
 
@@ -108,11 +113,13 @@ impl Env {
         Env {
             scopes: Scopes::new(alloc),
             links: IndexMap::new(alloc),
+            depths: IndexMap::new(alloc),
             tables: UnitTables {
                 structs: Vec::new(alloc),
                 objects: Vec::new(alloc),
                 functions: Vec::new(alloc),
                 constants: Vec::new(alloc),
+                typings: Vec::new(alloc),
             },
         }
     }
@@ -198,6 +205,23 @@ impl Env {
         ensures err { OnErr result (env_of self.new ≡ env_of self.old) }
     {
         self.links.insert(name, entity)?;
+        Ok(())
+    }
+
+    /// How many structs, unions and arrays lie inside one another in a struct; 0 where it isn't
+    /// complete.
+    pub fn struct_depth(&self, number: u32) -> u32
+        ensures { result ≡ struct_depth (env_of self.now) number }
+    {
+        self.depths.get(&number).copied().unwrap_or(0)
+    }
+
+    /// Tells how deep a struct is.
+    pub fn set_depth(&mut self, number: u32, depth: u32) -> Result<(), AllocError>
+        ensures ok { OnOk result (env_of self.new ≡ with_depth (env_of self.old) number depth) }
+        ensures err { OnErr result (env_of self.new ≡ env_of self.old) }
+    {
+        self.depths.insert(number, depth)?;
         Ok(())
     }
 
@@ -330,6 +354,27 @@ impl Env {
     {
         self.tables.constants.push(value)?;
         Ok(())
+    }
+
+    /// Tells the type that a name has behind a declarator, where it has external linkage.
+    pub fn add_typing(
+        &mut self,
+        linkage: Linkage,
+        name: u32,
+        of: CType,
+        place: Place,
+    ) -> Result<(), AllocError>
+        ensures ok { OnOk result (env_of self.new ≡
+            with_typing (env_of self.old) linkage name (type_of of) place) }
+        ensures err { OnErr result (env_of self.new ≡ env_of self.old) }
+    {
+        match linkage {
+            Linkage::External => {
+                self.tables.typings.push(Typing { name, of, place })?;
+                Ok(())
+            }
+            Linkage::Internal | Linkage::Inner => Ok(()),
+        }
     }
 
     /// What is declared by now.

@@ -1,6 +1,7 @@
 //! The tables of a unit.
 
 use sp_types::{FunctionDef, ObjectDef, StructType};
+use sp_units::Typing;
 
 /// What a unit declares, in the order of its text. Structs, objects and functions are named by
 /// their numbers here.
@@ -11,4 +12,6 @@ pub struct UnitTables {
     pub functions: Vec<FunctionDef>,
     /// The values of the constants of the text, of `sizeof` and of array lengths.
     pub constants: Vec<i128>,
+    /// The types of external names, each with the declarator that gives it.
+    pub typings: Vec<Typing>,
 }

@@ -26,7 +26,7 @@ use Rattle.sp_names.specs.Literals.{number_checked, character_checked, text_chec
 use Rattle.sp_names.specs.Names.{name_checked, implicit_name}
 use Rattle.sp_type_rules.specs.Tags.{named_checked, struct_referred, enum_referred}
 use Rattle.sp_type_rules.specs.Words.{words_type}
-use Rattle.sp_type_rules.specs.Derivations.{Derivation, to_pointer, to_array, to_function, derived}
+use Rattle.sp_type_rules.specs.Derivations.{Derivation, to_pointer, to_array, to_function, made}
 use Rattle.sp_expr_check.specs.Parameters.{params_of, is_alone, is_alone_in, list_told, param_told}
 use Rattle.sp_expr_check.specs.Specifiers.{stays, names_type, struct_opened, member_added, enumerator_told}
 
@@ -200,7 +200,7 @@ abbrev mutual
   -- 6.5.4: the type of a declarator's name; the base is what its specifiers name
   pub declared_type : List (List ℕ) → Env → CType → Declarator → Checked (CType × Env)
   declared_type names env base (declarator f p) =
-      and_then (derivations_checked names env p f) (λ x. stays x.1 (derived x.1.tables.structs x.0 base))
+      and_then (derivations_checked names env p f) (λ x. stays x.1 (made x.1.tables.structs p x.0 base))
 
   -- what a declarator derives, from the name outwards, so in the order of its lengths
   pub steps_checked : List (List ℕ) → Env → Declarator → Checked (List Derivation × Env)

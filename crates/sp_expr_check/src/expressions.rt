@@ -84,9 +84,7 @@ use sp_syntax::{
     Specifier, StructSpec, TypeName,
 };
 use sp_tree::{FaultKind, Names, Place};
-use sp_type_rules::{
-    Derivation, derived, enum_referred, named_checked, struct_referred, words_type,
-};
+use sp_type_rules::{Derivation, enum_referred, made, named_checked, struct_referred, words_type};
 use sp_types::{CType, IntKind, Signature, TypedExpr};
 use std::alloc::Global;
 
@@ -381,7 +379,7 @@ pub(crate) fn declared_type(
         (env_of env.new) result }
 {
     let steps = derivations(alloc, &declarator.form, env, names, declarator.place)?;
-    derived(alloc, env.structs(), steps, base)
+    made(alloc, env.structs(), declarator.place, steps, base)
 }
 
 /// What a declarator derives, from the name outwards.

@@ -11,7 +11,7 @@ use Rattle.sp_operands.specs.Answers.{Checked, accepted, refused, and_then, wher
 use Rattle.sp_operands.specs.Conversions.{is_void, is_floating, is_complete}
 use Rattle.sp_rules.specs.Rules.{function_type}
 use Rattle.sp_env.specs.Env.{Env, entered}
-use Rattle.sp_type_rules.specs.Derivations.{Derivation, to_pointer, to_function, derived}
+use Rattle.sp_type_rules.specs.Derivations.{Derivation, to_pointer, to_function, made}
 use Rattle.sp_member_rules.specs.Parameters.{declared_name, has_parameter_storage, is_lone_void, adjusted, reserved, reserved_number, named_parameter}
 use Rattle.sp_expr_check.specs.Expressions.{specifiers_checked, declared_type, params_checked}
 use Rattle.sp_expr_check.specs.Parameters.{is_alone, told_types, list_told}
@@ -116,6 +116,6 @@ abbrev pub own_declared : List (List ℕ) → Env → CType → Declarator → C
 own_declared names env base d =
     where_given (declared_name d) F14 (declarator_place d) (λ n.
     and_then (own_steps names env (declarator_place d) d) (λ x.
-    and_then (derived x.1.tables.structs x.0.steps base) (λ t.
+    and_then (made x.1.tables.structs (declarator_place d) x.0.steps base) (λ t.
     and_then (own_told x.1.tables.structs (declarator_place d) n x.0.formals t) (λ o.
     accepted (o, x.1)))))

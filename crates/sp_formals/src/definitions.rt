@@ -14,7 +14,7 @@ use sp_member_rules::declared_name;
 use sp_operands::{CheckError, fault, is_complete, is_void};
 use sp_syntax::Declarator;
 use sp_tree::{FaultKind, Names, Place};
-use sp_type_rules::derived;
+use sp_type_rules::made;
 use sp_types::{CType, Signature, StructType};
 use std::alloc::Global;
 
@@ -99,6 +99,6 @@ pub fn check_own_declarator(
         return fault(FaultKind::F14, at);
     };
     let own = own_steps(alloc, declarator, env, names, at)?;
-    let of = derived(alloc, env.structs(), own.steps, base)?;
+    let of = made(alloc, env.structs(), at, own.steps, base)?;
     own_told(env.structs(), at, name, own.formals, of)
 }

@@ -1,3 +1,5 @@
 pub mod Links
 pub mod Numbered
 pub mod Own
+pub mod OwnFunctions
+pub mod Sources

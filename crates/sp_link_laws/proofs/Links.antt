@@ -9,7 +9,13 @@ use Rattle.sp_conflicts.specs.Declarations.{is_external}
 use Rattle.sp_joining.specs.Entries.{ObjectEntry, FunctionEntry, Joined, linked}
 use Rattle.sp_joining.specs.Objects.{object_met, object_apart, object_linked, object_joined}
 use Rattle.sp_joining.specs.Functions.{function_met, function_apart, function_linked, function_joined}
-use Rattle.sp_link_laws.specs.Names.{IsObjectOf, IsFunctionOf}
+
+-- the program's object of this name has this number; or a function has the name
+abbrev pub IsObjectOf : Joined → ℕ → ℕ → Type 0
+IsObjectOf j name k = (entry j.links name ≡ Some (Object k)) ⊎ ((f : ℕ) × (entry j.links name ≡ Some (Function f)))
+
+abbrev pub IsFunctionOf : Joined → ℕ → ℕ → Type 0
+IsFunctionOf j name k = (entry j.links name ≡ Some (Function k)) ⊎ ((o : ℕ) × (entry j.links name ≡ Some (Object o)))
 
 -- ---- maps
 

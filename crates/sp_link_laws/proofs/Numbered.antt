@@ -1,16 +1,15 @@
 -- The numbers that units have in their program are those of the links.
-use Rattle.std.proofs.Common.{◌≡◌, ℕ, zero, suc, ◌+◌, Bool, true, false, length, List, [], ◌∷◌, ◌++◌, Option, Some, None, refl, ap, sym, subst, ◌∙◌, true≢false, arith}
+use Rattle.std.proofs.Common.{◌≡◌, ℕ, zero, suc, ◌+◌, Bool, true, false, length, List, [], ◌∷◌, ◌++◌, Some, refl, sym, subst, ◌∙◌, true≢false, arith}
 use Rattle.std.specs.Prelude.{slice_get, slice_index_or, ⊤}
 use Rattle.sp_types.specs.Programs.{Object, Function}
-use Rattle.sp_env.specs.declared.env.Entity.{Entity}
 use Rattle.sp_units.specs.Units.{CheckedUnit}
 use Rattle.sp_conflicts.specs.Declarations.{is_external}
 use Rattle.sp_joining.specs.Entries.{Joined, Numbers, nothing_joined}
 use Rattle.sp_joining.specs.Objects.{formals_of, is_dropped, object_entry, object_joined, next_object, objects_joined}
 use Rattle.sp_joining.specs.Functions.{function_entry, function_joined, next_function, functions_joined}
 use Rattle.sp_joining.specs.Units.{unit_joined, next_unit, units_joined}
-use Rattle.sp_link_laws.specs.Names.{IsObjectOf, IsFunctionOf, NamesHaveOneObject, NamesHaveOneFunction}
-use Rattle.sp_link_laws.proofs.Links.{Extends, object_later, function_later, object_extends, object_named, function_extends, function_named}
+use Rattle.sp_link_laws.specs.Names.{all_joined}
+use Rattle.sp_link_laws.proofs.Links.{IsObjectOf, IsFunctionOf, Extends, object_later, function_later, object_extends, object_named, function_extends, function_named}
 
 -- ---- lists
 
@@ -88,7 +87,7 @@ module _ (ss : List ℕ) (u : ℕ) where
   functions_extend [] y n r h = h
   functions_extend (f ∷ fs) y n r h = functions_extend fs (next_function ss u y f) n r (function_extends y.1 (function_entry ss u f) n r h)
 
-  functions_keep : (fs : List Function) (y : List ℕ × Joined) (i k : ℕ) → slice_get y.0 i ≡ Some k → slice_get (functions_joined ss u y fs).0 i ≡ Some k
+  pub functions_keep : (fs : List Function) (y : List ℕ × Joined) (i k : ℕ) → slice_get y.0 i ≡ Some k → slice_get (functions_joined ss u y fs).0 i ≡ Some k
   functions_keep [] y i k h = h
   functions_keep (f ∷ fs) y i k h = functions_keep fs (next_function ss u y f) i k (pushed_before y.0 (function_joined y.1 (function_entry ss u f)).0 k i h)
 
@@ -172,12 +171,16 @@ ObjectsNumbered u x m j = (k : ℕ) (o : Object) (n : ℕ) → slice_get x.objec
 abbrev FunctionsNumbered : ℕ → CheckedUnit → Numbers → Joined → Type 0
 FunctionsNumbered u x m j = (k : ℕ) (f : Function) (n : ℕ) → slice_get x.functions k ≡ Some f → slice_get m.functions k ≡ Some n → is_external f.linkage ≡ true → IsFunctionOf j f.name n
 
-pub names_have_one_object : NamesHaveOneObject
-names_have_one_object sss xs u x m k o n at numbers e number t d =
+pub object_or_function : (sss : List (List ℕ)) (xs : List CheckedUnit) (u : ℕ) (x : CheckedUnit) (m : Numbers) (k : ℕ) (o : Object) (n : ℕ)
+    → slice_get xs u ≡ Some x → slice_get (all_joined sss xs).0 u ≡ Some m → slice_get x.objects k ≡ Some o → slice_get m.objects k ≡ Some n
+    → is_external o.linkage ≡ true → is_dropped (formals_of x.functions) k o.storage ≡ false → IsObjectOf (all_joined sss xs).1 o.name n
+object_or_function sss xs u x m k o n at numbers e number t d =
     at_each sss ObjectsNumbered Extends (λ j. ⊤) (λ ss u j x g. tt) (λ ss u j x g. unit_objects ss u j x) (λ u x m j i y p. λ k o n e v t d. object_later j i o.name n y (p k o n e v t d)) (units_extend sss)
     xs ([], nothing_joined) tt u x m u (omega arith) at numbers k o n e number t d
 
-pub names_have_one_function : NamesHaveOneFunction
-names_have_one_function sss xs u x m k f n at numbers e number t =
+pub function_or_object : (sss : List (List ℕ)) (xs : List CheckedUnit) (u : ℕ) (x : CheckedUnit) (m : Numbers) (k : ℕ) (f : Function) (n : ℕ)
+    → slice_get xs u ≡ Some x → slice_get (all_joined sss xs).0 u ≡ Some m → slice_get x.functions k ≡ Some f → slice_get m.functions k ≡ Some n
+    → is_external f.linkage ≡ true → IsFunctionOf (all_joined sss xs).1 f.name n
+function_or_object sss xs u x m k f n at numbers e number t =
     at_each sss FunctionsNumbered Extends (λ j. ⊤) (λ ss u j x g. tt) (λ ss u j x g. unit_functions ss u j x) (λ u x m j i y p. λ k f n e v t. function_later j i f.name n y (p k f n e v t)) (units_extend sss)
     xs ([], nothing_joined) tt u x m u (omega arith) at numbers k f n e number t

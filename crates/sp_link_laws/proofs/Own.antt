@@ -1,5 +1,5 @@
 -- An object whose name isn't external has an entry of its own.
-use Rattle.std.proofs.Common.{◌≡◌, ◌≢◌, ℕ, zero, suc, ◌+◌, ◌<◌, Bool, true, false, cond, if◌then◌else◌, nat_eq, length, List, [], ◌∷◌, ◌++◌, Option, Some, None, ◌⊎◌, inl, inr, ⊎_elim, refl, ap, sym, subst, ◌∙◌, true≢false, arith}
+use Rattle.std.proofs.Common.{◌≡◌, ◌≢◌, ℕ, zero, suc, ◌+◌, ◌<◌, Bool, true, false, cond, if◌then◌else◌, nat_eq, length, List, [], ◌∷◌, ◌++◌, Option, Some, None, ◌⊎◌, inl, inr, refl, ap, sym, subst, ◌∙◌, true≢false, arith}
 use Rattle.std.specs.Prelude.{slice_get, slice_set, slice_index_or}
 use Rattle.indexmap.specs.IndexMap.{insert_entry}
 use Rattle.sp_types.specs.Programs.{Object as TypedObject, Function as TypedFunction}
@@ -17,19 +17,19 @@ use Rattle.sp_link_laws.proofs.Numbered.{pushed_before, pushed_last, some_is, ob
 
 -- ---- lists and maps
 
-get_below : {A : Type 0} (xs : List A) (i : ℕ) (x : A) → slice_get xs i ≡ Some x → i < length xs
+pub get_below : {A : Type 0} (xs : List A) (i : ℕ) (x : A) → slice_get xs i ≡ Some x → i < length xs
 get_below [] i x e = absurd (cc)
 get_below (y ∷ ys) zero x e = omega arith
 get_below (y ∷ ys) (suc i) x e = let low : i < length ys = get_below ys i x e in omega arith
 
-set_other : {A : Type 0} (xs : List A) (k : ℕ) (v : A) (n : ℕ) → k ≢ n → slice_get (slice_set xs k v) n ≡ slice_get xs n
+pub set_other : {A : Type 0} (xs : List A) (k : ℕ) (v : A) (n : ℕ) → k ≢ n → slice_get (slice_set xs k v) n ≡ slice_get xs n
 set_other [] k v n d = refl
 set_other (x ∷ xs) zero v zero d = absurd (d refl)
 set_other (x ∷ xs) zero v (suc n) d = refl
 set_other (x ∷ xs) (suc k) v zero d = refl
 set_other (x ∷ xs) (suc k) v (suc n) d = set_other xs k v n (λ e. d (ap suc e))
 
-inserted_from : (es : List (ℕ × Entity)) (n : ℕ) (v : Entity) (m : ℕ) (r : Entity) → entry (insert_entry nat_eq es n v) m ≡ Some r → (entry es m ≡ Some r) ⊎ (v ≡ r)
+pub inserted_from : (es : List (ℕ × Entity)) (n : ℕ) (v : Entity) (m : ℕ) (r : Entity) → entry (insert_entry nat_eq es n v) m ≡ Some r → (entry es m ≡ Some r) ⊎ (v ≡ r)
 inserted_from [] n v m r h = by (nat_eq m n) h
   where
     by : (b : Bool) → cond b (Some v) None ≡ Some r → (None ≡ Some r) ⊎ (v ≡ r)
@@ -141,11 +141,11 @@ module _ (ss fs : List ℕ) (u : ℕ) where
 abbrev pub AreBounded : Joined → Type 0
 AreBounded j = (m k : ℕ) → entry j.links m ≡ Some (Object k) → k < length j.objects
 
-pushed_longer : {A : Type 0} (xs : List A) (y : A) → length (xs ++ y ∷ []) ≡ length xs + 1
+pub pushed_longer : {A : Type 0} (xs : List A) (y : A) → length (xs ++ y ∷ []) ≡ length xs + 1
 pushed_longer [] y = omega arith
 pushed_longer (z ∷ zs) y = let w : length (zs ++ y ∷ []) ≡ length zs + 1 = pushed_longer zs y in omega arith
 
-set_length : {A : Type 0} (xs : List A) (k : ℕ) (v : A) → length (slice_set xs k v) ≡ length xs
+pub set_length : {A : Type 0} (xs : List A) (k : ℕ) (v : A) → length (slice_set xs k v) ≡ length xs
 set_length [] k v = refl
 set_length (x ∷ xs) zero v = refl
 set_length (x ∷ xs) (suc k) v = ap suc (set_length xs k v)

@@ -1,13 +1,14 @@
 -- What members make of a struct or a union (C90 6.5.2.1).
-use Rattle.std.specs.Prelude.{ℕ, ◌^◌, Bool, false, ◌||◌, ◌==◌, List, [], ◌∷◌, Option, Some, None, if◌then◌else◌, nat_le, slice_get}
-use Rattle.sp_tree.specs.declared.fault.FaultKind.TheVariants.{F11, F13, F21, M3}
+use Rattle.std.specs.Prelude.{ℕ, suc, ◌^◌, max, Bool, false, ◌||◌, ◌==◌, List, [], ◌∷◌, Option, Some, None, if◌then◌else◌, nat_le, slice_get, unwrap_or}
+use Rattle.sp_tree.specs.declared.fault.FaultKind.TheVariants.{F11, F13, F21, M2, M3}
 use Rattle.sp_tree.specs.declared.fault.Place.{Place}
 use Rattle.sp_types.specs.declared.extents.Extent.{Extent}
 use Rattle.sp_types.specs.Layout.{layout, extent}
 use Rattle.sp_types.specs.Structs.{aligned, with_member, level_above, leaves_of_members, cells_of_members}
-use Rattle.sp_types.specs.Types.{CType, Struct}
+use Rattle.sp_types.specs.Types.{CType, array, structure, Struct}
 use Rattle.sp_operands.specs.Answers.{Checked, accepted, and_then, where_met, where_given}
-use Rattle.sp_env.specs.Env.{Env, set_struct}
+use Rattle.sp_scopes.specs.Scopes.{entry}
+use Rattle.sp_env.specs.Env.{Env, set_struct, with_depth}
 
 -- a struct whose members are being read is no longer open: it is marked by its level, which is 0 before
 abbrev pub is_open_level : Option Struct → Bool
@@ -70,5 +71,23 @@ with_members ss k union p ms =
       cells = cells_of_members ss union ms;
     }))))
 
+-- ---- how deep it is
+
+-- how many structs and arrays lie inside one another in a type, held by value
+abbrev pub depth : List (ℕ × ℕ) → CType → ℕ
+depth ds (array t n) = suc (depth ds t)
+depth ds (structure k) = unwrap_or (entry ds k) 0
+depth ds _ = 0
+
+-- in a struct of these members, itself included
+abbrev pub depth_above : List (ℕ × ℕ) → List (ℕ × CType) → ℕ
+depth_above ds [] = 1
+depth_above ds (m ∷ ms) = max (suc (depth ds m.1)) (depth_above ds ms)
+
+-- the struct of a number with its members; at most 200 structs and arrays lie inside one another in
+-- it (5.2.4.1 asks for 15 structs and 12 arrays)
 abbrev pub completed : Env → ℕ → Bool → Place → List (ℕ × CType) → Checked Env
-completed env k union p ms = and_then (with_members env.tables.structs k union p ms) (λ s. accepted (set_struct env k s))
+completed env k union p ms =
+    and_then (with_members env.tables.structs k union p ms) (λ s.
+    where_met (nat_le (depth_above env.depths ms) 200) M2 p
+    (accepted (with_depth (set_struct env k s) k (depth_above env.depths ms))))

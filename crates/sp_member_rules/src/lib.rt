@@ -8,7 +8,8 @@
 //! its list's scope.
 //!
 //! So `struct s { char c; int i; }` has size 8 and alignment 4, with `i` at 4. A struct of more
-//! than 2^40 bytes is the fault F21 at its specifier, one of more than 256 cells M3.
+//! than 2^40 bytes is the fault F21 at its specifier, one of more than 256 cells M3, one in which
+//! more than 200 structs and arrays lie inside one another M2.
 //!
 //! The checks of specifiers use the calls. Each answers exactly what the definition of its name in
 //! `specs/` gives, or its fault.
@@ -20,7 +21,7 @@ mod members;
 mod parameters;
 
 pub use enumerators::{enumerator, with_enum_tag};
-pub use members::{MAX_CELLS, begun, completed, has_member, is_open};
+pub use members::{MAX_CELLS, MAX_DEPTH, begun, completed, has_member, is_open};
 pub use parameters::{
     adjusted, declared_name, has_parameter_storage, is_lone_void, named_parameter, reserved,
 };

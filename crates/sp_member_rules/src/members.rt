@@ -23,6 +23,8 @@ ghost use Rattle.sp_member_rules.specs.Members.{
   members_extent,
   head_of,
   with_members,
+  depth,
+  depth_above,
   completed,
 };
 
@@ -35,6 +37,10 @@ use std::alloc::AllocError;
 
 /// The cells of abstract memory that a struct or a union may have at most.
 pub const MAX_CELLS: u64 = 256;
+
+/// How many structs and arrays may lie inside one another: paths of regions are as long, and calls
+/// of the layers above as deep.
+pub const MAX_DEPTH: u32 = 200;
 
 /// Whether a struct has no members yet, and they aren't being read.
 pub fn is_open(env: &Env, number: u32) -> bool
@@ -202,8 +208,41 @@ fn head_of(structs: &[StructType], number: u32) -> Option<(Option<u32>, bool)>
     }
 }
 
+/// How many structs and arrays lie inside one another in a type, held by value.
+fn depth(env: &Env, of: &CType) -> Result<u32, AllocError>
+    ensures { IfOk result (λ n. n ≡ depth (env_of env.now).depths (type_of of.now)) }
+{
+    match of {
+        CType::Array(element, _) => {
+            let inside = depth(env, element)?;
+            inside.checked_add(1).ok_or(AllocError)
+        }
+        CType::Struct(number) => Ok(env.struct_depth(*number)),
+        CType::Void | CType::Int(_) | CType::Float(_) | CType::Pointer(_) | CType::Function(_) =>
+            Ok(0),
+    }
+}
+
+/// How many in a struct of these members.
+fn depth_above(env: &Env, members: &[(u32, CType)]) -> Result<u32, AllocError>
+    ensures { IfOk result (λ n. n ≡ depth_above (env_of env.now).depths
+        (members_seen members.now)) }
+{
+    let mut deepest = 1;
+    let mut left = members.len();
+    'members: while left > 0 {
+        left -= 1;
+        let Some(above) = depth(env, &members[left].1)?.checked_add(1) else {
+            return Err(AllocError);
+        };
+        deepest = above.max(deepest);
+    }
+    Ok(deepest)
+}
+
 /// Gives the struct of a number its members; `place` is that of its specifier. F13 stands where a
-/// member isn't complete, F21 where it has more than 2^40 bytes, M3 past 256 cells.
+/// member isn't complete, F21 where it has more than 2^40 bytes, M3 past 256 cells, M2 where more
+/// than 200 structs and arrays lie inside one another in it.
 pub fn completed(
     env: &mut Env,
     number: u32,
@@ -214,8 +253,13 @@ pub fn completed(
     ensures { LeadsTo (completed (env_of env.old) number union place (members_seen members.items))
         (env_of env.new) result }
 {
+    let depth = depth_above(env, &members)?;
     let made = with_members(env.structs(), number, union, place, members)?;
+    if depth > MAX_DEPTH {
+        return fault(FaultKind::M2, place);
+    }
     env.set_struct(number, made);
+    env.set_depth(number, depth)?;
     Ok(())
 }
 

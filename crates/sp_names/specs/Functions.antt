@@ -1,9 +1,9 @@
 -- Declarations of functions (C90 6.1.2.2, 6.3.2.2, 6.5.4.3): a name with linkage has one entry, and its declarations are compatible.
-use Rattle.std.specs.Prelude.{ℕ, ◌&&◌, Bool, true, false, [], length, Option, Some, None, slice_get}
+use Rattle.std.specs.Prelude.{ℕ, ◌&&◌, Bool, true, false, not, [], length, Option, Some, None, slice_get, if◌then◌else◌}
 use Rattle.sp_tree.specs.declared.fault.FaultKind.TheVariants.{F9}
 use Rattle.sp_tree.specs.declared.fault.Place.{Place}
-use Rattle.sp_types.specs.Types.{function, Signature}
-use Rattle.sp_types.specs.Compatible.{compatible}
+use Rattle.sp_types.specs.Types.{CType, function, Signature}
+use Rattle.sp_types.specs.Compatible.{compatible, same_type}
 use Rattle.sp_types.specs.Programs.{Function}
 use Rattle.sp_types.specs.declared.program.Linkage.{Linkage}
 use Rattle.sp_types.specs.declared.program.Linkage.TheVariants.{External, Internal, Inner}
@@ -13,7 +13,7 @@ use Rattle.sp_scopes.specs.Meanings as means
 use Rattle.sp_scopes.specs.Scopes.{visible_meaning}
 use Rattle.sp_env.specs.declared.env.Entity.{Entity}
 use Rattle.sp_env.specs.declared.env.Entity.TheVariants as entities
-use Rattle.sp_env.specs.Env.{Env, linked, with_link, declared, with_function, with_function_type, object_linkage, function_linkage, function_type}
+use Rattle.sp_env.specs.Env.{Env, linked, with_link, with_typing, with_typings, typings_with, declared, with_function, with_function_type, object_linkage, function_linkage, function_type}
 use Rattle.sp_names.specs.Composite.{composite_signature}
 
 -- ---- linkage
@@ -37,7 +37,23 @@ is_same_linkage Internal Internal = true
 is_same_linkage Inner Inner = true
 is_same_linkage _ _ = false
 
+-- ---- the types of external names
+
+-- a further declarator gives the name another type than it had
+abbrev pub is_retyped : Option CType → CType → Bool
+is_retyped None t = true
+is_retyped (Some old) t = not (same_type old t)
+
+-- which is kept, with the place of the name
+abbrev pub retyped : Env → Bool → Linkage → ℕ → CType → Place → Env
+retyped env changed l n t p =
+    with_typings env (if changed then typings_with env.tables.typings l (record { name = n; of = t; place = p }) else env.tables.typings)
+
 -- ---- functions
+
+abbrev pub as_function : Option Signature → Option CType
+as_function None = None
+as_function (Some s) = Some (function s)
 
 -- a function that is declared and not defined; `p` is the place of its name
 abbrev pub undefined_function : ℕ → Linkage → Signature → Place → Function
@@ -46,7 +62,7 @@ undefined_function n l s p = record { name = n; of = s; linkage = l; formals = [
 -- with a new entry, to which the name is linked
 abbrev pub function_added : Env → ℕ → Linkage → Signature → Place → Checked (ℕ × Env)
 function_added env n l s p =
-    and_then (declared (with_link (with_function env (undefined_function n l s p)) n (entities.Function (length env.tables.functions))) n (means.function (length env.tables.functions)) p) (λ env'.
+    and_then (declared (with_typing (with_link (with_function env (undefined_function n l s p)) n (entities.Function (length env.tables.functions))) l n (function s) p) n (means.function (length env.tables.functions)) p) (λ env'.
     accepted (length env.tables.functions, env'))
 
 -- 6.1.2.6: a further declaration has the same linkage and a compatible type; the function then has the composite type
@@ -60,7 +76,7 @@ joined_type env l s p k =
 abbrev pub function_joined : Env → ℕ → Linkage → Signature → Place → ℕ → Checked (ℕ × Env)
 function_joined env n l s p k =
     and_then (joined_type env l s p k) (λ t.
-    and_then (declared (with_function_type env k t) n (means.function k) p) (λ env'.
+    and_then (declared (with_function_type (retyped env (is_retyped (as_function (function_type (slice_get env.tables.functions k))) (function t)) l n (function t) p) k t) n (means.function k) p) (λ env'.
     accepted (k, env')))
 
 abbrev pub function_at : Env → ℕ → Linkage → Signature → Place → Option Entity → Checked (ℕ × Env)

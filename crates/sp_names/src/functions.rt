@@ -1,16 +1,20 @@
 //! Declarations of functions, and the linkage of names (C90 6.1.2.2, 6.5.4.3).
-ghost use Rattle.std.specs.Prelude.{◌≡◌, IfOk, option_map};
+ghost use Rattle.std.specs.Prelude.{◌≡◌, IfOk, OnOk, option_map, slice_get};
 ghost use Rattle.std.specs.Option.{option_copied};
 ghost use Rattle.sp_types.specs.Compatible.{compatible};
 ghost use Rattle.sp_types.specs.Types.{function};
-ghost use Rattle.sp_types.specs.View.{signature_of};
+ghost use Rattle.sp_types.specs.View.{type_of, signature_of};
 ghost use Rattle.sp_operands.specs.Answers.{Answers, AnswersIn};
 ghost use Rattle.sp_scopes.specs.Meanings.{meaning_of};
+ghost use Rattle.sp_env.specs.Env.{function_type};
 ghost use Rattle.sp_env.specs.Views.{env_of};
 ghost use Rattle.sp_names.specs.Functions.{
   extern_linkage,
   linkage_of,
   is_same_linkage,
+  is_retyped,
+  retyped,
+  as_function,
   joined_type,
   function_added,
   function_joined,
@@ -22,7 +26,7 @@ use sp_env::{Entity, Env};
 use sp_operands::{CheckError, fault};
 use sp_scopes::Meaning;
 use sp_tree::{FaultKind, Place};
-use sp_types::{CType, FunctionDef, Linkage, Signature, compatible};
+use sp_types::{CType, FunctionDef, Linkage, Signature, compatible, same};
 use std::alloc::{AllocError, Global};
 
 /// The linkage that `extern` gives a name, and a function without a storage class: that of the
@@ -90,6 +94,7 @@ fn function_added(
         (function_added (env_of env.old) name linkage (signature_of of) place)
         (env_of env.new) result }
 {
+    let typing = CType::function(alloc, of.copy(alloc)?)?;
     let number = env.add_function(FunctionDef {
         name,
         of,
@@ -101,8 +106,81 @@ fn function_added(
         end: place,
     })?;
     env.link(name, Entity::Function(number))?;
+    env.add_typing(linkage, name, typing, place)?;
     env.declare(name, Meaning::Function(number), place)?;
     Ok(number)
+}
+
+/// Whether a further declarator gives a name another type than it had.
+pub fn is_retyped(old: Option<&CType>, of: &CType) -> bool
+    ensures { result ≡
+        is_retyped (option_map type_of (option_copied old.entry)) (type_of of.now) }
+{
+    match old {
+        None => true,
+        Some(old) => !same(old, of),
+    }
+}
+
+/// Tells that a name has this type behind a declarator, where it changed.
+pub fn retype(
+    env: &mut Env,
+    changed: bool,
+    linkage: Linkage,
+    name: u32,
+    of: CType,
+    place: Place,
+) -> Result<(), AllocError>
+    ensures { OnOk result (env_of env.new ≡
+        retyped (env_of env.old) changed linkage name (type_of of) place) }
+{
+    if changed {
+        env.add_typing(linkage, name, of, place)?;
+    }
+    Ok(())
+}
+
+/// Whether a further declarator gives a function another type than it had.
+fn is_function_retyped(
+    alloc: Global,
+    env: &Env,
+    number: u32,
+    of: &CType,
+) -> Result<bool, AllocError>
+    ensures { IfOk result (λ b. b ≡
+        is_retyped
+        (as_function (function_type (slice_get (env_of env.now).tables.functions number)))
+        (type_of of.now)) }
+{
+    match env.function_type(number) {
+        None => Ok(is_retyped(None, of)),
+        Some(old) => {
+            let old = CType::function(alloc, old.copy(alloc)?)?;
+            Ok(is_retyped(Some(&old), of))
+        }
+    }
+}
+
+/// Tells the type that a function takes by a further declarator, where it is another one.
+fn retype_function(
+    alloc: Global,
+    env: &mut Env,
+    name: u32,
+    linkage: Linkage,
+    of: &Signature,
+    place: Place,
+    number: u32,
+) -> Result<(), AllocError>
+    ensures { let t = function (signature_of of.now) in OnOk result (env_of env.new ≡
+        retyped (env_of env.old)
+        (is_retyped
+        (as_function (function_type (slice_get (env_of env.old).tables.functions number)))
+        t)
+        linkage name t place) }
+{
+    let of = CType::function(alloc, of.copy(alloc)?)?;
+    let changed = is_function_retyped(alloc, env, number, &of)?;
+    retype(env, changed, linkage, name, of, place)
 }
 
 /// A further declaration of a function.
@@ -120,6 +198,7 @@ fn function_joined(
         (env_of env.new) result }
 {
     let of = joined_type(alloc, env, linkage, of, place, number)?;
+    retype_function(alloc, env, name, linkage, &of, place, number)?;
     env.set_function_type(number, of);
     env.declare(name, Meaning::Function(number), place)?;
     Ok(number)

@@ -22,7 +22,7 @@ mod names;
 mod strings;
 
 pub use composites::{composite, composite_signature};
-pub use functions::{extern_linkage, function_declared};
+pub use functions::{extern_linkage, function_declared, is_retyped, retype};
 pub use literals::{character_checked, number_checked, size_checked};
 pub use names::{implicit_name, name_checked};
 pub use strings::text_checked;

@@ -20,9 +20,9 @@ use Rattle.sp_scopes.specs.Meanings as means
 use Rattle.sp_scopes.specs.Scopes.{is_file_scope}
 use Rattle.sp_env.specs.declared.env.Entity.{Entity}
 use Rattle.sp_env.specs.declared.env.Entity.TheVariants as entities
-use Rattle.sp_env.specs.Env.{Env, declared, linked, with_link, with_object, set_object, object_type}
+use Rattle.sp_env.specs.Env.{Env, declared, linked, with_link, with_typing, with_object, set_object, object_type}
 use Rattle.sp_names.specs.Composite.{composite}
-use Rattle.sp_names.specs.Functions.{extern_linkage, is_same_linkage}
+use Rattle.sp_names.specs.Functions.{extern_linkage, is_same_linkage, is_retyped, retyped}
 
 -- ---- linkage and storage
 
@@ -81,7 +81,7 @@ linked_to env n l k = if has_linkage l then with_link env n (entities.Object k) 
 
 -- the first declaration
 abbrev pub object_added : Env → ℕ → ℕ → CType → Storage → Linkage → Place → Checked Env
-object_added env k n t s l p = declared (linked_to (set_object env k (new_object n t s l p)) n l k) n (means.object k) p
+object_added env k n t s l p = declared (with_typing (linked_to (set_object env k (new_object n t s l p)) n l k) l n t p) n (means.object k) p
 
 -- an initialiser gives at least one value
 abbrev pub is_valued : List (ℕ × Typed) → Bool
@@ -112,7 +112,8 @@ joined_at os t s l valued p k =
 
 abbrev pub object_joined : Env → ℕ → CType → Storage → Linkage → Bool → Place → ℕ → Checked Env
 object_joined env n t s l valued p k =
-    and_then (joined_at env.tables.objects t s l valued p k) (λ o. declared (set_object env k o) n (means.object k) p)
+    and_then (joined_at env.tables.objects t s l valued p k) (λ o.
+    declared (set_object (retyped env (is_retyped (object_type (slice_get env.tables.objects k)) o.of) l n o.of p) k o) n (means.object k) p)
 
 -- a declaration of the name as an object of this type, whose entry is that of the name or the new
 -- one, k

@@ -27,7 +27,7 @@ ghost use Rattle.sp_objects.specs.Objects.{
 use crate::copies::copy_values;
 use crate::{has_linkage, is_outside};
 use sp_env::{Entity, Env};
-use sp_names::composite;
+use sp_names::{composite, is_retyped, retype};
 use sp_operands::{CheckError, fault, is_complete, is_void};
 use sp_scopes::Meaning;
 use sp_tree::{FaultKind, Place};
@@ -106,8 +106,10 @@ fn object_added(
         (object_added (env_of env.old) number name (type_of of) storage linkage place)
         (env_of env.new) result }
 {
+    let typing = of.copy(alloc)?;
     env.set_object(number, new_object(alloc, name, of, storage, linkage, place));
     linked_to(env, name, linkage, number)?;
+    env.add_typing(linkage, name, typing, place)?;
     env.declare(name, Meaning::Object(number), place)
 }
 
@@ -226,6 +228,8 @@ fn object_joined(
         place,
         number,
     )?;
+    let changed = is_retyped(env.object_type(number), &joined.of);
+    retype(env, changed, linkage, name, joined.of.copy(alloc)?, place)?;
     env.set_object(number, joined);
     env.declare(name, Meaning::Object(number), place)
 }

@@ -1,8 +1,8 @@
 -- What declarators derive from a type (C90 6.5.4).
-use Rattle.std.specs.Prelude.{ℕ, Bool, not, ◌||◌, List, [], ◌∷◌, Option}
-use Rattle.sp_tree.specs.declared.fault.FaultKind.TheVariants.{F14}
+use Rattle.std.specs.Prelude.{ℕ, suc, max, nat_le, Bool, not, ◌||◌, List, [], ◌∷◌, Option}
+use Rattle.sp_tree.specs.declared.fault.FaultKind.TheVariants.{F14, M2}
 use Rattle.sp_tree.specs.declared.fault.Place.{Place}
-use Rattle.sp_types.specs.Types.{CType, pointer, function, signature, Parameters, Struct}
+use Rattle.sp_types.specs.Types.{CType, pointer, array, function, Signature, signature, Parameters, untold, listed, CTypes, no_types, next_type, Struct}
 use Rattle.sp_operands.specs.Answers.{Checked, accepted, and_then, where_met}
 use Rattle.sp_operands.specs.Conversions.{is_array, is_function}
 use Rattle.sp_rules.specs.Lengths.{made_array}
@@ -24,3 +24,32 @@ derive ss (to_function ps dots p) t = where_met (not (is_array t || is_function 
 abbrev pub derived : List Struct → List Derivation → CType → Checked CType
 derived ss [] t = accepted t
 derived ss (d ∷ ds) t = and_then (derived ss ds t) (λ u. derive ss d u)
+
+-- ---- how many lie inside one another
+
+-- a struct is one with its number, however deep it is
+abbrev mutual
+  pub derivations_in : CType → ℕ
+  derivations_in (pointer t) = suc (derivations_in t)
+  derivations_in (array t n) = suc (derivations_in t)
+  derivations_in (function s) = suc (derivations_in_signature s)
+  derivations_in _ = 0
+
+  pub derivations_in_signature : Signature → ℕ
+  derivations_in_signature (signature r ps dots) = max (derivations_in r) (derivations_in_parameters ps)
+
+  pub derivations_in_parameters : Parameters → ℕ
+  derivations_in_parameters untold = 0
+  derivations_in_parameters (listed ts) = derivations_in_types ts
+
+  pub derivations_in_types : CTypes → ℕ
+  derivations_in_types no_types = 0
+  derivations_in_types (next_type t ts) = max (derivations_in t) (derivations_in_types ts)
+
+-- the type of a whole declarator at this place: at most 200 derivations lie inside one another in it
+-- (5.2.4.1 asks for 12)
+abbrev pub made : List Struct → Place → List Derivation → CType → Checked CType
+made ss p ds t =
+    and_then (derived ss ds t) (λ u.
+    where_met (nat_le (derivations_in u) 200) M2 p
+    (accepted u))

@@ -1,15 +1,25 @@
 //! What declarators derive from a type (C90 6.5.4).
-ghost use Rattle.std.specs.Prelude.{◌≡◌, map};
-ghost use Rattle.sp_types.specs.View.{type_of, struct_of};
+ghost use Rattle.std.specs.Prelude.{◌≡◌, suc, IfOk, map};
+ghost use Rattle.sp_types.specs.View.{type_of, signature_of, types, struct_of};
 ghost use Rattle.sp_operands.specs.Answers.{Answers};
-ghost use Rattle.sp_type_rules.specs.Derivations.{derive, derived};
+ghost use Rattle.sp_type_rules.specs.Derivations.{
+  derive,
+  derived,
+  derivations_in,
+  derivations_in_signature,
+  derivations_in_types,
+  made,
+};
 ghost use Rattle.sp_type_rules.specs.DerivationView.{derivation_of};
 
 use sp_operands::{CheckError, fault, is_array, is_function};
 use sp_rules::made_array;
 use sp_tree::{FaultKind, Place};
 use sp_types::{CType, Signature, StructType};
-use std::alloc::Global;
+use std::alloc::{AllocError, Global};
+
+/// How many derivations may lie inside one another in a type: calls of all layers are as deep.
+pub const MAX_DERIVATIONS: u32 = 200;
 
 /// One step of a declarator.
 #[derive(Drop)]
@@ -52,7 +62,7 @@ fn derive(
 
 /// The type that derivations make of a base. F13 stands at an array of an incomplete type, F21 at
 /// one of more than 2^40 bytes, F14 at a function that returns an array or a function.
-pub fn derived(
+fn derived(
     alloc: Global,
     structs: &[StructType],
     mut derivations: Vec<Derivation>,
@@ -64,6 +74,69 @@ pub fn derived(
     let mut of = base;
     'derivations: while let Some(derivation) = derivations.pop() {
         of = derive(alloc, structs, derivation, of)?;
+    }
+    Ok(of)
+}
+
+/// One more than a number of derivations.
+fn one_more(inside: u32) -> Result<u32, AllocError>
+    ensures { IfOk result (λ n. n ≡ suc inside) }
+{
+    inside.checked_add(1).ok_or(AllocError)
+}
+
+/// How many derivations lie inside one another in a type.
+#[cycle(derivations)]
+fn derivations_in(of: &CType) -> Result<u32, AllocError>
+    ensures { IfOk result (λ n. n ≡ derivations_in (type_of of.now)) }
+{
+    match of {
+        CType::Pointer(to) => one_more(derivations_in(to)?),
+        CType::Array(element, _) => one_more(derivations_in(element)?),
+        CType::Function(signature) => one_more(derivations_in_signature(signature)?),
+        CType::Void | CType::Int(_) | CType::Float(_) | CType::Struct(_) => Ok(0),
+    }
+}
+
+#[cycle(derivations)]
+fn derivations_in_signature(of: &Signature) -> Result<u32, AllocError>
+    ensures { IfOk result (λ n. n ≡ derivations_in_signature (signature_of of.now)) }
+{
+    let result = derivations_in(&of.result)?;
+    match &of.params {
+        None => Ok(result),
+        Some(params) => Ok(result.max(derivations_in_all(params)?)),
+    }
+}
+
+#[cycle(derivations)]
+fn derivations_in_all(all: &[CType]) -> Result<u32, AllocError>
+    ensures { IfOk result (λ n. n ≡ derivations_in_types (types (map type_of all.now))) }
+{
+    let mut most = 0;
+    let mut left = all.len();
+    'types: while left > 0 {
+        left -= 1;
+        most = derivations_in(&all[left])?.max(most);
+    }
+    Ok(most)
+}
+
+/// The type that the derivations of a whole declarator make of a base: M2 stands at the declarator
+/// where more than 200 lie inside one another, and else what [`derived`] refuses.
+pub fn made(
+    alloc: Global,
+    structs: &[StructType],
+    place: Place,
+    derivations: Vec<Derivation>,
+    base: CType,
+) -> Result<CType, CheckError>
+    ensures { Answers type_of (made (map struct_of structs.now) place
+        (map derivation_of derivations.items) (type_of base)) result }
+{
+    let of = derived(alloc, structs, derivations, base)?;
+    if derivations_in(&of)? > MAX_DERIVATIONS {
+        return fault(FaultKind::M2, place);
     }
     Ok(of)
 }

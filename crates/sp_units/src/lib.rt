@@ -4,7 +4,8 @@
 //! A [`CheckedUnit`] has the tables of its unit: structs, objects and functions, each named by its
 //! number there, the constants of its text, and the numbers of the functions that it defines, in
 //! the order of their text. An object or a function that the unit declares and doesn't define is
-//! there too, with its linkage.
+//! there too, with its linkage. Of an external name the unit also keeps each declarator that gives
+//! it its type or changes it: a [`Typing`].
 //!
 //! So `extern int a; int f(void) { return a; }` has one object, stored outside, one function with a
 //! body, and the list of definitions 0.
@@ -15,4 +16,4 @@
 
 mod unit;
 
-pub use unit::CheckedUnit;
+pub use unit::{CheckedUnit, Typing};

@@ -3,6 +3,7 @@ use Rattle.std.specs.Prelude.{◌≡◌, ◌⊎◌, ◌↔◌, ◌&&◌, ◌||�
 use Rattle.std.specs.List.{IsDistinct}
 use Rattle.sp_lattice.specs.System.{Meaning, has}
 use Rattle.sp_lattice.specs.Dependency.{Path}
+use Rattle.sp_deps.specs.inner.Stretches.{IsSkip}
 use Rattle.sp_deps.specs.declared.walk.Walk.{Walk}
 use Rattle.sp_deps.specs.declared.earlier.Earlier.{Earlier}
 use Rattle.sp_deps.specs.declared.earlier.Finding.{Finding}
@@ -54,8 +55,14 @@ pub record AreKnown {V : Type 0} (m : Meaning V) (location : ℕ) (e : Earlier) 
   pub each : All (λ f. IsFound m location f.target f.found.items) e.findings.items
 
 -- what stands behind a node is reached: the nodes from which an edge that passes the location leads there, or
--- what an earlier walk to its use found
-abbrev pub GoesBehind : {V : Type 0} → Meaning V → ℕ → Earlier → ℕ → Walk → Walk → Type 0
-GoesBehind m location e node before after =
+-- the head of its stretch
+abbrev pub StepsBack : {V : Type 0} → Meaning V → ℕ → List ℕ → ℕ → Walk → Walk → Type 0
+StepsBack m location heads node before after =
     Reaches before after (λ n. has n (m.into node) && m.passes n node location)
+    ⊎ ((head : ℕ) × IsSkip m location heads node head × Reaches before after (λ n. nat_eq n head))
+
+-- or what an earlier walk to its use found
+abbrev pub GoesBehind : {V : Type 0} → Meaning V → ℕ → List ℕ → Earlier → ℕ → Walk → Walk → Type 0
+GoesBehind m location heads e node before after =
+    StepsBack m location heads node before after
     ⊎ ((found : List ℕ) × IsFinding e node found × Reaches before after (λ n. has n found))

@@ -1,5 +1,6 @@
-use Rattle.sp_link_laws.proofs.Numbered.{names_have_one_object, names_have_one_function}
+use Rattle.sp_link_laws.proofs.Sources.{names_have_one_object, names_have_one_function}
 use Rattle.sp_link_laws.proofs.Own.{others_stay_apart}
+use Rattle.sp_link_laws.proofs.OwnFunctions.{static_functions_stay_apart}
 use Rattle.sp_link_laws.proofs.laws.joining_laws.Goals as goal
 
 pub returns-clause-objects : goal.returns-clause-objects
@@ -10,3 +11,6 @@ returns-clause-functions c = names_have_one_function
 
 pub returns-clause-apart : goal.returns-clause-apart
 returns-clause-apart c = others_stay_apart
+
+pub returns-clause-functions_apart : goal.returns-clause-functions_apart
+returns-clause-functions_apart c = static_functions_stay_apart

@@ -1,0 +1,8 @@
+/* C90 7.2. It may be included again with another NDEBUG, so it has no guard. */
+#undef assert
+#ifdef NDEBUG
+#define assert(expression) ((void)0)
+#else
+extern void abort(void);
+#define assert(expression) ((expression) ? (void)0 : abort())
+#endif

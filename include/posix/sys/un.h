@@ -1,0 +1,12 @@
+/* POSIX.1-2001, sys/un.h */
+#ifndef _SPARROW_SYS_UN_H
+#define _SPARROW_SYS_UN_H
+
+#include <sys/socket.h>
+
+struct sockaddr_un {
+    sa_family_t sun_family;
+    char sun_path[108];
+};
+
+#endif

@@ -1,0 +1,163 @@
+#!/usr/bin/env bash
+# Runs ./sparrow source on programs over the headers of include/ and compares what it writes, and
+# its status, with the file beside each: NAME.expected. The reports are derived from the texts by
+# hand; the comments of the programs say why. Then the headers themselves, the options, and what is
+# said where there is no report.
+. "$(dirname "$0")/lib.sh"
+if ! command -v gcc >/dev/null 2>&1; then
+    echo "skipped: gcc isn't there"
+    exit 0
+fi
+# ./sparrow builds the program where that is needed.
+./sparrow >/dev/null 2>&1
+room=$(mktemp -d)
+trap 'rm -rf "$room"' EXIT
+mkdir "$room/tmp"
+export TMPDIR=$room/tmp
+unset CPP
+
+# check_source EXPECTED WORD..
+check_source() {
+    local expected=$1 status bytes
+    shift
+    status=$(head -n 1 "$expected")
+    bytes=$(tail -n +2 "$expected"; printf x)
+    check "source $*" "${status#status }" "${bytes%x}" ./sparrow source "$@"
+}
+
+here=tests/source
+check_source examples/source/cut.expected examples/source/cut.c
+check_source $here/lengths.expected $here/lengths.c
+check_source $here/prices.expected $here/prices.c
+
+# Options with their argument in the same word or the next one, before and behind the files.
+check_source $here/calculator.expected -I$here/include -DDEPTH=8 $here/calculator.c $here/stack.c
+check_source $here/calculator.expected $here/stack.c -D DEPTH=8 -I $here/include $here/calculator.c
+check_source $here/calculator.expected -D DEPTH=9 -U DEPTH -include "$here/eight.h" \
+    -isystem $here/include -- $here/calculator.c $here/stack.c
+check_source $here/calculator.expected -imacros "$here/eight.h" -iquote $here/include \
+    $here/calculator.c $here/stack.c
+check_source $here/calculator.expected -DDEPTH=8 -idirafter $here/include \
+    $here/calculator.c $here/stack.c
+
+# Each header alone, in a unit of its own; then all in one unit, in both orders.
+headers() { # c90 or posix
+    (cd "include/$1" && find . -name '*.h' ! -path './bits/*' | sed 's,^\./,,' | LC_ALL=C sort)
+}
+units() { # the header names are read
+    local name number=0
+    while read -r name; do
+        number=$((number + 1))
+        printf '#include <%s>\n' "$name" >"$room/$1-$number.c"
+    done
+}
+echo 'int main(void) { return 0; }' >"$room/main.c"
+headers c90 | units c90
+headers posix | units posix
+check 'there are the headers of C90' 0 $'15\n' eval 'headers c90 | grep -c .'
+check 'each header of C90' 0 $'0 alarms\n' ./sparrow source "$room"/main.c "$room"/c90-*.c
+check 'each header of C90 without POSIX' 0 $'0 alarms\n' \
+    ./sparrow source -D_ANSI_SOURCE "$room"/main.c "$room"/c90-*.c
+check 'each header of POSIX' 0 $'0 alarms\n' ./sparrow source "$room"/main.c "$room"/posix-*.c
+{ headers c90 && headers posix; } | sed 's/.*/#include <&>/' >"$room/together.c"
+tac "$room/together.c" >"$room/backwards.c"
+for order in together backwards; do
+    check "all headers $order" 0 $'0 alarms\n' \
+        ./sparrow source -D_GNU_SOURCE "$room/main.c" "$room/$order.c"
+done
+check 'what C90 names' 0 $'0 alarms\n' ./sparrow source $here/standard.c
+check 'what C90 names, without POSIX' 0 $'0 alarms\n' \
+    ./sparrow source -D_ANSI_SOURCE $here/standard.c
+check "the program's own names" 0 $'0 alarms\n' \
+    ./sparrow source -D_ANSI_SOURCE $here/own_names.c
+
+# Names with blanks and quotes; a refusal of the whole program names the source.
+odd="$room/it's a/b c.c"
+mkdir "${odd%/*}"
+printf 'int x;\n' >"$odd"
+check 'a program without main' 2 "$odd"$':1:1: refused F25: no main\n' \
+    ./sparrow source -D "A=it's" "$odd"
+many() { for _ in $(seq "$1"); do echo "$room/together.c"; done; }
+# shellcheck disable=SC2046
+check 'the 65th file' 2 "$odd"$':1:1: refused M9: files past 64\n' \
+    ./sparrow source "$room/main.c" $(many 63) "$odd"
+printf 'int main(void) { int a[2]; a[2] = 0; return 0; }\n' >"$room/-a.c"
+in_room() { (cd "$room" && "$top/sparrow" "$@"); }
+check 'a name that begins with -' 1 $'./-a.c:1:28: overrun: offset [2,2], size [2,2]\n1 alarm\n' \
+    in_room source -- -a.c
+printf 'int main(void) { int a[__SPARROW__];\na[1] = 0; return 0; }\n' >"$room/name.c"
+check 'a name that is given' 1 $'name.c:2:1: overrun: offset [1,1], size [1,1]\n1 alarm\n' \
+    in_room source name.c
+check 'comments to the end of the line' 0 $'0 alarms\n' ./sparrow source "$here/comments.c"
+check 'words that fall away' 0 $'0 alarms\n' ./sparrow source "$here/words.c"
+printf 'int main(void) { int inline = 0; return inline; }\n' >"$room/inline.c"
+check 'a word that is given back' 0 $'0 alarms\n' ./sparrow source -Uinline "$room/inline.c"
+check 'values' 0 $'0 alarms\nnode 2 '"$room"$'/x.c:1:36: x = [7,7]\n' eval '
+    printf "static int x = 7; int main(void) { return x; }" >"$room/x.c"
+    ./sparrow source --values "$room/x.c"'
+
+# What is kept gives the same report.
+check 'what is kept' 0 $'1-main.i\n2-b c.i\n' eval '
+    ./sparrow source --keep "$room/kept" "$room/main.c" "$odd" >/dev/null && ls "$room/kept"'
+check 'what is kept, analysed' 0 $'0 alarms\n' ./sparrow analyse "$room"/kept/*.i
+check 'its first line names the source' 0 "# 0 \"$room/main.c\""$'\n' \
+    head -n 1 "$room/kept/1-main.i"
+check 'a place that takes no files' 3 '' ./sparrow source --keep "$room/main.c" "$room/main.c"
+
+# Where there is no report.
+usage=$'usage: sparrow COMMAND [OPTION] WORD..\n'
+check 'no file' 3 "$usage" ./sparrow source -DA
+check 'no file behind the end of options' 3 "$usage" ./sparrow source --
+check 'an option without its argument' 3 "$usage" ./sparrow source "$room/main.c" -I
+check 'a place for what is kept is missing' 3 "$usage" ./sparrow source "$room/main.c" --keep
+check 'a missing file' 4 '' ./sparrow source "$room/main.c" "$room/none.c"
+check_said 'a missing file' "sparrow: $room/none.c can't be read" \
+    ./sparrow source "$room/none.c"
+printf '#include "none.h"\n' >"$room/fails.c"
+last_said() { ./sparrow source "$room/main.c" "$room/fails.c" 2>&1 >/dev/null | tail -n 1; }
+check 'a preprocessor that fails' 3 '' ./sparrow source "$room/main.c" "$room/fails.c"
+check 'it is said which file' 0 "sparrow: $room/fails.c was not preprocessed by gcc -E"$'\n' \
+    last_said
+without() { CPP='no-such-cpp -E' ./sparrow source "$room/main.c"; }
+check 'no preprocessor' 3 '' without
+check_said 'no preprocessor' \
+    'sparrow: there is no no-such-cpp to preprocess with; CPP names another' without
+# The preprocessor may be several words.
+printf '#!/bin/sh\nexec gcc -E -DLAST=2 "$@"\n' >"$room/cpp"
+chmod +x "$room/cpp"
+printf 'int main(void) { int a[SIZE]; a[LAST] = 0; return 0; }\n' >"$room/last.c"
+another() { CPP="$room/cpp -DSIZE=2" ./sparrow source "$room/last.c"; }
+check 'another preprocessor' 1 \
+    "$room"$'/last.c:1:28: overrun: offset [2,2], size [2,2]\n1 alarm\n' another
+unnamed() { yes | ./sparrow source -; }
+check 'a file named - that is missing' 4 '' unnamed
+no_folder() { TMPDIR=$room/none ./sparrow source "$room/main.c"; }
+check 'no temporary folder' 7 '' no_folder
+last_of_folder() { no_folder 2>&1 | tail -n 1; }
+check 'it is said what is missing' 0 $'sparrow: no temporary folder can be made\n' last_of_folder
+full() { ./sparrow source "$room/main.c" >/dev/full; }
+check 'a full device' 5 '' full
+check_said 'a full device' "sparrow: standard output can't be written" full
+check 'nothing is left behind' 0 '' ls "$TMPDIR"
+
+# A stand-in for the program that goes on until it is ended: a signal ends it, and no file is left.
+mkdir -p "$room/copy/crates/sparrow/out"
+cp -r sparrow crates.txt include "$room/copy"
+stand_in=$room/copy/crates/sparrow/out/sparrow
+printf '#!/bin/sh\necho $$ >"%s/started"\nexec sleep 300\n' "$room" >"$stand_in"
+chmod +x "$stand_in"
+for signal in TERM HUP; do
+    rm -f "$room/started"
+    "$room/copy/sparrow" source "$room/main.c" >/dev/null 2>&1 &
+    script=$!
+    for _ in $(seq 600); do [ -s "$room/started" ] && break; sleep 0.1; done
+    kill -s $signal $script
+    wait $script
+    ended=$?
+    # What was ended is there until its parent has heard of it, which takes longer on a busy machine.
+    for _ in $(seq 600); do kill -0 "$(cat "$room/started")" 2>/dev/null || break; sleep 0.1; done
+    check "ended by $signal" 0 "$((128 + $(kill -l $signal)))"$'\n' echo $ended
+    check "$signal ends the program" 1 '' kill -0 "$(cat "$room/started")"
+    check "$signal leaves nothing behind" 0 '' ls "$TMPDIR"
+done
+finish
