@@ -8,12 +8,51 @@ import tempfile
 import time
 
 LIMIT = 600  # seconds
-NODES = 70  # of a function: 6,400 of them stay below 500,000 nodes and 2,000,000 tokens
+NODES = 71  # of a function of a module: 6,400 of them stay below 500,000 nodes and 2,000,000 tokens
+MODULE = 40  # functions
+HELPERS = 8  # functions that all modules call
 
 
-def program(functions):
-    """A program of so many functions, the same each time. They call two later ones, share a global for
-    each ten of them, and write through pointers."""
+def blocks(chance, cells, count):
+    """Three blocks of a function: conditions, and writes through a pointer and to cells of an array."""
+    return "".join(
+        f"x=y+{chance.randrange(100)};if(x>n)y=x;else y=n;*p=y;{cells}[x&15]=y;"
+        f"{cells}[{chance.randrange(count)}]=*p;local+=x;x++;y--;i++;local++;x--;y++;i--;local--;"
+        for _ in range(3))
+
+
+def module(chance, number, functions):
+    """The lines of a module of so many functions. They call each other as a tree, and hand on the address
+    of a local variable, and what they were handed. Each fourth calls a helper."""
+    lines = [f"int c{number}[16];int s{number};"]
+    lines += [f"int f{number}_{k}(int n,int *p);" for k in range(functions)]
+    for k in range(functions):
+        calls = [f"y=f{number}_{2 * k + 1}(x,&local);" if 2 * k + 1 < functions else "",
+                 f"x=f{number}_{2 * k + 2}(y,p);" if 2 * k + 2 < functions else "",
+                 f"y=h{chance.randrange(HELPERS)}(x);" if k % 4 == 0 else ""]
+        lines.append(
+            f"int f{number}_{k}(int n,int *p){{int x;int y;int local;int i;x=s{number};y=n;local=0;"
+            f"for(i=0;i<16;i++)c{number}[i]=i;{blocks(chance, f'c{number}', 16)}"
+            f"if(mode<x)s{number}=x;{''.join(calls)}return x/(y+1);}}")
+    return lines
+
+
+def modules(functions):
+    """A program of so many functions in modules, the same each time."""
+    chance = random.Random(functions)
+    lines = ["int mode;int total;"]
+    lines += [f"int h{k}(int n){{int x;x=n+{k};if(x>mode)total=x;else x=mode;return x;}}" for k in range(HELPERS)]
+    count = -(-functions // MODULE)
+    for number in range(count):
+        lines += module(chance, number, min(MODULE, functions - number * MODULE))
+    calls = "".join(f"total+=f{number}_0({number},&a);" for number in range(count))
+    lines.append(f"int main(void){{int a;a=0;mode=3;{calls}return total;}}")
+    return "\n".join(lines) + "\n"
+
+
+def deep(functions):
+    """A program of so many functions, the same each time, in which calls lead from each to nearly all later
+    ones: each calls two of the next 40. Not all are reached."""
     chance = random.Random(functions)
     shared = max(4, functions // 10)
     lines = [f"int g[{shared}];int table[64];"]
@@ -83,11 +122,13 @@ def main():
         for command in ("analyse", "dense"):
             # dense takes 1,048,576 slots, nodes times locations
             some = sizes if command == "analyse" else [25]
-            table(command, "functions", program, some, [sparrow, command], source, NODES)
+            table(command, "modules", modules, some, [sparrow, command], source, NODES)
+        # of the functions of a deep program eight in ten are reached where there are many
+        table("analyse", "deep", deep, sizes, [sparrow, "analyse"], source)
         others = {"gcc": ["-O2", "-Wall", "-c", "-o", os.devnull], "frama-c": ["-eva", "-eva-verbose", "0"]}
         for name, flags in others.items():
             if shutil.which(name):
-                table(name, "functions", program, sizes, [name, *flags], source, NODES)
+                table(name, "modules", modules, sizes, [name, *flags], source, NODES)
             else:
                 print(f"{name}: not installed")
         for shape in (chain, ring):

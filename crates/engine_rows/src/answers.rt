@@ -1,11 +1,14 @@
 //! The answer to each row.
+use crate::open::open_nodes;
 use crate::random::{Random, Shuffled, hub, small_system};
 use crate::rows::{intervals, numbers, system_of};
 use crate::systems::{IntervalSystem, all_below};
-use crate::tables::{Middle, dense_cells, holds_alike, is_dense, sparse_cells, write_intervals};
+use crate::tables::{
+    Middle, are_alike, dense_cells, holds_alike, is_dense, sparse_cells, write_intervals,
+};
 use anyhow::{Context, bail, ensure};
 use sp_dense::{DenseError, Table, solve_dense};
-use sp_deps::{DepError, dependencies};
+use sp_deps::{DepError, dependencies, dependencies_with};
 use sp_interval::Interval;
 use sp_lattice::rows::{bottoms, raise, values_of};
 use sp_lattice::{Range, Relation, Steps, System};
@@ -47,6 +50,11 @@ fn dependencies_of(alloc: Global, text: &str) -> anyhow::Result<String> {
     let system = system_of(alloc, text)?;
     let deps = dependencies(alloc, &system)?;
     ensure!(holds_alike(&system, &deps)?, "`holds` and `after` differ");
+    let faster = dependencies_with(alloc, &system, &open_nodes(alloc, &system)?)?;
+    ensure!(
+        are_alike(&system, &deps, &faster)?,
+        "marks of open nodes change the dependencies"
+    );
     let count = deps.count();
     let mut told = format!(in alloc; "{count} dependencies")?;
     for from in 0..system.nodes().saturating_add(1) {
@@ -115,7 +123,7 @@ fn agrees<P: Picker, L: Ledger>(
     picker: &mut P,
     steps: &mut Steps<L>,
 ) -> anyhow::Result<bool> {
-    let deps = dependencies(alloc, system)?;
+    let deps = dependencies_with(alloc, system, &open_nodes(alloc, system)?)?;
     let table = solve_sparse(alloc, system, &deps, picker, steps)?;
     Ok(holds_alike(system, &deps)? && is_dense(alloc, system, &deps, dense, &table)?)
 }

@@ -24,6 +24,7 @@
 ghost use Rattle.std.specs.Prelude.{◌≡◌, ◌<◌};
 
 mod answers;
+mod open;
 mod random;
 mod rows;
 mod systems;

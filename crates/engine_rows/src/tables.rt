@@ -102,6 +102,20 @@ pub(crate) fn holds_alike(system: &IntervalSystem, deps: &Deps) -> Result<bool, 
     Ok(true)
 }
 
+/// Whether these are the same dependencies.
+pub(crate) fn are_alike(
+    system: &IntervalSystem,
+    deps: &Deps,
+    others: &Deps,
+) -> Result<bool, AllocError> {
+    for from in 0..system.nodes() {
+        if deps.after(from)?.as_slice() != others.after(from)?.as_slice() {
+            return Ok(false);
+        }
+    }
+    Ok(deps.count() == others.count())
+}
+
 /// How many dependencies lead into each node.
 fn dependencies_into(
     alloc: Global,

@@ -66,7 +66,12 @@ abbrev pub Ends : Lowered → List (List ℕ) → Bool → ℕ → ℕ → Outco
 Ends p names with_values before after outcome =
     (e : Equations) × AreEquationsOf p e × Gives names with_values e before after outcome
 
--- nothing was evaluated, or at most so often as the dense engine may
+-- nothing was evaluated; or there are no more cells than the dense engine takes, and as many
+-- evaluations at most as it may use
+abbrev pub StepsWithin : Equations → ℕ → ℕ → Type 0
+StepsWithin e before after = (after ≡ before)
+    ⊎ ((cells (meaning_of e) ≤ most_cells) × (after ≤ before + most_steps (meaning_of e)))
+
 abbrev pub IsStepped : Lowered → ℕ → ℕ → Type 0
 IsStepped p before after = (after ≡ before)
-    ⊎ ((e : Equations) × AreEquationsOf p e × (after ≤ before + most_steps (meaning_of e)))
+    ⊎ ((e : Equations) × AreEquationsOf p e × StepsWithin e before after)

@@ -25,11 +25,11 @@ abbrev pub Ends : Lowered → List (List ℕ) → Bool → ℕ → ℕ → Spars
 Ends p names with_values before after outcome =
     (e : Equations) × AreEquationsOf p e × Gives names with_values e before after outcome
 
--- nothing was evaluated, or at most once each node, and besides as often as values can rise along the
--- dependencies into it
+-- nothing was evaluated; or there are no more dependencies than are kept, and as many evaluations at
+-- most as there are nodes, and besides the height for each dependency
 abbrev pub ServesWithin : Equations → ℕ → ℕ → Type 0
 ServesWithin e before after = (after ≡ before)
-    ⊎ ((rows : List (List (ℕ × ℕ))) × AreDependencies (meaning_of e) rows
+    ⊎ ((rows : List (List (ℕ × ℕ))) × AreDependencies (meaning_of e) rows × (total rows ≤ most_dependencies)
     × (after ≤ before + all_evaluations (meaning_of e) (held rows)))
 
 abbrev pub IsServed : Lowered → ℕ → ℕ → Type 0

@@ -1,11 +1,9 @@
 //! The report of a lowered program by the dense engine.
-ghost use Rattle.std.specs.Prelude.{◌≤◌, ◌+◌, IfOk};
-ghost use Rattle.sp_lattice.specs.Bound.{most_steps};
+ghost use Rattle.std.specs.Prelude.{IfOk};
 ghost use Rattle.sp_ir.specs.Programs.{lowered_of};
 ghost use Rattle.sp_ir.specs.Formed.{IsFormed};
-ghost use Rattle.sp_transfer.specs.Equations.{meaning_of};
 ghost use Rattle.sp_defuse.specs.Program.{equations_in};
-ghost use Rattle.sp_analysis.specs.Outcomes.{Gives, Ends, IsStepped};
+ghost use Rattle.sp_analysis.specs.Outcomes.{Gives, Ends, StepsWithin, IsStepped};
 
 use crate::reports::report_on;
 use sp_defuse::CProgram;
@@ -38,8 +36,9 @@ fn solve<L: Ledger>(
     ensures gives { IfOk result (Gives names.now with_values
         (equations_in program.now)
         steps.old steps.new) }
-    ensures bound { steps.new ≤ steps.old + most_steps (meaning_of
-        (equations_in program.now)) }
+    ensures bound { StepsWithin
+        (equations_in program.now)
+        steps.old steps.new }
 {
     match solve_dense(alloc, program, steps) {
         Ok(table) => {

@@ -44,8 +44,8 @@ impl From<AllocError> for DenseError {
 /// The least solution of the dense equations of `system`, with the inputs of its nodes.
 ///
 /// `TooLarge` comes exactly where the nodes times the locations are more than [`MOST_CELLS`], with that
-/// product. With N nodes, P locations and height H at most N * (1 + N * P * H) evaluations are counted,
-/// also where memory is wanted.
+/// product; then nothing is evaluated, also where memory is wanted. With N nodes, P locations and height H
+/// at most N * (1 + N * P * H) evaluations are counted, also where memory is wanted.
 pub fn solve_dense<S: System, L: Ledger>(
     alloc: Global,
     system: &S,
@@ -55,6 +55,7 @@ pub fn solve_dense<S: System, L: Ledger>(
     ensures fits { OnOk result (cells (S.meaning system.now) ≤ most_cells) }
     ensures refused { IfErr result (IsCause (S.meaning system.now) steps.old steps.new) }
     ensures bound { steps.new ≤ steps.old + most_steps (S.meaning system.now) }
+    ensures untouched { most_cells < cells (S.meaning system.now) → steps.new ≡ steps.old }
 {
     let cells = u64::from(system.nodes()) * u64::from(system.locations());
     if cells > MOST_CELLS {

@@ -6,7 +6,7 @@ use Rattle.sp_tree.specs.declared.token.Punct.TheVariants.{Plus, Minus, Less, Le
 use Rattle.sp_tree.specs.declared.fault.Place.{Place}
 use Rattle.sp_types.specs.declared.ctype.IntKind.{IntKind}
 use Rattle.sp_types.specs.declared.ctype.IntKind.TheVariants.{Int}
-use Rattle.sp_types.specs.Types.{CType, integer, pointer, array, structure, function}
+use Rattle.sp_types.specs.Types.{CType, void, integer, pointer, array, structure, function}
 use Rattle.sp_types.specs.Typed.{Typed, of, place_of, mark_of}
 use Rattle.sp_types.specs.Arithmetic.{promoted_kind, common_kind}
 use Rattle.sp_ir.specs.Commands.{Expression, number, address, decay, read, convert, unary, binary, compare, move, distance, Lvalue, direct, through, field, assign}
@@ -42,8 +42,9 @@ abbrev pub struct_loaded : Context → CType → Lvalue → Expression
 struct_loaded c t l = if size_of c.structs t == 0 then addressed c (pointer t) l else read l
 
 -- the value of an lvalue of this type: that of an array is its first element's address, that of a
--- function its own (C90 6.2.2.1)
+-- function its own (C90 6.2.2.1). What `extern void x;` declares has none; unused its address is left
 abbrev pub loaded : Context → CType → Lvalue → Expression
+loaded c void l = addressed c (pointer void) l
 loaded c (array t n) l = decayed c (pointer t) l
 loaded c (function s) l = addressed c (pointer (function s)) l
 loaded c (structure n) l = struct_loaded c (structure n) l

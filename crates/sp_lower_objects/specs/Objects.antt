@@ -13,8 +13,8 @@ use Rattle.sp_ir.specs.declared.program.ObjectKind.TheVariants as kinds
 use Rattle.sp_ir.specs.Commands.{Leaf}
 use Rattle.sp_ir.specs.Programs.{Object}
 use Rattle.sp_draft.specs.Context.{Context, has_pointer, is_void, object_type}
-use Rattle.sp_draft.specs.Draft.{Draft, Site}
-use Rattle.sp_draft.specs.Expressions.{operand, value_of}
+use Rattle.sp_draft.specs.Draft.{Site}
+use Rattle.sp_lower_starts.specs.Starts.{start_value}
 use Rattle.sp_lower_bodies.specs.Frames.{Initial, known_initial}
 use Rattle.sp_lower_functions.specs.Functions.{Part}
 use Rattle.sp_lower_objects.specs.Codes.{part_at, number_in}
@@ -57,16 +57,12 @@ abbrev pub texts_behind : Storage → ℕ → ℕ
 texts_behind storage.Text texts = texts + 1
 texts_behind s texts = texts
 
--- no node yet
-abbrev pub empty : Draft
-empty = record { nodes = []; edges = []; loose = []; temporaries = []; sites = [] }
-
 -- the start values of a static object: constants, which have no nodes (C90 6.5.7)
 abbrev pub start_leaf : Context → ℕ → ℕ × Typed → Leaf
 start_leaf c cell e = record {
   number = e.0;
   cell = cell;
-  value = (value_of (operand c e.1) empty).pure;
+  value = start_value c e.1;
 }
 
 -- from the value of number n on, with the cells of all

@@ -37,10 +37,10 @@ ghost use Rattle.sp_lower_objects.specs.Seen.{seen_function};
 use crate::codes::number_in;
 use crate::naming::{local_name, name_at, string_name};
 use crate::owners::mark_at;
-use sp_draft::{Draft, Scope};
+use sp_draft::Scope;
 use sp_ir::{Leaf, Object, ObjectKind};
 use sp_lower_bodies::Initial;
-use sp_lower_expr::value;
+use sp_lower_starts::start_value;
 use sp_tree::Names;
 use sp_types::{CType, FunctionDef, ObjectDef, Storage, TypedExpr};
 use std::alloc::{AllocError, Global};
@@ -81,19 +81,10 @@ fn start_leaf(scope: &Scope<'_>, cell: u32, start: &(u64, TypedExpr)) -> Result<
     ensures { IfOk result (λ l. leaf_of l ≡
         start_leaf (context_of scope.now) cell (start.now.0, typed_of start.now.1)) }
 {
-    let alloc = scope.alloc;
-    let mut draft = Draft {
-        nodes: Vec::new(alloc),
-        edges: Vec::new(alloc),
-        loose: Vec::new(alloc),
-        temporaries: Vec::new(alloc),
-        sites: Vec::new(alloc),
-    };
-    let value = value(scope, &mut draft, None, &start.1)?;
     Ok(Leaf {
         number: start.0,
         cell,
-        value,
+        value: start_value(scope, &start.1)?,
     })
 }
 

@@ -69,7 +69,7 @@ fn decayed(scope: &Scope<'_>, of: CType, place: Lvalue) -> Result<Expr, AllocErr
 }
 
 /// The value of an lvalue of this type: that of an array is its first element's address, that of a
-/// function its own. A struct that isn't complete has none; its address is left.
+/// function its own. A struct that isn't complete has none, and neither has void; the address is left.
 pub fn loaded(scope: &Scope<'_>, of: &CType, place: Lvalue) -> Result<Expr, AllocError>
     ensures { IfOk result (λ v. expression_of v ≡
         loaded (context_of scope.now) (type_of of.now) (lvalue_of place)) }
@@ -79,7 +79,7 @@ pub fn loaded(scope: &Scope<'_>, of: &CType, place: Lvalue) -> Result<Expr, Allo
             let pointer = CType::pointer(scope.alloc, element.copy(scope.alloc)?)?;
             decayed(scope, pointer, place)
         }
-        CType::Function(_) => {
+        CType::Function(_) | CType::Void => {
             let pointer = CType::pointer(scope.alloc, of.copy(scope.alloc)?)?;
             addressed(scope, pointer, place)
         }
@@ -91,7 +91,7 @@ pub fn loaded(scope: &Scope<'_>, of: &CType, place: Lvalue) -> Result<Expr, Allo
                 Ok(Expr::read(place))
             }
         }
-        CType::Void | CType::Int(_) | CType::Float(_) | CType::Pointer(_) => Ok(Expr::read(place)),
+        CType::Int(_) | CType::Float(_) | CType::Pointer(_) => Ok(Expr::read(place)),
     }
 }
 

@@ -1,25 +1,19 @@
 //! Sparrow's program: a static analyser for C.
 //!
-//! The words of the command line go in; a report, a refusal or the usage line comes out, and an exit status. The top call
-//! is `run` of `command.rt`, over any files, any sink and any counter of steps. Its contract (`specs/Run.antt`) says of
-//! each status what was read and written, where the report is that of the dense least solution of the text's program
-//! (`HasReport` of `specs/Answers.antt`), not what the code computes. `main` makes the real files, standard output and the
-//! words, and calls it.
+//! The words of the command line go in. A report, a refusal or the usage line comes out, and an exit
+//! status. `main` makes the real files, standard output and the words, and calls `run` of `sp_run`,
+//! whose contract says what each status means.
 #![tactic(auto)]
 
-mod analysis;
-mod command;
-mod reading;
-mod refusals;
-mod status;
+ghost use Rattle.std.specs.Prelude.{◌≡◌, ◌≢◌, ◌<◌, ◌≤◌, ℕ, List, [], Some, length};
+ghost use Rattle.std.specs.List.{Contains};
+ghost use Rattle.sp_outside.specs.Told.{missing};
+ghost use Rattle.sp_words.specs.Words.{Asked, fits};
+ghost use Rattle.sp_run.specs.Run.{Ends, IsWhole, bytes_of, exit_status};
 
-ghost use Rattle.std.specs.Prelude.{◌≡◌, ◌≢◌, ◌<◌};
-ghost use Rattle.sparrow.specs.Run.{Ends, bytes_of, exit_status};
-
-use crate::command::run;
-use crate::status::Status;
 use sp_lattice::Steps;
 use sp_outside::{Files, HostFiles, HostSink, Sink};
+use sp_run::{Status, run};
 use std::alloc::{AllocError, Global};
 use std::env;
 use std::marker::Brand;
@@ -29,7 +23,8 @@ use std::sync::ledger::{Blank, Ledger};
 /// The status where the runtime doesn't give the words.
 const NO_WORDS: u8 = 7;
 
-/// Runs with a counter of steps that stands at 0.
+/// Runs with a counter of steps that stands at 0, and gives the exit status of `run`'s end. What `run` says
+/// of files and sink that fail nowhere holds here too.
 fn run_counted<F: Files, W: Sink, L: Ledger>(
     alloc: Global,
     words: &[String],
@@ -45,7 +40,14 @@ fn run_counted<F: Files, W: Sink, L: Ledger>(
         (record { asked = F.asked files.new; begun = F.begun files.new; at = F.at files.new; read_faults = F.faults files.new; written = W.written out.new; write_faults = W.faults out.new })
         status
         × (status ≢ Status.ReadFault → F.faults files.new ≡ F.faults files.old)
-        × (status ≢ Status.WriteFault → W.faults out.new ≡ W.faults out.old) }
+        × (status ≢ Status.WriteFault → W.faults out.new ≡ W.faults out.old)
+        × (F.failing files.old ≡ Some [] →
+        ((request : Asked) → fits (bytes_of words.now) ≡ Some request → (name : List ℕ) →
+        Contains request.files name → F.text_of files.old name ≢ missing) →
+        status ≢ Status.ReadFault)
+        × (W.failing out.old ≡ Some [] → (left : ℕ) → W.room out.old ≡ Some left →
+        ((bytes : List ℕ) → IsWhole (bytes_of words.now) (F.text_of files.old) bytes →
+        length bytes ≤ left) → status ≢ Status.WriteFault) }
 {
     let mut steps = Steps::<L>::new(blank);
     run(alloc, words, files, out, &mut steps).code()

@@ -1,0 +1,191 @@
+-- What a rule does to an environment leaves it formed.
+use Rattle.std.proofs.Common.{ℕ, ◌≤◌, ℤ, Bool, true, false, length, List, [], ◌∷◌, ◌++◌, Option, Some, None, if◌then◌else◌, refl, arith}
+use Rattle.std.specs.Prelude.{slice_set}
+use Rattle.sp_tree.specs.declared.fault.Place.{Place}
+use Rattle.sp_types.specs.Types.{CType, Signature}
+use Rattle.sp_types.specs.Structs.{IsFormed, IsFormedSignature}
+use Rattle.sp_types.specs.Programs.{Object, Function}
+use Rattle.sp_types.specs.declared.program.Linkage.{Linkage}
+use Rattle.sp_types.specs.declared.program.Linkage.TheVariants.{External, Internal, Inner}
+use Rattle.sp_tree.specs.declared.fault.FaultKind.TheVariants.{F9}
+use Rattle.sp_operands.specs.Answers.{accepted, refused}
+use Rattle.sp_scopes.specs.declared.meaning.Tag.{Tag}
+use Rattle.sp_scopes.specs.Meanings.{Meaning}
+use Rattle.sp_scopes.specs.Scopes.{Scope, Scopes, entry}
+use Rattle.sp_scopes.specs.Scopes as scopes
+use Rattle.sp_units.specs.Units.{Typing}
+use Rattle.sp_env.specs.declared.env.Entity.{Entity}
+use Rattle.sp_env.specs.Env.{Env, unit_start, entered, left, with_tag, is_same_entity, declared_beside, declared, with_link, with_object, set_object, with_function, set_function, typed_by, with_function_type, with_constant, with_typings, typings_with, with_typing}
+use Rattle.sp_unit_laws.proofs.Lists.{Each, each_none, each_first, each_behind, each_pushed, each_set, each_changed, each_inserted, pushed_length, set_length}
+use Rattle.sp_unit_laws.proofs.Envs.{IsMeant, AreMeant, IsFormedObject, IsFormedFunction, below_more, IsFormedEnv, Goes, goes_nowhere}
+use Rattle.sp_unit_laws.proofs.After.{Leads, leads, leads_none}
+
+pub start_formed : IsFormedEnv unit_start
+start_formed = record {
+  table = λ k s at. absurd (cc);
+  objects = λ k o at. absurd (cc);
+  functions = λ k f at. absurd (cc);
+  typings = λ k t at. absurd (cc);
+  inner = λ k n at. absurd (cc);
+  around = λ k s at. absurd (cc);
+}
+
+module _ (env : Env) (h : IsFormedEnv env) where
+  -- ---- scopes
+
+  pub goes_entered : Goes env (entered env)
+  goes_entered = record {
+    formed = record {
+      table = h.table;
+      objects = h.objects;
+      functions = h.functions;
+      typings = h.typings;
+      inner = each_none (λ n. IsMeant env.tables.structs n.1);
+      around = each_first (λ s. AreMeant env.tables.structs s.names) env.scopes.inner env.scopes.around h.inner h.around;
+    };
+    keeps = (goes_nowhere env h).keeps;
+  }
+
+  pub goes_left : Goes env (left env)
+  goes_left = by env.scopes.around h.around
+    where
+      by : (around : List Scope) → Each (λ s. AreMeant env.tables.structs s.names) around → Goes env (record env { scopes = scopes.left_to env.scopes around })
+      by [] f = goes_nowhere env h
+      by (s ∷ ss) f = record {
+        formed = record {
+          table = h.table;
+          objects = h.objects;
+          functions = h.functions;
+          typings = h.typings;
+          inner = f 0 s refl;
+          around = each_behind (λ s. AreMeant env.tables.structs s.names) s ss f;
+        };
+        keeps = (goes_nowhere env h).keeps;
+      }
+
+  pub goes_tagged : (n : ℕ) (t : Tag) → Goes env (with_tag env n t)
+  goes_tagged n t = record {
+    formed = record { table = h.table; objects = h.objects; functions = h.functions; typings = h.typings; inner = h.inner; around = h.around };
+    keeps = (goes_nowhere env h).keeps;
+  }
+
+  goes_named : (n : ℕ) (m : Meaning) → IsMeant env.tables.structs m → Goes env (record env { scopes = scopes.with_name env.scopes n m })
+  goes_named n m p = record {
+    formed = record {
+      table = h.table;
+      objects = h.objects;
+      functions = h.functions;
+      typings = h.typings;
+      inner = each_inserted (IsMeant env.tables.structs) env.scopes.inner.names n m h.inner p;
+      around = h.around;
+    };
+    keeps = (goes_nowhere env h).keeps;
+  }
+
+  pub leads_declared : (n : ℕ) (m : Meaning) (p : Place) → IsMeant env.tables.structs m → Leads env (declared env n m p)
+  leads_declared n m p meant = by (entry env.scopes.inner.names n)
+    where
+      same : (b : Bool) → Leads env (if b then accepted env else refused F9 p)
+      same true = leads (goes_nowhere env h)
+      same false = leads_none
+
+      by : (o : Option Meaning) → Leads env (declared_beside env n m p o)
+      by None = leads (goes_named n m meant)
+      by (Some old) = same (is_same_entity old m)
+
+  -- ---- tables
+
+  pub goes_linked : (n : ℕ) (e : Entity) → Goes env (with_link env n e)
+  goes_linked n e = record {
+    formed = record { table = h.table; objects = h.objects; functions = h.functions; typings = h.typings; inner = h.inner; around = h.around };
+    keeps = (goes_nowhere env h).keeps;
+  }
+
+  pub goes_constant : (z : ℤ) → Goes env (with_constant env z)
+  goes_constant z = record {
+    formed = record { table = h.table; objects = h.objects; functions = h.functions; typings = h.typings; inner = h.inner; around = h.around };
+    keeps = record { longer = omega arith; closed = λ k s at l. at; objects = omega arith };
+  }
+
+  more_objects : (n : ℕ) → length env.tables.objects ≤ n → Each (λ f. IsFormedFunction env.tables.structs n f) env.tables.functions
+  more_objects n l = λ k f at.
+      ((h.functions k f at).0, below_more (length env.tables.objects) n f.formals l (h.functions k f at).1, below_more (length env.tables.objects) n f.locals l (h.functions k f at).2)
+
+  pub goes_object : (o : Object) → IsFormedObject env.tables.structs o → Goes env (with_object env o)
+  goes_object o p = record {
+    formed = record {
+      table = h.table;
+      typings = h.typings;
+      inner = h.inner;
+      around = h.around;
+      functions = more_objects (length (env.tables.objects ++ o ∷ [])) (omega (arith, pushed_length env.tables.objects o));
+      objects = each_pushed (λ o. IsFormedObject env.tables.structs o) env.tables.objects o h.objects p;
+    };
+    keeps = record { longer = omega arith; closed = λ k s at l. at; objects = omega (arith, pushed_length env.tables.objects o) };
+  }
+
+  pub goes_object_set : (k : ℕ) (o : Object) → IsFormedObject env.tables.structs o → Goes env (set_object env k o)
+  goes_object_set k o p = record {
+    formed = record {
+      table = h.table;
+      typings = h.typings;
+      inner = h.inner;
+      around = h.around;
+      functions = more_objects (length (slice_set env.tables.objects k o)) (omega (arith, set_length env.tables.objects k o));
+      objects = each_set (λ o. IsFormedObject env.tables.structs o) env.tables.objects k o h.objects p;
+    };
+    keeps = record { longer = omega arith; closed = λ k s at l. at; objects = omega (arith, set_length env.tables.objects k o) };
+  }
+
+  pub goes_function : (f : Function) → IsFormedFunction env.tables.structs (length env.tables.objects) f → Goes env (with_function env f)
+  goes_function f p = record {
+    formed = record {
+      table = h.table;
+      objects = h.objects;
+      typings = h.typings;
+      inner = h.inner;
+      around = h.around;
+      functions = each_pushed (λ f. IsFormedFunction env.tables.structs (length env.tables.objects) f) env.tables.functions f h.functions p;
+    };
+    keeps = record { longer = omega arith; closed = λ k s at l. at; objects = omega arith };
+  }
+
+  pub goes_function_set : (k : ℕ) (f : Function) → IsFormedFunction env.tables.structs (length env.tables.objects) f → Goes env (set_function env k f)
+  goes_function_set k f p = record {
+    formed = record {
+      table = h.table;
+      objects = h.objects;
+      typings = h.typings;
+      inner = h.inner;
+      around = h.around;
+      functions = each_set (λ f. IsFormedFunction env.tables.structs (length env.tables.objects) f) env.tables.functions k f h.functions p;
+    };
+    keeps = record { longer = omega arith; closed = λ k s at l. at; objects = omega arith };
+  }
+
+  pub goes_function_typed : (k : ℕ) (s : Signature) → IsFormedSignature env.tables.structs s → Goes env (with_function_type env k s)
+  goes_function_typed k s p = record {
+    formed = record {
+      table = h.table;
+      objects = h.objects;
+      typings = h.typings;
+      inner = h.inner;
+      around = h.around;
+      functions = each_changed (λ f. IsFormedFunction env.tables.structs (length env.tables.objects) f) (typed_by s) env.tables.functions k h.functions (λ f g. (p, g.1, g.2));
+    };
+    keeps = record { longer = omega arith; closed = λ k s at l. at; objects = omega arith };
+  }
+
+  pub goes_typings : (ts : List Typing) → Each (λ t. IsFormed env.tables.structs t.of) ts → Goes env (with_typings env ts)
+  goes_typings ts p = record {
+    formed = record { table = h.table; objects = h.objects; functions = h.functions; typings = p; inner = h.inner; around = h.around };
+    keeps = record { longer = omega arith; closed = λ k s at l. at; objects = omega arith };
+  }
+
+  pub typings_more : (l : Linkage) (t : Typing) → IsFormed env.tables.structs t.of → Each (λ t. IsFormed env.tables.structs t.of) (typings_with env.tables.typings l t)
+  typings_more External t p = each_pushed (λ t. IsFormed env.tables.structs t.of) env.tables.typings t h.typings p
+  typings_more Internal t p = h.typings
+  typings_more Inner t p = h.typings
+
+  pub goes_typing : (l : Linkage) (n : ℕ) (t : CType) (p : Place) → IsFormed env.tables.structs t → Goes env (with_typing env l n t p)
+  goes_typing l n t p f = goes_typings (typings_with env.tables.typings l (record { name = n; of = t; place = p })) (typings_more l (record { name = n; of = t; place = p }) f)
