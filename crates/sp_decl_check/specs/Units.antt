@@ -8,7 +8,7 @@ use Rattle.sp_labels.specs.Repeats.{where_none}
 use Rattle.sp_mentions.specs.Undefined.{undefined_function}
 use Rattle.sp_units.specs.Units.{CheckedUnit}
 use Rattle.sp_decl_check.specs.Definitions.{externals_checked}
-use Rattle.sp_decl_check.specs.Tentative.{open_tentative}
+use Rattle.sp_tentative.specs.Tentative.{open_tentative}
 
 abbrev pub checked_unit : Tables → List ℕ → CheckedUnit
 checked_unit t ns = record { structs = t.structs; objects = t.objects; functions = t.functions; constants = t.constants; definitions = ns; typings = t.typings }

@@ -15,7 +15,6 @@
 #![tactic(auto)]
 
 mod definitions;
-mod tentative;
 mod unit;
 
 pub use unit::check_unit;

@@ -7,11 +7,11 @@ ghost use Rattle.sp_units.specs.Units.{checked_unit_of};
 ghost use Rattle.sp_decl_check.specs.Units.{unit_told, unit_checked};
 
 use crate::definitions::externals_checked;
-use crate::tentative::open_tentative;
 use sp_env::Env;
 use sp_mentions::undefined_function;
 use sp_operands::{CheckError, fault};
 use sp_syntax::{External, Unit};
+use sp_tentative::open_tentative;
 use sp_tree::{FaultKind, Names};
 use sp_units::CheckedUnit;
 use std::alloc::Global;

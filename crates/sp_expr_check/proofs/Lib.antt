@@ -1,4 +1,1 @@
-pub mod Arguments
-pub mod Braces
-pub mod Lists
 pub mod Places

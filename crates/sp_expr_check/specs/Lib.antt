@@ -1,5 +1,4 @@
-pub mod Expressions
-pub mod Parameters
-pub mod Resuming
-pub mod Specifiers
-pub mod SyntaxView
+pub use Rattle.sp_expr_steps.specs.Expressions
+pub use Rattle.sp_expr_steps.specs.Parameters
+pub use Rattle.sp_expr_steps.specs.Specifiers
+pub use Rattle.sp_expr_steps.specs.SyntaxView

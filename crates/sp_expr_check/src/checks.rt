@@ -4,7 +4,7 @@ ghost use Rattle.sp_types.specs.View.{type_of};
 ghost use Rattle.sp_types.specs.TypedView.{typed_of};
 ghost use Rattle.sp_operands.specs.Answers.{AnswersIn};
 ghost use Rattle.sp_env.specs.Views.{env_of};
-ghost use Rattle.sp_expr_check.specs.Expressions.{value_checked, declared_type, specifiers_checked};
+ghost use Rattle.sp_expr_steps.specs.Expressions.{value_checked, declared_type, specifiers_checked};
 
 use crate::expressions::{declared_type, specifiers_checked, value_checked};
 use sp_env::Env;

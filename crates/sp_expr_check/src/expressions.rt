@@ -18,8 +18,8 @@ ghost use Rattle.sp_rules.specs.Rules.{told};
 ghost use Rattle.sp_env.specs.Declaring.{LeadsTo};
 ghost use Rattle.sp_env.specs.Views.{env_of};
 ghost use Rattle.sp_type_rules.specs.DerivationView.{derivation_of, parameters_seen};
-ghost use Rattle.sp_expr_check.specs.Parameters.{params_of, is_alone_in};
-ghost use Rattle.sp_expr_check.specs.SyntaxView.{
+ghost use Rattle.sp_expr_steps.specs.Parameters.{params_of, is_alone_in};
+ghost use Rattle.sp_expr_steps.specs.SyntaxView.{
   form_of,
   declarator_form_of,
   struct_spec_of,
@@ -27,7 +27,7 @@ ghost use Rattle.sp_expr_check.specs.SyntaxView.{
   init_declarator_of,
 };
 ghost use Rattle.sp_operands.specs.Balances.{members_seen};
-ghost use Rattle.sp_expr_check.specs.Expressions.{
+ghost use Rattle.sp_expr_steps.specs.Expressions.{
   checked,
   value_checked,
   form_checked,
@@ -61,24 +61,18 @@ ghost use Rattle.sp_expr_check.specs.Expressions.{
   one_checked,
 };
 
-use crate::specifiers::{
-    enumerator_told, is_alone_in, member_added, names_type, param_told, struct_opened, told_types,
-};
-use sp_constants::constant;
 use sp_env::Env;
+use sp_expr_steps::{
+    is_alone_in, length_told, member_added, names_type, next_enumerator, param_told, size_of_type,
+    size_of_value, struct_opened, told_types,
+};
 use sp_member_rules::{
     completed, declared_name, enumerator, has_parameter_storage, is_lone_void, reserved,
     with_enum_tag,
 };
-use sp_names::{
-    character_checked, implicit_name, name_checked, number_checked, size_checked, text_checked,
-};
+use sp_names::{character_checked, implicit_name, name_checked, number_checked, text_checked};
 use sp_operands::{CheckError, fault, value};
-use sp_rules::{
-    argument_at, arrow_taken, assign, binary, called, called_signature, cast_to, choice, indexed,
-    length_given, member_taken, not_floating, stepped_after, takes_object, unary_object,
-    unary_value,
-};
+use sp_rules::{assign, binary, cast_to, choice, not_floating};
 use sp_syntax::{
     Declaration, Declarator, DeclaratorForm, EnumSpec, Expr, ExprForm, InitDeclarator, Param,
     Specifier, StructSpec, TypeName,
@@ -86,6 +80,10 @@ use sp_syntax::{
 use sp_tree::{FaultKind, Names, Place};
 use sp_type_rules::{Derivation, enum_referred, made, named_checked, struct_referred, words_type};
 use sp_types::{CType, IntKind, Signature, TypedExpr};
+use sp_unary_rules::{
+    argument_at, arrow_taken, called, called_signature, indexed, member_taken, stepped_after,
+    takes_object, unary_object, unary_value,
+};
 use std::alloc::Global;
 
 /// An expression as it stands.
@@ -217,11 +215,11 @@ fn operation(
         }
         ExprForm::SizeofExpr(e) => {
             let e = checked(alloc, env, names, e)?;
-            size_checked(env, place, mark, e.of())
+            size_of_value(env, place, mark, e)
         }
         ExprForm::SizeofType(t) => {
             let of = type_name_checked(alloc, env, names, t)?;
-            size_checked(env, place, mark, &of)
+            size_of_type(env, place, mark, of)
         }
         ExprForm::Cast(t, e) => {
             let to = type_name_checked(alloc, env, names, t)?;
@@ -451,9 +449,7 @@ fn length_checked(
         (length_checked names.now (env_of env.old) (tree_of length.now)) (env_of env.new) result }
 {
     let value = value_checked(alloc, env, names, length)?;
-    let number = length_given(constant(&value), length.place)?;
-    env.add_constant(number as i128)?;
-    Ok(number)
+    length_told(env, value, length.place)
 }
 
 /// The parameters of a declarator of a function, where it tells them (C90 6.5.4.3).
@@ -761,7 +757,7 @@ fn constant_checked(
         Some(value) => {
             let at = value.place;
             let value = value_checked(alloc, env, names, value)?;
-            Ok(Some(enumerator_told(env, &value, at, name, place)?))
+            next_enumerator(env, value, at, name, place)
         }
     }
 }

@@ -6,17 +6,18 @@
 //! out. It walks the tree from left to right. Strings, constants and functions that are declared by
 //! their call go to the tables on the way. [`check_specifiers`] and [`check_declarator`] give the
 //! types that specifiers and declarators name. Each form of tree has one rule, which stands below
-//! (`sp_rules`, `sp_names`, `sp_type_rules`, `sp_member_rules`): here are the calls that walk.
+//! (`sp_rules`, `sp_unary_rules`, `sp_names`, `sp_type_rules`, `sp_member_rules`, `sp_expr_steps`):
+//! here are the calls that walk.
 //!
 //! So for `char *p` the expression `*p + 1` is, without places, `binary + (convert (unary * p) int)
 //! 1` of type `int`; on `p + q`, with two pointers, it is the fault F14 at `p`.
 //!
 //! The layer above uses one contract: each call answers exactly what the definition of its name in
-//! `specs/Expressions.antt` gives, or its fault at its place; where memory runs out it says nothing.
+//! `specs/Expressions.antt` of `sp_expr_steps` gives, or its fault at its place; where memory runs
+//! out it says nothing.
 #![tactic(auto)]
 
 mod checks;
 mod expressions;
-mod specifiers;
 
 pub use checks::{check_declarator, check_expression, check_specifiers};

@@ -7,6 +7,9 @@
 //! `refused` with a kind of fault and its place. Each call here `Answers` (`sp_operands`) exactly
 //! that, unless memory runs out.
 //!
+//! The definitions of all forms are here. The calls are those of casts, operators between operands,
+//! assignments and arrays; `sp_unary_rules` has the others.
+//!
 //! So `binary` on `p` and `1`, where `p` points to `int`, takes the balance of `+`: the pointer
 //! stays, the integer stays, and the whole is a pointer to `int` (6.3.6). On a pointer to `void` it
 //! is the fault F14 at the place of the whole.
@@ -15,9 +18,5 @@
 mod lengths;
 mod rules;
 
-pub use lengths::{argument_at, length_given, made_array};
-pub use rules::{
-    addressed, argument, arrow_taken, assign, binary, called, called_signature, callee_type,
-    cast_to, choice, followed, indexed, is_modifiable, member_taken, not_floating, stepped_after,
-    takes_object, unary_object, unary_value,
-};
+pub use lengths::{length_given, made_array};
+pub use rules::{assign, binary, cast_to, choice, is_modifiable, not_floating};

@@ -14,7 +14,7 @@ use Rattle.sp_mentions.specs.Undefined.{undefined_function}
 use Rattle.sp_statement_rules.specs.Blocks.{locals_in}
 use Rattle.sp_heads.specs.Heads.{Head}
 use Rattle.sp_decl_check.specs.Definitions.{defined, body_set, with_body, definition_checked, external_checked, externals_checked}
-use Rattle.sp_decl_check.specs.Tentative.{open_tentative}
+use Rattle.sp_tentative.specs.Tentative.{open_tentative}
 use Rattle.sp_decl_check.specs.Units.{checked_unit, unit_told}
 use Rattle.sp_unit_laws.specs.Units.{IsFormedUnit, UnitsAreFormed}
 use Rattle.sp_unit_laws.proofs.Envs.{IsFormedEnv, Goes, goes_nowhere, goes_on}

@@ -5,7 +5,7 @@ use Rattle.std.proofs.lemmas.Result.{err_from_is_err_and}
 use Rattle.sp_syntax.specs.View.{external_of, externals_of}
 use Rattle.sp_operands.specs.Answers.{and_then, AnswersIn}
 use Rattle.sp_env.specs.Views.{env_of}
-use Rattle.sp_expr_check.proofs.Lists.{taken, ended, list_failed}
+use Rattle.sp_expr_steps.proofs.Lists.{taken, ended, list_failed}
 use Rattle.sp_decl_check.specs.Definitions.{externals_checked, external_checked}
 use Rattle.sp_decl_check.proofs.Lists.{first_external, no_external_left}
 use Rattle.sp_decl_check.proofs.definitions.externals_checked.Goals as goal

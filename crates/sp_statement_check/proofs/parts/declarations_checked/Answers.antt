@@ -5,8 +5,8 @@ use Rattle.std.proofs.lemmas.Result.{err_from_is_err_and}
 use Rattle.sp_syntax.specs.View.{declaration_of, declarations}
 use Rattle.sp_operands.specs.Answers.{and_then, AnswersIn}
 use Rattle.sp_env.specs.Views.{env_of}
-use Rattle.sp_expr_check.proofs.Braces.{first_declaration, no_declaration_left}
-use Rattle.sp_expr_check.proofs.Lists.{taken, ended, list_failed}
+use Rattle.sp_expr_steps.proofs.Braces.{first_declaration, no_declaration_left}
+use Rattle.sp_expr_steps.proofs.Lists.{taken, ended, list_failed}
 use Rattle.sp_statement_check.specs.Parts.{declarations_checked, one_declaration}
 use Rattle.sp_statement_check.proofs.parts.declarations_checked.Goals as goal
 

@@ -8,7 +8,7 @@ use Rattle.sp_types.specs.TypedView.{statement_of}
 use Rattle.sp_types.specs.declared.statement.TypedStatement.{TypedStatement as CodeStatement}
 use Rattle.sp_operands.specs.Answers.{and_then, AnswersIn}
 use Rattle.sp_env.specs.Views.{env_of}
-use Rattle.sp_expr_check.proofs.Lists.{taken, ended, list_failed}
+use Rattle.sp_expr_steps.proofs.Lists.{taken, ended, list_failed}
 use Rattle.sp_statement_rules.specs.View.{around_of}
 use Rattle.sp_statement_check.specs.Statements.{statements_checked, one_statement}
 use Rattle.sp_statement_check.proofs.Lists.{first_statement, no_statement_left}

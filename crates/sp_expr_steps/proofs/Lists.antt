@@ -1,7 +1,7 @@
 -- Parameters one after another.
 use Rattle.std.proofs.Common.{◌≡◌, ℕ, zero, suc, ◌<◌, ◌≤◌, Bool, List, [], ◌∷◌, length, map, drop, get_or, refl, ap, sym, ◌∙◌, arith}
 use Rattle.std.specs.Prelude.{Err, false, not, ◌≢◌}
-use Rattle.sp_expr_check.specs.Parameters.{is_alone, told_types}
+use Rattle.sp_expr_steps.specs.Parameters.{is_alone, told_types}
 use Rattle.sp_types.specs.View.{types}
 use Rattle.sp_tree.specs.declared.fault.FaultKind.{FaultKind}
 use Rattle.sp_tree.specs.declared.fault.Place.{Place}
@@ -13,7 +13,7 @@ use Rattle.sp_operands.specs.Answers.{Checked, accepted, refused, and_then, Answ
 use Rattle.sp_operands.specs.declared.error.CheckError.{CheckError}
 use Rattle.sp_operands.specs.declared.error.CheckError.TheVariants.{Fault as Faulty, NoMemory}
 use Rattle.sp_env.specs.Env.{Env}
-use Rattle.sp_expr_check.specs.Expressions.{params_checked, param_checked, list_checked, list_read}
+use Rattle.sp_expr_steps.specs.Expressions.{params_checked, param_checked, list_checked, list_read}
 
 -- a list of the code has one parameter, or another number of them
 pub one_alone : (xs : List CodeParam) (dots : Bool) → length xs ≡ 1 → is_alone (params (map param_of xs)) dots ≡ not dots

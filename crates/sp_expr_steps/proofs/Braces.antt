@@ -11,8 +11,8 @@ use Rattle.sp_syntax.specs.declared.tree.InitDeclarator.{InitDeclarator as CodeI
 use Rattle.sp_syntax.specs.declared.tree.StructSpec.{StructSpec as CodeStruct, out-StructSpec}
 use Rattle.sp_syntax.specs.declared.tree.EnumSpec.{EnumSpec as CodeEnum, out-EnumSpec}
 use Rattle.sp_syntax.specs.declared.tree.DeclaratorForm.TheFolds.{fold_out-Declaration, fold_out-StructSpec, fold_out-EnumSpec}
-use Rattle.sp_expr_check.specs.SyntaxView.{struct_spec_of, enum_spec_of, init_declarator_of}
-use Rattle.sp_expr_check.specs.Expressions.{declarations_in, constants_in, items_in}
+use Rattle.sp_expr_steps.specs.SyntaxView.{struct_spec_of, enum_spec_of, init_declarator_of}
+use Rattle.sp_expr_steps.specs.Expressions.{declarations_in, constants_in, items_in}
 
 -- a constant of the code, with its plain expression
 abbrev pub constant_seen : ℕ × Place × Option Expr → ℕ × Place × Option Expression

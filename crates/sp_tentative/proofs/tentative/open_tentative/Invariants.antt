@@ -1,8 +1,8 @@
 use Rattle.std.proofs.Common.{◌≡◌, drop}
 use Rattle.sp_syntax.specs.View.{externals_of}
 use Rattle.sp_env.specs.Views.{env_of}
-use Rattle.sp_decl_check.specs.Tentative.{open_tentative}
-use Rattle.sp_decl_check.proofs.tentative.open_tentative.Given as goal
+use Rattle.sp_tentative.specs.Tentative.{open_tentative}
+use Rattle.sp_tentative.proofs.tentative.open_tentative.Given as goal
 
 abbrev pub invariant-loop-external : goal.invariant-loop-external
 invariant-loop-external l =

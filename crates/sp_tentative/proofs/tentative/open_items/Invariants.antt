@@ -2,8 +2,8 @@ use Rattle.std.proofs.Common.{◌≡◌, map, drop}
 use Rattle.sp_syntax.specs.View.{init_declarators}
 use Rattle.sp_env.specs.Views.{env_of}
 use Rattle.sp_expr_check.specs.SyntaxView.{init_declarator_of}
-use Rattle.sp_decl_check.specs.Tentative.{open_items}
-use Rattle.sp_decl_check.proofs.tentative.open_items.Given as goal
+use Rattle.sp_tentative.specs.Tentative.{open_items}
+use Rattle.sp_tentative.proofs.tentative.open_items.Given as goal
 
 abbrev pub invariant-loop-item : goal.invariant-loop-item
 invariant-loop-item l =

@@ -1,4 +1,4 @@
-//! Tentative definitions.
+//! The places of tentative definitions.
 ghost use Rattle.std.specs.Prelude.{◌≡◌, map, option_map};
 ghost use Rattle.std.specs.Option.{option_copied};
 ghost use Rattle.sp_syntax.specs.View.{external_of, externals_of, init_declarators};
@@ -6,7 +6,7 @@ ghost use Rattle.sp_types.specs.View.{type_of, struct_of};
 ghost use Rattle.sp_env.specs.Views.{env_of};
 ghost use Rattle.sp_expr_check.specs.SyntaxView.{init_declarator_of};
 ghost use Rattle.sp_operands.specs.Conversions.{is_open_struct};
-ghost use Rattle.sp_decl_check.specs.Tentative as rules;
+ghost use Rattle.sp_tentative.specs.Tentative as rules;
 
 use sp_declarations::storage_class;
 use sp_env::{Entity, Env};
@@ -95,7 +95,7 @@ fn open_external(env: &Env, external: &External) -> Option<Place>
 }
 
 /// The same of a unit, where `env` is the environment at its end.
-pub(crate) fn open_tentative(env: &Env, externals: &[External]) -> Option<Place>
+pub fn open_tentative(env: &Env, externals: &[External]) -> Option<Place>
     ensures { result ≡ rules.open_tentative (env_of env.now) (externals_of externals.now) }
 {
     for external in externals {

@@ -11,12 +11,12 @@ use Rattle.sp_operands.specs.declared.error.CheckError.TheVariants.{Fault as Fau
 use Rattle.sp_operands.specs.Answers.{Checked, accepted, refused, and_then, AnswersIn}
 use Rattle.sp_env.specs.Env.{Env}
 use Rattle.sp_rules.specs.Rules.{behind, behind_by}
-use Rattle.sp_expr_check.specs.Expressions.{arguments_checked, one_checked}
+use Rattle.sp_expr_steps.specs.Expressions.{arguments_checked, one_checked}
 use Rattle.sp_syntax.specs.Syntax.{Expression, Expressions, no_expressions, next_expression}
 use Rattle.sp_syntax.specs.View.{tree_of, expressions}
 use Rattle.sp_syntax.specs.declared.tree.Expr.{Expr}
 use Rattle.std.proofs.Common.{◌<◌, ◌≤◌, arith, subst}
-use Rattle.sp_expr_check.specs.Resuming.{onto, resumed}
+use Rattle.sp_expr_steps.specs.Resuming.{onto, resumed}
 
 pub behind_next : (n : ℕ) (ts : CTypes) → behind (behind_by n ts) ≡ behind_by (suc n) ts
 behind_next zero no_types = refl

@@ -27,8 +27,8 @@ use Rattle.sp_names.specs.Names.{name_checked, implicit_name}
 use Rattle.sp_type_rules.specs.Tags.{named_checked, struct_referred, enum_referred}
 use Rattle.sp_type_rules.specs.Words.{words_type}
 use Rattle.sp_type_rules.specs.Derivations.{Derivation, to_pointer, to_array, to_function, made}
-use Rattle.sp_expr_check.specs.Parameters.{params_of, is_alone, is_alone_in, list_told, param_told}
-use Rattle.sp_expr_check.specs.Specifiers.{stays, names_type, struct_opened, member_added, enumerator_told}
+use Rattle.sp_expr_steps.specs.Parameters.{params_of, is_alone, is_alone_in, list_told, param_told}
+use Rattle.sp_expr_steps.specs.Specifiers.{stays, names_type, struct_opened, member_added, enumerator_told}
 
 -- 6.3.2.2: a name that is called and not declared is declared by the call
 abbrev pub with_implicit : List (List ℕ) → Env → Expression → Checked Env

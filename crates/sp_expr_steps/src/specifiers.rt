@@ -12,15 +12,15 @@ ghost use Rattle.sp_operands.specs.Answers.{Answers, AnswersIn};
 ghost use Rattle.sp_operands.specs.Balances.{members_seen};
 ghost use Rattle.sp_env.specs.Views.{env_of};
 ghost use Rattle.sp_type_rules.specs.DerivationView.{parameters_seen};
-ghost use Rattle.sp_expr_check.specs.Parameters.{
+ghost use Rattle.sp_expr_steps.specs.Parameters.{
   params_of,
   is_alone,
   is_alone_in,
   told_types,
   param_told,
 };
-ghost use Rattle.sp_expr_check.specs.SyntaxView.{declarator_form_of};
-ghost use Rattle.sp_expr_check.specs.Specifiers.{
+ghost use Rattle.sp_expr_steps.specs.SyntaxView.{declarator_form_of};
+ghost use Rattle.sp_expr_steps.specs.Specifiers.{
   names_type,
   struct_opened,
   member_added,
@@ -40,7 +40,7 @@ use sp_types::{CType, StructType, TypedExpr};
 use std::alloc::Global;
 
 /// Whether a specifier names a type: it is no storage class and no qualifier.
-pub(crate) fn names_type(specifier: &Specifier) -> bool
+pub fn names_type(specifier: &Specifier) -> bool
     ensures { result ≡ names_type (specifier_of specifier.now) }
 {
     match specifier {
@@ -52,7 +52,7 @@ pub(crate) fn names_type(specifier: &Specifier) -> bool
 
 /// The number of the struct or the union whose members are about to be read: F11 where its tag is of
 /// another kind, or where the innermost scope has its members already, or is reading them.
-pub(crate) fn struct_opened(
+pub fn struct_opened(
     env: &mut Env,
     union: bool,
     tag: Option<u32>,
@@ -73,7 +73,7 @@ pub(crate) fn struct_opened(
 /// A member of this type behind the others: F13 and F14 stand at its declarator where its type isn't
 /// complete, or it has no name, F9 at its name where another member has it.
 #[tactic(auto, using(crate::proofs::Places::places))]
-pub(crate) fn member_added(
+pub fn member_added(
     structs: &[StructType],
     mut all: Vec<(u32, CType)>,
     of: CType,
@@ -117,7 +117,7 @@ pub(crate) fn enumerator_told(
 
 /// Puts the type of a parameter behind the others; a named one is declared in the innermost scope.
 #[tactic(auto, using(crate::proofs::Places::places))]
-pub(crate) fn param_told(
+pub fn param_told(
     alloc: Global,
     env: &mut Env,
     number: u32,
@@ -149,7 +149,7 @@ fn is_alone(params: &[Param], variadic: bool) -> bool
 }
 
 /// Whether the declarator of a function has one parameter, and no `...`.
-pub(crate) fn is_alone_in(form: &DeclaratorForm) -> bool
+pub fn is_alone_in(form: &DeclaratorForm) -> bool
     ensures { result ≡ is_alone_in (declarator_form_of form.now) }
 {
     match form {
@@ -172,7 +172,7 @@ fn told(params: &[Param], all: Vec<CType>) -> Option<Vec<CType>>
 }
 
 /// The types of the parameters of a declarator of a function.
-pub(crate) fn told_types(form: &DeclaratorForm, all: Vec<CType>) -> Option<Vec<CType>>
+pub fn told_types(form: &DeclaratorForm, all: Vec<CType>) -> Option<Vec<CType>>
     ensures { parameters_seen result ≡
         told_types (params_of (declarator_form_of form.now)) (map type_of all.items) }
 {

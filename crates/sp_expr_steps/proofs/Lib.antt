@@ -1,0 +1,4 @@
+pub mod Arguments
+pub mod Braces
+pub mod Lists
+pub mod Places

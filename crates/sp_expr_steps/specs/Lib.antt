@@ -1,0 +1,5 @@
+pub mod Expressions
+pub mod Parameters
+pub mod Resuming
+pub mod Specifiers
+pub mod SyntaxView
