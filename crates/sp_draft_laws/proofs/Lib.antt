@@ -1,0 +1,14 @@
+pub mod Growing
+pub mod Sorts
+pub mod Loads
+pub mod Keeps
+pub mod Branches
+pub mod Operators
+pub mod Members
+pub mod Plain
+pub mod Assignments
+pub mod Forms
+pub mod Choices
+pub mod Calls
+pub mod Trees
+pub mod Sounds

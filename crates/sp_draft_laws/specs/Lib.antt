@@ -1,0 +1,4 @@
+pub mod Stands
+pub mod Grown
+pub mod Uses
+pub mod Sound

@@ -1,0 +1,13 @@
+pub mod Places
+pub mod Owners
+pub mod Objects
+pub mod Locals
+pub mod Fits
+pub mod Statics
+pub mod Codes
+pub mod Whole
+pub mod Entities
+pub mod Nodes
+pub mod Shapes
+pub mod Outside
+pub mod Formed

@@ -1,0 +1,4 @@
+pub mod Types
+pub mod Operators
+pub mod Trees
+pub mod Statements

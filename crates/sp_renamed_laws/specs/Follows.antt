@@ -1,0 +1,47 @@
+-- When a program has what a unit of it names (C90 6.1.2.6, 6.7).
+use Rattle.std.specs.Prelude.{◌≡◌, ℕ, ◌<◌, true, List, [], ◌∷◌, length, Some, slice_get, ⊤, false}
+use Rattle.sp_types.specs.declared.extents.Extent.{Extent}
+use Rattle.sp_types.specs.Types.{CType, structure, Struct}
+use Rattle.sp_types.specs.Layout.{layout}
+use Rattle.sp_types.specs.Structs.{IsFormed}
+use Rattle.sp_types.specs.Programs.{Object}
+use Rattle.sp_ir.specs.Formed.{is_floating}
+use Rattle.sp_renaming.specs.Renaming.{Renaming, number_in, renamed_type}
+use Rattle.sp_typing.specs.Sorts.{agrees}
+use Rattle.sp_typing.specs.Trees.{Scene}
+use Rattle.sp_renamed_laws.specs.Refines.{Refines}
+
+-- the same names in the same order, with types of the sorts that those of the unit have
+abbrev pub AreMembers : List ℕ → List (ℕ × CType) → List (ℕ × CType) → Type 0
+AreMembers ns [] [] = ⊤
+AreMembers ns [] (w ∷ ws) = ⊥
+AreMembers ns (m ∷ ms) [] = ⊥
+AreMembers ns (m ∷ ms) (w ∷ ws) = (w.0 ≡ m.0)
+    × (is_floating m.1 ≡ false → agrees w.1 (renamed_type ns m.1) ≡ true) × AreMembers ns ms ws
+
+-- the struct of this number has them
+pub record HasMembers (ns : List ℕ) (ss : List Struct) (k : ℕ) (ms : List (ℕ × CType)) : Type 0 where
+  pub struct : Struct
+  pub members : List (ℕ × CType)
+  pub there : slice_get ss k ≡ Some struct
+  pub told : struct.members ≡ Some members
+  pub same : AreMembers ns ms members
+
+-- an object of the unit, of the type t there, is one of the program
+pub record IsObjectIn (r : Renaming) (p : Scene) (n : ℕ) (t : CType) : Type 0 where
+  pub object : Object
+  pub there : slice_get p.objects (number_in r.objects n) ≡ Some object
+  pub visible : p.is_visible (number_in r.objects n) ≡ true
+  pub told : slice_get r.types n ≡ Some object.of
+  pub refines : Refines (number_in r.structs) t object.of
+  pub formed : IsFormed p.structs object.of
+
+-- the program `p` has what may be named in the unit's scene `s`
+pub record Follows (r : Renaming) (s p : Scene) : Type 0 where
+  pub structs : (k : ℕ) → k < length s.structs → number_in r.structs k < length p.structs
+  pub layouts : (k : ℕ) (e : Extent) → layout s.structs (structure k) ≡ Some e
+      → layout p.structs (structure (number_in r.structs k)) ≡ Some e
+  pub members : (k : ℕ) (x : Struct) (ms : List (ℕ × CType)) → slice_get s.structs k ≡ Some x → x.members ≡ Some ms
+      → HasMembers r.structs p.structs (number_in r.structs k) ms
+  pub objects : (n : ℕ) (o : Object) → slice_get s.objects n ≡ Some o → s.is_visible n ≡ true → IsObjectIn r p n o.of
+  pub functions : (n : ℕ) → n < s.functions → number_in r.functions n < p.functions

@@ -1,0 +1,4 @@
+pub mod Refines
+pub mod Follows
+pub mod Statements
+pub mod Laws

@@ -1,0 +1,200 @@
+-- The environment behind initialisers is sound, and so is the type that they complete (C90 6.5.7).
+use Rattle.std.proofs.Common.{◌≡◌, ℕ, zero, suc, ◌^◌, ◌-◌, ◌≤◌, nat_le, pos, Bool, true, false, ◌||◌, if◌then◌else◌, List, [], Option, Some, None, refl, subst, arith}
+use Rattle.sp_tree.specs.declared.fault.Place.{Place}
+use Rattle.sp_tree.specs.declared.fault.FaultKind.TheVariants.{F20}
+use Rattle.sp_syntax.specs.Syntax.{Expression, Init, one, list, Inits, no_inits, next_init}
+use Rattle.sp_types.specs.Types.{CType, void, integer, floating, pointer, array, structure, function}
+use Rattle.sp_types.specs.Layout.{layout}
+use Rattle.sp_types.specs.Structs.{leaves}
+use Rattle.sp_types.specs.Typed.{Typed}
+use Rattle.sp_operands.specs.Answers.{Checked, refused}
+use Rattle.sp_operands.specs.Conversions.{is_function, is_complete}
+use Rattle.sp_env.specs.Env.{Env}
+use Rattle.sp_expr_check.specs.Specifiers.{stays}
+use Rattle.sp_initialisers.specs.declared.targets.Target.{Target}
+use Rattle.sp_initialisers.specs.Runs.{parts, taken as part_taken}
+use Rattle.sp_initialisers.specs.Strings.{only_value, string_for, string_added}
+use Rattle.sp_initialisers.specs.Initialisers.{leaf_given, one_given, only_given, is_aggregate, Progress, filled, given as init_given, struct_given, array_given, alone, initialised, how_many, last_leaf, measured, with_length, is_unmeasured, Started, started}
+use Rattle.sp_typing.specs.Sorts.{agrees}
+use Rattle.sp_unit_laws.proofs.Lists.{none_some, some_is}
+use Rattle.sp_unit_laws.proofs.Composites.{array_formed}
+use Rattle.sp_unit_laws.proofs.After.{Gives, gives, gives_met, gives_given, anything}
+use Rattle.sp_written_laws.specs.Written.{IsWritten, IsWrittenInit, AreWrittenInits}
+use Rattle.sp_typed_laws.proofs.Envs.{IsFit, Reaches, reaches_nowhere}
+use Rattle.sp_typed_laws.proofs.After.{Any, After, done, after_none, next, taken, met, given, either, staying}
+use Rattle.sp_typed_laws.proofs.Updates.{reaches_constant}
+use Rattle.sp_typed_laws.proofs.Leaves.{IsType, type_kept}
+use Rattle.sp_typed_laws.proofs.Expressions.{checked_value}
+
+-- ---- values
+
+pub only_written : (is : Inits) (e : Expression) → AreWrittenInits is → only_value is ≡ Some e
+    → IsWritten e
+only_written (next_init (one x) no_inits) e w h = subst IsWritten (some_is x e h) w.0
+only_written (next_init (list is c) no_inits) e w h = absurd (none_some e h)
+only_written (next_init i (next_init j is)) e w h = absurd (none_some e h)
+only_written no_inits e w h = absurd (none_some e h)
+
+module _ (names : List (List ℕ)) (own : ℕ → Bool) (env : Env) (w : Target) (h : IsFit own env) where
+  leaf_sound : (vs : List (ℕ × Typed)) (t : CType) (k : ℕ) (e : Expression) → IsWritten e
+      → After own env Any (leaf_given names env w vs t k e)
+  leaf_sound vs t k e r = next (checked_value names own env e h r) (λ x g q. staying g.fit anything)
+
+  one_sound : (vs : List (ℕ × Typed)) (t : CType) (k : ℕ) (e : Expression) → IsWritten e
+      → After own env Any (one_given names env w vs t k e)
+  one_sound vs t k e r = by (string_for t (one e))
+    where
+      by : (o : Option Expression)
+          → After own env Any (elim o as (λ x. Checked (List (ℕ × Typed) × Env)) [
+            | Some s ↦ stays env (string_added names vs t k w.name s)
+            | None ↦ leaf_given names env w vs t k e
+          ])
+      by (Some s) = staying h anything
+      by None = leaf_sound vs t k e r
+
+  only_sound : (vs : List (ℕ × Typed)) (t : CType) (k : ℕ) (is : Inits) → AreWrittenInits is
+      → After own env Any (only_given names env w vs t k is)
+  only_sound vs t k is r =
+      given {o = only_value is} _ _ (λ e f. leaf_sound vs t k e (only_written is e r f))
+
+  list_sound : (vs : List (ℕ × Typed)) (t : CType) (k : ℕ) (is : Inits) (o : Option Expression)
+      → AreWrittenInits is
+      → After own env Any
+      (filled names env w (record { runs = parts env.tables.structs t k; values = vs }) is)
+      → After own env Any (elim o as (λ x. Checked (List (ℕ × Typed) × Env)) [
+        | Some s ↦ stays env (string_added names vs t k w.name s)
+        | None ↦
+            if is_aggregate t
+            then filled names env w (record { runs = parts env.tables.structs t k; values = vs }) is
+            else only_given names env w vs t k is
+      ])
+  list_sound vs t k is (Some s) r f = staying h anything
+  list_sound vs t k is None r f =
+      either {b = is_aggregate t} (λ e. f) (λ e. only_sound vs t k is r)
+
+module _ (names : List (List ℕ)) (own : ℕ → Bool) where
+  mutual
+    filled_sound : (env : Env) (w : Target) (x : Progress) (is : Inits) → IsFit own env
+        → AreWrittenInits is → After own env Any (filled names env w x is)
+    filled_sound env w x no_inits h r = done (reaches_nowhere own env h) tt
+    filled_sound env w x (next_init i is) h r =
+        next (taken {P = Any} {c = part_taken env.tables.structs w.name x.runs i} anything
+        (λ y u. next (given_sound env w x.values y.of y.from i h r.0)
+        (λ z g q. done (reaches_nowhere own z.1 g.fit) tt)))
+        (λ y g q. filled_sound y.1 w y.0 is g.fit r.1)
+
+    given_sound : (env : Env) (w : Target) (vs : List (ℕ × Typed)) (t : CType) (k : ℕ) (i : Init)
+        → IsFit own env → IsWrittenInit i → After own env Any (init_given names env w vs t k i)
+    given_sound env w vs t k (one e) h r = one_sound names own env w h vs t k e r
+    given_sound env w vs t k (list is c) h r =
+        list_sound names own env w h vs t k is (string_for t (list is c)) r
+        (filled_sound env w (record { runs = parts env.tables.structs t k; values = vs }) is h r)
+
+  struct_sound : (env : Env) (w : Target) (t : CType) (e : Expression) → IsFit own env
+      → IsWritten e → After own env Any (struct_given names env w t e)
+  struct_sound env w t e h r =
+      next (checked_value names own env e h r) (λ x g q. staying g.fit anything)
+
+  array_sound : (env : Env) (w : Target) (t : CType) (e : Expression) → IsFit own env
+      → After own env Any (array_given names env w t e)
+  array_sound env w t e h = by (string_for t (one e))
+    where
+      by : (o : Option Expression)
+          → After own env Any (elim o as (λ x. Checked (List (ℕ × Typed) × Env)) [
+            | Some s ↦ stays env (string_added names [] t 0 w.name s)
+            | None ↦ refused F20 w.name
+          ])
+      by (Some s) = staying h anything
+      by None = after_none
+
+  alone_sound : (env : Env) (w : Target) (t : CType) (e : Expression) → IsFit own env
+      → IsWritten e → After own env Any (alone names env w t e)
+  alone_sound env w (structure j) e h r = struct_sound env w (structure j) e h r
+  alone_sound env w (array t n) e h r = array_sound env w (array t n) e h
+  alone_sound env w void e h r = one_sound names own env w h [] void 0 e r
+  alone_sound env w (integer k) e h r = one_sound names own env w h [] (integer k) 0 e r
+  alone_sound env w (floating k) e h r = one_sound names own env w h [] (floating k) 0 e r
+  alone_sound env w (pointer t) e h r = one_sound names own env w h [] (pointer t) 0 e r
+  alone_sound env w (function s) e h r = one_sound names own env w h [] (function s) 0 e r
+
+  initialised_sound : (env : Env) (w : Target) (t : CType) (i : Init) → IsFit own env
+      → IsWrittenInit i → After own env Any (initialised names env w t i)
+  initialised_sound env w t (one e) h r = alone_sound env w t e h r
+  initialised_sound env w t (list is c) h r = given_sound env w [] t 0 (list is c) h r
+
+-- ---- the type that values complete
+
+-- of an object
+abbrev pub IsObjectType : CType → Env → Type 0
+IsObjectType t env = IsType t env × (is_function t ≡ false)
+
+pub object_type_kept : {own : ℕ → Bool} {env later : Env} → Reaches own env later → (t : CType)
+    → IsObjectType t env → IsObjectType t later
+object_type_kept g t h = (type_kept g t h.0, h.1)
+
+some_elements : (last each : ℕ) → 1 ≤ how_many last each
+some_elements last zero = omega arith
+some_elements last (suc each) = omega arith
+
+-- of the second type is what is of the first
+abbrev pub Completes : CType → CType → Type 0
+Completes t u = (v : CType) → agrees t v ≡ true → agrees u v ≡ true
+
+abbrev IsMeasured : CType → Env → CType → Type 0
+IsMeasured t env u = IsObjectType u env × Completes t u
+
+array_completes : (t : CType) (n m : Option ℕ) → Completes (array t n) (array t m)
+array_completes t n m (array v k) h = refl
+array_completes t n m void h = h
+array_completes t n m (integer k) h = h
+array_completes t n m (floating k) h = h
+array_completes t n m (pointer v) h = h
+array_completes t n m (structure k) h = h
+array_completes t n m (function s) h = h
+
+measured_sound : (env : Env) (at : Place) (vs : List (ℕ × Typed)) (t : CType) → IsObjectType t env
+    → Gives (IsMeasured t env) (measured env.tables.structs at vs t)
+measured_sound env at vs (array t None) h =
+    let n : ℕ = how_many (last_leaf vs) (leaves env.tables.structs t) in
+    gives_met {b = nat_le n (2 ^ 31 - 1)} _ _ (λ few.
+    gives_given {o = layout env.tables.structs t} _ _ (λ e g. gives_met _ _ (λ fits.
+    gives {x = array t (Some n)} (
+      (
+        (
+          array_formed env.tables.structs t n h.0.0
+              (some_elements (last_leaf vs) (leaves env.tables.structs t)),
+          h.0.1,
+        ),
+        refl,
+      ),
+      array_completes t None (Some n),
+    ))))
+measured_sound env at vs (array t (Some n)) h = gives {x = array t (Some n)} (h, λ v e. e)
+measured_sound env at vs void h = gives {x = void} (h, λ v e. e)
+measured_sound env at vs (integer k) h = gives {x = integer k} (h, λ v e. e)
+measured_sound env at vs (floating k) h = gives {x = floating k} (h, λ v e. e)
+measured_sound env at vs (pointer t) h = gives {x = pointer t} (h, λ v e. e)
+measured_sound env at vs (structure k) h = gives {x = structure k} (h, λ v e. e)
+measured_sound env at vs (function s) h = gives {x = function s} (h, λ v e. e)
+
+reaches_lengthened : (own : ℕ → Bool) (env : Env) (b : Bool) (t : CType) → IsFit own env
+    → Reaches own env (with_length env b t)
+reaches_lengthened own env true (array t (Some n)) h = reaches_constant own env h (pos n)
+reaches_lengthened own env b t h = reaches_nowhere own env h
+
+-- ---- whole objects
+
+abbrev pub IsStartedType : CType → Started → Env → Type 0
+IsStartedType t x env = IsObjectType x.of env × Completes t x.of
+
+pub started_sound : (names : List (List ℕ)) (own : ℕ → Bool) (env : Env) (w : Target) (t : CType)
+    (i : Init)
+    → IsFit own env → IsObjectType t env → IsWrittenInit i
+    → After own env (IsStartedType t) (started names env w t i)
+started_sound names own env w t i h f r =
+    met {b = is_unmeasured t || is_complete env.tables.structs t} _ _ (λ whole.
+    next (initialised_sound names own env w t i h r) (λ x g q.
+    taken (measured_sound x.1 w.declarator x.0 t (object_type_kept g t f)) (λ u k.
+    let l : Reaches own x.1 (with_length x.1 (is_unmeasured t) u) =
+    reaches_lengthened own x.1 (is_unmeasured t) u g.fit in
+    done l (object_type_kept l u k.0, k.1))))

@@ -1,0 +1,205 @@
+-- Start values of scalars, and of a struct as a whole, are typed (C90 6.5.7).
+use Rattle.std.proofs.Common.{◌≡◌, inl, inr, ℕ, Bool, true, false, not, ◌||◌, List, [], ◌∷◌, Option, Some, None, refl, ap, sym, subst, ◌∙◌, true≢false, eqb-true, nat_le, ◌^◌, ◌-◌}
+use Rattle.std.specs.Prelude.{⊤}
+use Rattle.sp_tree.specs.declared.fault.Place.{Place}
+use Rattle.sp_syntax.specs.Syntax.{Expression, Init, one, list, Inits}
+use Rattle.sp_syntax.specs.Places.{place_of}
+use Rattle.sp_types.specs.Types.{CType, void, integer, floating, pointer, array, structure, function, Struct}
+use Rattle.sp_types.specs.Typed.{Typed, of}
+use Rattle.sp_types.specs.Layout.{layout}
+use Rattle.sp_types.specs.Structs.{IsFormed, leaves}
+use Rattle.sp_types.specs.Compatible.{convertible}
+use Rattle.sp_types.specs.Programs.{Object}
+use Rattle.sp_operands.specs.Answers.{accepted}
+use Rattle.sp_operands.specs.Conversions.{converted, is_floating, is_complete, is_function}
+use Rattle.sp_env.specs.Env.{Env}
+use Rattle.sp_initialisers.specs.declared.targets.Target.{Target}
+use Rattle.sp_initialisers.specs.StaticValues.{is_static}
+use Rattle.sp_initialisers.specs.Strings.{only_value}
+use Rattle.sp_initialisers.specs.Initialisers.{leaf_added, leaf_given, only_given, struct_whole, struct_given, initialised, how_many, last_leaf, measured, with_length, is_unmeasured, Started, started}
+use Rattle.sp_ir.specs.Formed.{is_array, is_struct}
+use Rattle.sp_typing.specs.Sorts.{same_value, IsStored}
+use Rattle.sp_typing.specs.Trees.{Scene}
+use Rattle.sp_typing.specs.Starts.{AreLeafValues, IsWholeValue, IsStarted}
+use Rattle.sp_unit_laws.proofs.After.{accepted_is, Gives, gives, gives_then, gives_met, gives_given, anything}
+use Rattle.sp_written_laws.specs.Written.{IsWritten, IsWrittenInit, AreWrittenInits}
+use Rattle.sp_typed_laws.specs.Laws.{IsKnown}
+use Rattle.sp_typed_laws.specs.Sound.{IsSound, scene_of}
+use Rattle.sp_typed_laws.proofs.Operators.{IsGood}
+use Rattle.sp_typed_laws.proofs.Trees.{IsValued, IsOf, tree_converted}
+use Rattle.sp_typed_laws.proofs.Envs.{IsFit}
+use Rattle.sp_typed_laws.proofs.After.{After, next, given, staying}
+use Rattle.sp_typed_laws.proofs.Leaves.{IsType, type_kept}
+use Rattle.sp_typed_laws.proofs.Expressions.{checked_value}
+use Rattle.sp_typed_laws.proofs.Law.{fit_of}
+use Rattle.sp_typed_unit_laws.specs.Starts.{AreBytes, LeavesAreTyped, StartsAreTyped}
+use Rattle.sp_typed_unit_laws.proofs.Shows.{gives_after}
+use Rattle.sp_typed_unit_laws.proofs.Statements.{kept_type}
+use Rattle.sp_typed_unit_laws.proofs.Literals.{literal_started}
+use Rattle.sp_typed_unit_laws.proofs.Initialisers.{only_written}
+
+-- ---- one value
+
+struct_kept : (ss : List Struct) (t : CType) (j : ℕ) → convertible t (structure j) ≡ true
+    → IsKnown ss t → IsStored ss (structure j) × (same_value t (structure j) ≡ true)
+struct_kept ss (structure i) j h w =
+    (subst (λ n. IsKnown ss (structure n)) (eqb-true i j h) w, h)
+struct_kept ss t j h w = absurd (true≢false (sym h))
+
+module _ (s : Scene) (os : List Object) (w : Target) where
+  leaf_good : (at : Place) (t : CType) (e : Typed) → IsGood s.structs t → IsValued s e
+      → Gives (IsWholeValue s t) (leaf_added os w at [] t 0 e)
+  leaf_good at t e g h =
+      gives_then {Q = λ v. IsWholeValue s t ((0, v) ∷ [])}
+      (gives_met {b = not (is_floating t)} _ _ (λ kind.
+      gives_met {b = convertible (of e) t} _ _ (λ fits.
+      gives_met {b = not w.fixed || is_static os e} _ _ (λ known.
+      let y : IsOf s t (converted t e) = tree_converted s t e h.tree g.0 g.1 fits in
+      let z : IsStored s.structs t × (same_value t t ≡ true) =
+      kept_type s.structs (of e) t fits h.value.known in
+      gives {x = converted t e}
+      (refl, y.tree.typed, z.0, ap (λ u. same_value u t) y.is ∙ z.1)))))
+      (λ v q. gives {x = (0, v) ∷ []} q)
+
+  struct_good : (at : Place) (j : ℕ) (e : Typed) → IsValued s e
+      → Gives (IsWholeValue s (structure j)) (struct_whole w at (structure j) e)
+  struct_good at j e h =
+      gives_met {b = convertible (of e) (structure j)} _ _ (λ fits.
+      gives_met {b = not w.fixed} _ _ (λ automatic.
+      let z : IsStored s.structs (structure j) × (same_value (of e) (structure j) ≡ true) =
+      struct_kept s.structs (of e) j fits h.value.known in
+      gives {x = (0, e) ∷ []} (refl, h.tree.typed, z.0, z.1)))
+
+module _ (names : List (List ℕ)) (own : ℕ → Bool) (env : Env) (w : Target) (h : IsFit own env) where
+  abbrev IsWholeIn : CType → List (ℕ × Typed) → Env → Type 0
+  IsWholeIn t vs later = IsWholeValue (scene_of own later) t vs
+
+  leaf_typed : (t : CType) (e : Expression) → IsType t env → IsWritten e
+      → After own env (IsWholeIn t) (leaf_given names env w [] t 0 e)
+  leaf_typed t e f r =
+      next (checked_value names own env e h r) (λ x g q. staying g.fit
+      (leaf_good (scene_of own x.1) x.1.tables.objects w (place_of e) t x.0 (type_kept g t f) q))
+
+  only_typed : (t : CType) (is : Inits) → IsType t env → AreWrittenInits is
+      → After own env (IsWholeIn t) (only_given names env w [] t 0 is)
+  only_typed t is f r =
+      given {o = only_value is} _ _ (λ e o. leaf_typed t e f (only_written is e r o))
+
+  struct_typed : (j : ℕ) (e : Expression) → IsWritten e
+      → After own env (IsWholeIn (structure j)) (struct_given names env w (structure j) e)
+  struct_typed j e r =
+      next (checked_value names own env e h r) (λ x g q. staying g.fit
+      (struct_good (scene_of own x.1) x.1.tables.objects w (place_of e) j x.0 q))
+
+  whole_started : (s : Scene) (t : CType) (vs : List (ℕ × Typed)) → IsWholeValue s t vs
+      → IsStarted s t vs
+  whole_started s t [] q = tt
+  whole_started s t (v ∷ vs) q = inl q
+
+  -- ---- objects that take one value
+
+  abbrev IsStartedIn : Started × Env → Type 0
+  IsStartedIn x = IsStarted (scene_of own x.1) x.0.of x.0.values
+
+  -- its type is as it was told
+  abbrev IsMeasuredSo : CType → Type 0
+  IsMeasuredSo t = (ss : List Struct) (at : Place) (vs : List (ℕ × Typed))
+      → measured ss at vs t ≡ accepted t
+
+  started_whole : (t : CType) (i : Init) → is_unmeasured t ≡ false → IsMeasuredSo t
+      → After own env (IsWholeIn t) (initialised names env w t i)
+      → Gives IsStartedIn (started names env w t i)
+  started_whole t i told so q =
+      gives_met {b = is_unmeasured t || is_complete env.tables.structs t} _ _ (λ whole.
+      gives_after q (λ x g v.
+      gives_then {Q = λ u. u ≡ t} (record {
+        at = λ u e. sym (accepted_is t u (sym (so x.1.tables.structs w.declarator x.0) ∙ e));
+      }) (λ u is. gives
+      (subst (λ b. IsStarted (scene_of own (with_length x.1 b u)) u x.0) (sym told)
+      (subst (λ u. IsStarted (scene_of own (with_length x.1 false u)) u x.0) (sym is)
+      (whole_started (scene_of own x.1) t x.0 v))))))
+
+-- ---- objects whose leaves take values
+
+leaves_started : (s : Scene) (t : CType) (vs : List (ℕ × Typed))
+    → (is_array t || is_struct t) ≡ true → AreLeafValues s t vs → IsStarted s t vs
+leaves_started s t [] a h = tt
+leaves_started s t (v ∷ vs) a h = inr (a, h)
+
+abbrev IsAggregate : CType → Type 0
+IsAggregate t = (is_array t || is_struct t) ≡ true
+
+array_measured : (ss : List Struct) (at : Place) (vs : List (ℕ × Typed)) (t : CType) (n : Option ℕ)
+    → Gives IsAggregate (measured ss at vs (array t n))
+array_measured ss at vs t (Some n) = gives {x = array t (Some n)} refl
+array_measured ss at vs t None =
+    gives_met {b = nat_le (how_many (last_leaf vs) (leaves ss t)) (2 ^ 31 - 1)} _ _ (λ few.
+    gives_given {o = layout ss t} _ _ (λ e g. gives_met _ _ (λ fits.
+    gives {x = array t (Some (how_many (last_leaf vs) (leaves ss t)))} refl)))
+
+started_aggregate : (names : List (List ℕ)) (env : Env) (w : Target) (t : CType) (i : Init)
+    → ((ss : List Struct) (vs : List (ℕ × Typed))
+    → Gives IsAggregate (measured ss w.declarator vs t))
+    → Gives (λ x. IsAggregate x.0.of) (started names env w t i)
+started_aggregate names env w t i h =
+    gives_met {b = is_unmeasured t || is_complete env.tables.structs t} _ _ (λ whole.
+    gives_then {Q = λ x. ⊤} {c = initialised names env w t i} anything (λ x u.
+    gives_then (h x.1.tables.structs x.0) (λ v q.
+    gives {x = (record { of = v; values = x.0 }, with_length x.1 (is_unmeasured t) v)} q)))
+
+-- ---- all
+
+pub starts_typed : LeavesAreTyped → (names : List (List ℕ)) → AreBytes names
+    → StartsAreTyped names
+starts_typed lists names bytes own env w t i s f plain sound r x e =
+    record { automatic = λ fixed. by t i f plain sound r e }
+  where
+    h : IsFit own env
+    h = fit_of own env s
+
+    by : (t : CType) (i : Init) → IsFormed env.tables.structs t → is_function t ≡ false → IsSound t
+        → IsWrittenInit i → started names env w t i ≡ accepted x
+        → IsStarted (scene_of own x.1) x.0.of x.0.values
+    by void (one a) f plain sound r e =
+        (started_whole names own env w h void (one a) refl (λ ss at vs. refl)
+        (leaf_typed names own env w h void a (f, sound) r)).at x e
+    by void (list is c) f plain sound r e =
+        (started_whole names own env w h void (list is c) refl (λ ss at vs. refl)
+        (only_typed names own env w h void is (f, sound) r)).at x e
+    by (integer k) (one a) f plain sound r e =
+        (started_whole names own env w h (integer k) (one a) refl (λ ss at vs. refl)
+        (leaf_typed names own env w h (integer k) a (f, sound) r)).at x e
+    by (integer k) (list is c) f plain sound r e =
+        (started_whole names own env w h (integer k) (list is c) refl (λ ss at vs. refl)
+        (only_typed names own env w h (integer k) is (f, sound) r)).at x e
+    by (floating k) (one a) f plain sound r e =
+        (started_whole names own env w h (floating k) (one a) refl (λ ss at vs. refl)
+        (leaf_typed names own env w h (floating k) a (f, sound) r)).at x e
+    by (floating k) (list is c) f plain sound r e =
+        (started_whole names own env w h (floating k) (list is c) refl (λ ss at vs. refl)
+        (only_typed names own env w h (floating k) is (f, sound) r)).at x e
+    by (pointer u) (one a) f plain sound r e =
+        (started_whole names own env w h (pointer u) (one a) refl (λ ss at vs. refl)
+        (leaf_typed names own env w h (pointer u) a (f, sound) r)).at x e
+    by (pointer u) (list is c) f plain sound r e =
+        (started_whole names own env w h (pointer u) (list is c) refl (λ ss at vs. refl)
+        (only_typed names own env w h (pointer u) is (f, sound) r)).at x e
+    by (structure j) (one a) f plain sound r e =
+        (started_whole names own env w h (structure j) (one a) refl (λ ss at vs. refl)
+        (struct_typed names own env w h j a r)).at x e
+    by (structure j) (list is c) f plain sound r e =
+        leaves_started (scene_of own x.1) x.0.of x.0.values
+        ((started_aggregate names env w (structure j) (list is c)
+        (λ ss vs. gives {x = structure j} refl)).at x e)
+        (lists names own env w (structure j) (list is c) bytes s f plain sound r refl x e)
+    by (array u n) (one a) f plain sound r e =
+        leaves_started (scene_of own x.1) x.0.of x.0.values
+        ((started_aggregate names env w (array u n) (one a)
+        (λ ss vs. array_measured ss w.declarator vs u n)).at x e)
+        ((literal_started names bytes own env w u n a).at x e)
+    by (array u n) (list is c) f plain sound r e =
+        leaves_started (scene_of own x.1) x.0.of x.0.values
+        ((started_aggregate names env w (array u n) (list is c)
+        (λ ss vs. array_measured ss w.declarator vs u n)).at x e)
+        (lists names own env w (array u n) (list is c) bytes s f plain sound r refl x e)
+    by (function q) i f plain sound r e = absurd (true≢false plain)

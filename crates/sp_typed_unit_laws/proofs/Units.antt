@@ -1,0 +1,499 @@
+-- What the checks of a unit accept is typed (C90 6.7).
+use Rattle.std.proofs.Common.{◌≡◌, ℕ, zero, suc, ◌≤◌, ◌||◌, nat_eq, Bool, true, false, length, List, [], ◌∷◌, ◌++◌, Option, Some, None, is_some, refl, ap, sym, subst, ◌∙◌, true≢false, eqb-true, arith}
+use Rattle.std.specs.Prelude.{slice_get}
+use Rattle.std.specs.List.{list_any}
+use Rattle.sp_tree.specs.declared.fault.Place.{Place}
+use Rattle.sp_tree.specs.declared.fault.FaultKind.{FaultKind}
+use Rattle.sp_syntax.specs.Syntax.{Specifiers, Declarator, Statement, External, definition, external_declaration, semicolon}
+use Rattle.sp_types.specs.declared.program.Storage.{Storage}
+use Rattle.sp_types.specs.declared.program.Storage.TheVariants.{Static, Outside, Text, Auto, Formal}
+use Rattle.sp_types.specs.Layout.{extent}
+use Rattle.sp_types.specs.Structs.{IsFormedSignature, IsWhole, aligned}
+use Rattle.sp_types.specs.Types.{CType, void, integer, floating, pointer, array, structure, function, Struct, result_of}
+use Rattle.sp_types.specs.Programs.{Object, Function}
+use Rattle.sp_types.specs.Statements.{TypedStatement}
+use Rattle.sp_operands.specs.Answers.{Checked}
+use Rattle.sp_scopes.specs.Scopes.{is_file_scope}
+use Rattle.sp_env.specs.Env.{Env, entered, left, set_function, unit_start}
+use Rattle.sp_labels.specs.Repeats.{where_none}
+use Rattle.sp_mentions.specs.Undefined.{undefined_function}
+use Rattle.sp_statement_rules.specs.Blocks.{locals_in}
+use Rattle.sp_statement_check.specs.Statements.{body_checked}
+use Rattle.sp_heads.specs.Heads.{Head}
+use Rattle.sp_decl_check.specs.Definitions.{defined, body_set, with_body, definition_checked, external_checked, externals_checked}
+use Rattle.sp_tentative.specs.Tentative.{open_tentative}
+use Rattle.sp_decl_check.specs.Units.{checked_unit, unit_told}
+use Rattle.sp_typing.specs.Sorts.{agrees, same_value, IsStored}
+use Rattle.sp_typing.specs.Trees.{IsCalled}
+use Rattle.sp_typing.specs.Statements.{labels_in, IsTypedStatement, IsTypedBody}
+use Rattle.sp_typing.specs.Programs.{is_static, is_static_object}
+use Rattle.sp_unit_laws.proofs.Lists.{none_some, some_is, Each, each_set, each_pushed, set_length, set_there, set_other, get_below}
+use Rattle.sp_unit_laws.proofs.Envs.{IsFormedEnv, AreBelow}
+use Rattle.sp_unit_laws.proofs.Objects.{AreNumbers}
+use Rattle.sp_unit_laws.proofs.Updates.{goes_function_set}
+use Rattle.sp_unit_laws.proofs.Statements.{body_formed}
+use Rattle.sp_unit_laws.proofs.After.{Gives, gives, gives_none, gives_then}
+use Rattle.sp_typed_laws.specs.Sound.{HasExtent, IsSoundSignature, is_lasting, lasts, scene_of}
+use Rattle.sp_typed_laws.proofs.Types.{number_equals, or_left, or_right}
+use Rattle.sp_typed_laws.proofs.Grows.{Grows, called_stays}
+use Rattle.sp_typed_laws.proofs.Envs.{IsFit, Follows, IsKeptFunction, KeepObjects, kept_there, Reaches, reaches_on, scene_grows}
+use Rattle.sp_typed_laws.proofs.Updates.{reaches_left}
+use Rattle.sp_typed_laws.proofs.Law.{fit_of, start_sound}
+use Rattle.sp_typed_laws.proofs.Leaves.{IsType}
+use Rattle.sp_written_laws.specs.Statements.{IsWrittenStatement, IsWrittenExternal, AreWrittenExternals}
+use Rattle.sp_written_laws.specs.Written.{AreWrittenSpecifiers, IsWrittenDeclarator}
+use Rattle.sp_typed_unit_laws.specs.Fits.{AreOwn, setting_of}
+use Rattle.sp_typed_unit_laws.specs.Starts.{StartsAreTyped, lasting_alone}
+use Rattle.sp_typed_unit_laws.specs.Units.{scene_in, IsTypedFunction, IsTypedUnit, UnitsAreTyped}
+use Rattle.sp_typed_unit_laws.proofs.Held.{IsHeld, held_on}
+use Rattle.sp_typed_unit_laws.proofs.Going.{statement_stays}
+use Rattle.sp_typed_unit_laws.proofs.Distinct.{AreDistinct, distinct_none, distinct_pushed}
+use Rattle.sp_typed_unit_laws.proofs.Formals.{AreFormals, formals_on}
+use Rattle.sp_typed_unit_laws.proofs.Heads.{IsHead, head_good}
+use Rattle.sp_typed_unit_laws.proofs.Bodies.{IsBody, body_typed}
+use Rattle.sp_typed_unit_laws.proofs.Starts.{starts_typed}
+use Rattle.sp_typed_unit_laws.proofs.Files.{file_on, file_typed}
+
+-- ---- types that follow
+
+-- what can be kept, or void, is so as the other
+called_follows : (ss : List Struct) (a b : CType)
+    → ((t : CType) → agrees a t ≡ true → agrees b t ≡ true) → IsCalled ss a → IsCalled ss b
+called_follows ss void b f h = by b (f void refl)
+  where
+    by : (b : CType) → agrees b void ≡ true → IsCalled ss b
+    by void e = tt
+    by b e = absurd (true≢false (sym e))
+called_follows ss (integer k) b f h = by b (f (integer k) refl)
+  where
+    by : (b : CType) → agrees b (integer k) ≡ true → IsCalled ss b
+    by (integer j) e = tt
+    by b e = absurd (true≢false (sym e))
+called_follows ss (pointer t) b f h = by b (f (pointer t) refl)
+  where
+    by : (b : CType) → agrees b (pointer t) ≡ true → IsCalled ss b
+    by (pointer u) e = tt
+    by b e = absurd (true≢false (sym e))
+called_follows ss (structure k) b f h = by b (f (structure k) (number_equals k))
+  where
+    by : (b : CType) → agrees b (structure k) ≡ true → IsCalled ss b
+    by (structure j) e = subst (λ i. IsCalled ss (structure i)) (sym (eqb-true j k e)) h
+    by b e = absurd (true≢false (sym e))
+called_follows ss (floating k) b f h = absurd h
+called_follows ss (array t n) b f h = absurd h
+called_follows ss (function s) b f h = absurd h
+
+-- what goes to the one goes to the other
+abbrev GoesTo : List Struct → CType → CType → Type 0
+GoesTo ss t e = IsStored ss t × (same_value e t ≡ true)
+
+goes_follows : (ss : List Struct) (a b : CType)
+    → ((t : CType) → agrees a t ≡ true → agrees b t ≡ true) → (e : CType) → GoesTo ss a e
+    → GoesTo ss b e
+goes_follows ss (integer k) b f e h = by b (f (integer k) refl) e h.1
+  where
+    same : (j : _) (e : CType) → same_value e (integer k) ≡ true → same_value e (integer j) ≡ true
+    same j (integer i) h = refl
+    same j e h = h
+
+    by : (b : CType) → agrees b (integer k) ≡ true → (e : CType)
+        → same_value e (integer k) ≡ true → GoesTo ss b e
+    by (integer j) x e h = (tt, same j e h)
+    by b x e h = absurd (true≢false (sym x))
+goes_follows ss (pointer t) b f e h = by b (f (pointer t) refl) e h.1
+  where
+    same : (u e : CType) → same_value e (pointer t) ≡ true → same_value e (pointer u) ≡ true
+    same u (pointer v) h = refl
+    same u e h = h
+
+    by : (b : CType) → agrees b (pointer t) ≡ true → (e : CType)
+        → same_value e (pointer t) ≡ true → GoesTo ss b e
+    by (pointer u) x e h = (tt, same u e h)
+    by b x e h = absurd (true≢false (sym x))
+goes_follows ss (structure k) b f e h = by b (f (structure k) (number_equals k)) h
+  where
+    by : (b : CType) → agrees b (structure k) ≡ true → GoesTo ss (structure k) e → GoesTo ss b e
+    by (structure j) x h = subst (λ i. GoesTo ss (structure i) e) (sym (eqb-true j k x)) h
+    by b x h = absurd (true≢false (sym x))
+goes_follows ss void b f e h = absurd h.0
+goes_follows ss (floating k) b f e h = absurd h.0
+goes_follows ss (array t n) b f e h = absurd h.0
+goes_follows ss (function s) b f e h = absurd h.0
+
+-- ---- objects that a function lists
+
+abbrev among : List ℕ → ℕ → Bool
+among ns n = list_any (nat_eq n) ns
+
+equals_self : (n : ℕ) → nat_eq n n ≡ true
+equals_self n = number_equals n
+
+among_left : (xs ys : List ℕ) → AreOwn (among (xs ++ ys)) xs
+among_left [] ys i n at = absurd (none_some n at)
+among_left (x ∷ xs) ys zero n at =
+    or_left (nat_eq n x) (among (xs ++ ys) n)
+    (subst (λ m. nat_eq m x ≡ true) (some_is x n at) (equals_self x))
+among_left (x ∷ xs) ys (suc i) n at =
+    or_right (nat_eq n x) (among (xs ++ ys) n) (among_left xs ys i n at)
+
+among_right : (xs ys : List ℕ) → AreOwn (among (xs ++ ys)) ys
+among_right [] [] i n at = absurd (none_some n at)
+among_right [] (y ∷ ys) zero n at =
+    or_left (nat_eq n y) (among ys n)
+    (subst (λ m. nat_eq m y ≡ true) (some_is y n at) (equals_self y))
+among_right [] (y ∷ ys) (suc i) n at =
+    or_right (nat_eq n y) (among ys n) (among_right [] ys i n at)
+among_right (x ∷ xs) ys i n at =
+    or_right (nat_eq n x) (among (xs ++ ys) n) (among_right xs ys i n at)
+
+-- ---- functions that are defined
+
+pub record IsDefined (env : Env) (g : Function) : Type 0 where
+  pub called : IsCalled env.tables.structs (result_of g.of)
+  pub formals : AreFormals g.formals env
+  pub body : TypedStatement
+  pub is : g.body ≡ Some body
+  pub typed : IsTypedStatement
+      (setting_of (among (g.formals ++ g.locals)) (labels_in body) (result_of g.of) env) None body
+
+-- the environment goes on, and the function takes a type that follows
+defined_by : (env later : Env) (g f : Function) → IsFormedEnv env
+    → ((own : ℕ → Bool) → Grows (scene_of own env) (scene_of own later))
+    → KeepObjects env.tables.objects later.tables.objects
+    → AreFormals g.formals later
+    → f.formals ≡ g.formals → f.locals ≡ g.locals → f.body ≡ g.body → Follows g.of f.of
+    → IsDefined env g → IsDefined later f
+defined_by env later g f formed grows kept formals same-formals same-locals same-body follows h =
+    let own : ℕ → Bool = among (g.formals ++ g.locals) in
+    let lists : f.formals ++ f.locals ≡ g.formals ++ g.locals =
+    ap (λ xs. xs ++ f.locals) same-formals ∙ ap (λ xs. g.formals ++ xs) same-locals in
+    record {
+      called = called_follows later.tables.structs (result_of g.of) (result_of f.of) follows
+          (called_stays env.tables.structs later.tables.structs (grows own).stays (result_of g.of)
+          h.called);
+      formals = subst (λ ns. AreFormals ns later) (sym same-formals) formals;
+      body = h.body;
+      is = same-body ∙ h.is;
+      typed = subst (λ ns. IsTypedStatement
+          (setting_of (among ns) (labels_in h.body) (result_of f.of) later) None h.body) (sym lists)
+          (statement_stays (scene_of own env) (scene_of own later) formed.table (grows own) kept
+          (labels_in h.body) (result_of g.of) (result_of f.of)
+          (goes_follows later.tables.structs (result_of g.of) (result_of f.of) follows) None h.body
+          h.typed);
+    }
+
+-- ---- units so far
+
+pub record IsUnitEnv (ns : List ℕ) (env : Env) : Type 0 where
+  pub held : IsHeld lasting_alone env
+  pub file : is_file_scope env.scopes ≡ true
+  pub distinct : AreDistinct ns
+  pub defined : Each (λ n. (g : Function) × (slice_get env.tables.functions n ≡ Some g)
+      × IsDefined env g) ns
+
+unit_on : (ns : List ℕ) (env later : Env) → IsUnitEnv ns env → Reaches lasting_alone env later
+    → IsUnitEnv ns later
+unit_on ns env later u g = record {
+  held = held_on u.held g;
+  file = file_on g u.file;
+  distinct = u.distinct;
+  defined = λ i n at.
+      let d = u.defined i n at in
+      let y : IsKeptFunction later.tables.functions n d.0 = g.moves.kept n d.0 d.1 in (
+        y.function,
+        y.there,
+        defined_by env later d.0 y.function u.held.fit.formed
+            (λ own. scene_grows own env later g.moves u.held.fit.formed) g.moves.objects
+            (formals_on g d.0.formals d.2.formals) y.formals y.locals y.body y.follows d.2,
+      );
+}
+
+-- ---- a function takes its body
+
+module _ (ns : List ℕ) (env : Env) (u : IsUnitEnv ns env) (k : ℕ) (was f : Function)
+    (at : slice_get env.tables.functions k ≡ Some was) (bodiless : is_some was.body ≡ false)
+    (below : AreBelow (length env.tables.objects) f.formals
+    × AreBelow (length env.tables.objects) f.locals) (same : f.of ≡ was.of)
+    (d : IsDefined env f) where
+  abbrev later : Env
+  later = set_function env k f
+
+  set_grows : (own : ℕ → Bool) → Grows (scene_of own env) (scene_of own later)
+  set_grows own = record {
+    stays = record { longer = omega arith; complete = λ j s e at h. at };
+    functions = omega (arith, set_length env.tables.functions k f);
+    names = λ n o at seen. record { object = o; there = at; visible = seen; same = λ t h. h };
+  }
+
+  set_defined : (g : Function) → IsDefined env g → IsDefined later g
+  set_defined g h =
+      defined_by env later g g u.held.fit.formed set_grows (kept_there env.tables.objects)
+      (record { formals = h.formals.formals; distinct = h.formals.distinct }) refl refl refl
+      (λ t e. e) h
+
+  set_fit : IsFit lasting_alone later
+  set_fit = record {
+    formed = (goes_function_set env u.held.fit.formed k f (
+      subst (λ s. IsFormedSignature env.tables.structs s) (sym same)
+          (u.held.fit.formed.functions k was at).0,
+      below.0,
+      below.1,
+    )).formed;
+    structs = u.held.fit.structs;
+    objects = u.held.fit.objects;
+    functions = each_set (λ f. IsSoundSignature f.of) env.tables.functions k f
+        u.held.fit.functions
+        (subst IsSoundSignature (sym same) (u.held.fit.functions k was at));
+    inner = u.held.fit.inner;
+    around = u.held.fit.around;
+  }
+
+  -- a function that has a body is another
+  apart : (i n : ℕ) → slice_get ns i ≡ Some n → k ≡ n → ⊥
+  apart i n there is =
+      let x = u.defined i n there in
+      let old : was ≡ x.0 =
+      some_is was x.0 (sym at ∙ ap (slice_get env.tables.functions) is ∙ x.1) in
+      true≢false (sym (ap is_some x.2.is) ∙ sym (ap (λ g. is_some g.body) old) ∙ bodiless)
+
+  set_unit : IsUnitEnv (ns ++ k ∷ []) later
+  set_unit = record {
+    held = record { fit = set_fit; homes = u.held.homes };
+    file = u.file;
+    distinct = distinct_pushed ns k u.distinct apart;
+    defined = each_pushed
+        (λ n. (g : Function) × (slice_get later.tables.functions n ≡ Some g) × IsDefined later g) ns
+        k
+        (λ i n there.
+        let x = u.defined i n there in (
+          x.0,
+          set_other env.tables.functions k f n x.0 (apart i n there) x.1,
+          set_defined x.0 x.2,
+        )) (
+          f,
+          set_there env.tables.functions k f (get_below env.tables.functions k was at),
+          set_defined f d,
+        );
+  }
+
+-- ---- definitions
+
+gives_all : {A X : Type 0} {P : X → A → Type 0} {c : Checked A} → ((x : X) → Gives (P x) c)
+    → Gives (λ a. (x : X) → P x a) c
+gives_all h = record { at = λ a e x. (h x).at a e }
+
+gives_both : {A : Type 0} {P Q : A → Type 0} {c : Checked A} → Gives P c → Gives Q c
+    → Gives (λ a. P a × Q a) c
+gives_both h g = record { at = λ a e. (h.at a e, g.at a e) }
+
+module _ (names : List (List ℕ)) (starts : StartsAreTyped names) where
+  -- what is known of a body in an environment, whatever the function's own objects are
+  abbrev IsBodyBy : Env → CType → (ℕ → Bool) → TypedStatement × Env → Type 0
+  IsBodyBy env t own b = IsHeld own env → IsType t env → AreOwn own (locals_in b.0)
+      → IsBody names starts own env t b.0 b.1
+
+  abbrev IsNumbered : Env → TypedStatement × Env → Type 0
+  IsNumbered env b = IsFormedEnv env → AreNumbers (locals_in b.0) b.1
+
+  body_known : (env : Env) (t : CType) (s : Statement) → IsWrittenStatement s
+      → Gives (λ b. ((own : ℕ → Bool) → IsBodyBy env t own b) × IsNumbered env b)
+      (body_checked names env t s)
+  body_known env t s w =
+      gives_both (gives_all (λ own. record
+      { at = λ b e held type l. (body_typed names starts own env t s held w type).at b e l }))
+      (record { at = λ b e formed. ((body_formed names env t s formed).at b e).1 })
+
+  defined_unit : (ns : List ℕ) (env : Env) (h : Head) (first : Env) (s : TypedStatement)
+      (later : Env) → IsUnitEnv ns env
+      → ((own : ℕ → Bool) → AreOwn own h.own.formals → IsHead own env h first)
+      → ((own : ℕ → Bool) → IsBodyBy first (result_of h.own.of) own (s, later))
+      → IsNumbered first (s, later)
+      → IsUnitEnv (ns ++ h.number ∷ []) (with_body (left later) h s)
+  defined_unit ns env h first s later u heads bodies numbered =
+      let own : ℕ → Bool = among (h.own.formals ++ locals_in s) in
+      let hd : IsHead own env h first = heads own (among_left h.own.formals (locals_in s)) in
+      let held : IsHeld own first = record {
+        fit = hd.to_later.fit;
+        homes = hd.to_later.moves.homes (hd.to_file.moves.homes u.held.homes);
+      } in
+      let bd : IsBody names starts own first (result_of h.own.of) s later =
+      bodies own held hd.type (among_right h.own.formals (locals_in s)) in
+      let out : Reaches lasting_alone hd.file (left later) =
+      reaches_left lasting_alone own hd.file later hd.to_file.fit
+      (reaches_on own (entered hd.file) first later hd.to_later bd.0) in
+      let before : IsUnitEnv ns (left later) =
+      unit_on ns env (left later) u
+      (reaches_on lasting_alone env hd.file (left later) hd.to_file out) in
+      let x : IsKeptFunction later.tables.functions h.number hd.function =
+      bd.0.moves.kept h.number hd.function hd.there in
+      let follows : Follows h.own.of x.function.of =
+      λ t e. x.follows t (hd.follows t e) in
+      let formals : AreFormals h.own.formals later = formals_on bd.0 h.own.formals hd.formals in
+      let d : IsDefined (left later) (defined x.function h s) = record {
+        called = called_follows later.tables.structs (result_of h.own.of)
+            (result_of x.function.of) follows
+            (called_stays first.tables.structs later.tables.structs
+            (scene_grows own first later bd.0.moves held.fit.formed).stays (result_of h.own.of)
+            hd.called);
+        formals = record { formals = formals.formals; distinct = formals.distinct };
+        body = s;
+        is = refl;
+        typed = statement_stays (scene_of own later) (scene_of own (left later))
+            bd.0.fit.formed.table
+            (still own later) (kept_there later.tables.objects)
+            (labels_in s) (result_of h.own.of) (result_of x.function.of)
+            (goes_follows later.tables.structs (result_of h.own.of) (result_of x.function.of)
+            follows) None s bd.1;
+      } in
+      subst (λ o. IsUnitEnv (ns ++ h.number ∷ []) (body_set (left later) h s o)) (sym x.there)
+      (set_unit ns (left later) before h.number x.function (defined x.function h s) x.there
+      (ap is_some x.body ∙ hd.bodiless) (
+        λ i n at. let y = formals.formals i n at in get_below later.tables.objects n y.0 y.1,
+        numbered held.fit.formed,
+      ) refl d)
+    where
+      still : (own : ℕ → Bool) (e : Env) → Grows (scene_of own e) (scene_of own (left e))
+      still own e = record {
+        stays = record { longer = omega arith; complete = λ j s e at h. at };
+        functions = omega arith;
+        names = λ n o at seen. record { object = o; there = at; visible = seen; same = λ t h. h };
+      }
+
+  abbrev IsUnitSoFar : List ℕ × Env → Type 0
+  IsUnitSoFar y = IsUnitEnv y.0 y.1
+
+  definition_typed : (env : Env) (ns : List ℕ) (ss : Specifiers) (d : Declarator) (s : Statement)
+      → IsUnitEnv ns env → AreWrittenSpecifiers ss → IsWrittenDeclarator d → IsWrittenStatement s
+      → Gives IsUnitSoFar (definition_checked names env ns ss d s)
+  definition_typed env ns ss d s u w v z =
+      gives_then (gives_all (λ own. head_good names own env ss d u.held.fit w v)) (λ h heads.
+      gives_then (body_known h.1 (result_of h.0.own.of) s z) (λ b bodies.
+      gives {x = (ns ++ h.0.number ∷ [], with_body (left b.1) h.0 b.0)}
+      (defined_unit ns env h.0 h.1 b.0 b.1 u heads bodies.0 bodies.1)))
+
+  external_typed : (env : Env) (ns : List ℕ) (e : External) → IsUnitEnv ns env
+      → IsWrittenExternal e → Gives IsUnitSoFar (external_checked names env ns e)
+  external_typed env ns (definition ss d s) u w = definition_typed env ns ss d s u w.0 w.1 w.2
+  external_typed env ns (external_declaration d) u w =
+      gives_then {Q = λ x. Reaches lasting_alone env x.1}
+      (record { at = λ x e. ((file_typed names starts env d u.held u.file w).at x e).0 })
+      (λ x g. gives {x = (ns, x.1)} (unit_on ns env x.1 u g))
+  external_typed env ns semicolon u w = gives {x = (ns, env)} u
+
+  externals_typed : (env : Env) (ns : List ℕ) (es : List External) → IsUnitEnv ns env
+      → AreWrittenExternals es → Gives IsUnitSoFar (externals_checked names env ns es)
+  externals_typed env ns [] u w = gives {x = (ns, env)} u
+  externals_typed env ns (e ∷ es) u w =
+      gives_then (external_typed env ns e u w.0) (λ x v. externals_typed x.1 x.0 es v w.1)
+
+-- ---- the unit
+
+-- a struct without a member has no size
+member_less : (ss : List Struct) (s : Struct) (o : Option (List (ℕ × CType))) → IsWhole ss s o
+    → HasExtent s.extent → o ≡ Some [] → ⊥
+member_less ss s None w h e = none_some [] e
+member_less ss s (Some (m ∷ ms)) w h e = absurd (true≢false (ap (λ o. is_nil o) (sym e)))
+  where
+    is_nil : Option (List (ℕ × CType)) → Bool
+    is_nil None = false
+    is_nil (Some []) = true
+    is_nil (Some (m ∷ ms)) = false
+member_less ss s (Some []) w h e =
+    let size : extent (aligned 0 1) 1 ≡ w.1.0 = some_is (extent (aligned 0 1) 1) w.1.0 w.1.2 in
+    let big : 1 ≤ w.1.0.size = (subst HasExtent w.1.1 h).0 in
+    let none : 0 ≡ w.1.0.size = ap (λ e. e.size) size in
+    omega (arith, big, none)
+
+-- what a function sees
+static_same : (s : Storage) → is_lasting s ≡ is_static s
+static_same Static = refl
+static_same Outside = refl
+static_same Text = refl
+static_same Auto = refl
+static_same Formal = refl
+
+lasts_same : (o : Option Object) → lasts o ≡ is_static_object o
+lasts_same None = refl
+lasts_same (Some o) = static_same o.storage
+
+or_other : (a b : Bool) → (a || b) ≡ true → (b || a) ≡ true
+or_other true true h = refl
+or_other true false h = refl
+or_other false true h = refl
+or_other false false h = h
+
+module _ (env : Env) (ns : List ℕ) (u : IsUnitEnv ns env) where
+  sees_grows : (own : List ℕ) → Grows (scene_of (among own) env)
+      (scene_in (checked_unit env.tables ns) own)
+  sees_grows own = record {
+    stays = record { longer = omega arith; complete = λ j s e at h. at };
+    functions = omega arith;
+    names = λ n o at seen. record {
+      object = o;
+      there = at;
+      visible = subst (λ b. (b || among own n) ≡ true) (lasts_same (slice_get env.tables.objects n))
+          (or_other (among own n) (lasts (slice_get env.tables.objects n)) seen);
+      same = λ t h. h;
+    };
+  }
+
+  function_typed : (g : Function) → IsDefined env g → IsTypedFunction (checked_unit env.tables ns) g
+  function_typed g d = record {
+    result = d.called;
+    formals = λ i n at. let y = d.formals.formals i n at in
+        record { object = y.0; there = y.1; storage = y.2 };
+    distinct = d.formals.distinct;
+    body = subst (λ o. IsTypedBody
+        (scene_in (checked_unit env.tables ns) (g.formals ++ g.locals)) (result_of g.of) o)
+        (sym d.is)
+        (statement_stays (scene_of (among (g.formals ++ g.locals)) env)
+        (scene_in (checked_unit env.tables ns) (g.formals ++ g.locals)) u.held.fit.formed.table
+        (sees_grows (g.formals ++ g.locals)) (kept_there env.tables.objects) (labels_in d.body)
+        (result_of g.of) (result_of g.of) (λ e h. h) None d.body d.typed);
+  }
+
+  typed_unit : IsTypedUnit (checked_unit env.tables ns)
+  typed_unit = record {
+    structs = u.held.fit.formed.table;
+    members = λ k s at.
+        member_less env.tables.structs s s.members (u.held.fit.formed.table k s at)
+        (u.held.fit.structs k s at).0;
+    objects = λ n o at. record {
+      formed = (u.held.fit.formed.objects n o at).0;
+      plain = (u.held.fit.formed.objects n o at).1;
+      sound = u.held.fit.objects n o at;
+    };
+    functions = λ n g at.
+        ((u.held.fit.formed.functions n g at).0, u.held.fit.functions n g at);
+    definitions = λ k n at. let x = u.defined k n at in (x.0, x.1, function_typed x.0 x.2);
+    distinct = u.distinct;
+  }
+
+none_bad : {A : Type 0} (P : A → Type 0) (o : Option Place) (k : FaultKind) (c : Checked A)
+    → Gives P c → Gives P (where_none o k c)
+none_bad P None k c h = h
+none_bad P (Some p) k c h = gives_none
+
+told_typed : (env : Env) (ns : List ℕ) (us : List External) → IsUnitEnv ns env
+    → Gives IsTypedUnit (unit_told env ns us)
+told_typed env ns us u =
+    none_bad IsTypedUnit (open_tentative env us) _ _
+    (none_bad IsTypedUnit (undefined_function env.tables.objects env.tables.functions) _ _
+    (gives {x = checked_unit env.tables ns} (typed_unit env ns u)))
+
+start_unit : IsUnitEnv [] unit_start
+start_unit = record {
+  held = record {
+    fit = fit_of lasting_alone unit_start (start_sound lasting_alone);
+    homes = λ k o at. absurd (none_some o at);
+  };
+  file = refl;
+  distinct = distinct_none;
+  defined = λ i n at. absurd (none_some n at);
+}
+
+pub units_typed : UnitsAreTyped
+units_typed leaves names us x bytes w e =
+    (gives_then (externals_typed names (starts_typed leaves names bytes) unit_start [] us start_unit
+    w)
+    (λ y u. told_typed y.1 y.0 us u)).at x e

@@ -1,0 +1,7 @@
+//! The law.
+ghost use Rattle.sp_typed_unit_laws.specs.Units.{UnitsAreTyped};
+
+/// A unit that the checks accept is well typed, where values between braces are.
+pub fn units_are_typed()
+    ensures typed { UnitsAreTyped }
+{}

@@ -1,0 +1,6 @@
+pub mod Sorts
+pub mod Trees
+pub mod Starts
+pub mod Statements
+pub mod Constants
+pub mod Programs

@@ -1,0 +1,85 @@
+-- Which programs are well typed (C90 6.7).
+use Rattle.std.specs.Prelude.{◌≡◌, ℕ, ◌≤◌, nat_eq, ◌||◌, Bool, true, false, List, [], ◌++◌, length, Option, Some, None, slice_get, All, ⊤}
+use Rattle.std.specs.List.{list_any}
+use Rattle.sp_types.specs.declared.program.Storage.{Storage}
+use Rattle.sp_types.specs.declared.program.Storage.TheVariants.{Static, Outside, Text, Auto, Formal}
+use Rattle.sp_types.specs.Types.{result_of}
+use Rattle.sp_types.specs.Structs.{IsTable, IsFormed, IsFormedSignature}
+use Rattle.sp_types.specs.Programs.{Object, Function, Program}
+use Rattle.sp_ir.specs.Terrain.{size_of}
+use Rattle.sp_layout_laws.specs.Laws.{HaveMembers}
+use Rattle.sp_typing.specs.Trees.{Scene, IsCalled}
+use Rattle.sp_typing.specs.Starts.{AreLeafValues}
+use Rattle.sp_typing.specs.Statements.{IsTypedBody}
+use Rattle.sp_typing.specs.Constants.{is_stored}
+
+-- it lives as long as the program does (C90 6.1.2.4)
+abbrev pub is_static : Storage → Bool
+is_static Static = true
+is_static Outside = true
+is_static Text = true
+is_static Auto = false
+is_static Formal = false
+
+abbrev pub is_static_object : Option Object → Bool
+is_static_object None = false
+is_static_object (Some o) = is_static o.storage
+
+-- a function sees the objects of static storage, and its own
+abbrev pub sees : List Object → List ℕ → ℕ → Bool
+sees os own n = is_static_object (slice_get os n) || list_any (nat_eq n) own
+
+abbrev pub scene_of : Program → List ℕ → Scene
+scene_of p own = record { structs = p.structs; objects = p.objects; functions = length p.functions; is_visible = sees p.objects own }
+
+-- the function of the number k of the definitions lists this object as its own
+pub record Lists (p : Program) (k : ℕ) (n : ℕ) : Type 0 where
+  pub number : ℕ
+  pub function : Function
+  pub defined : slice_get p.definitions k ≡ Some number
+  pub there : slice_get p.functions number ≡ Some function
+  pub index : ℕ
+  pub listed : slice_get (function.formals ++ function.locals) index ≡ Some n
+
+-- start values that are known before the program runs; only what is complete has them
+pub record IsStaticStart (p : Program) (o : Object) : Type 0 where
+  pub sized : 1 ≤ size_of p.structs o.of
+  pub values : AreLeafValues (scene_of p []) o.of o.start
+  pub constants : All (λ e. is_stored e.1 ≡ true) o.start
+
+abbrev pub HasStaticStart : Program → Object → Storage → Type 0
+HasStaticStart p o Static = IsStaticStart p o
+HasStaticStart p o Text = IsStaticStart p o
+HasStaticStart p o storage = ⊤
+
+pub record IsTypedObject (p : Program) (n : ℕ) (o : Object) : Type 0 where
+  pub formed : IsFormed p.structs o.of
+  -- what a function lists is complete (C90 6.5)
+  pub sized : is_static o.storage ≡ false → 1 ≤ size_of p.structs o.of
+  pub owned : is_static o.storage ≡ false → (k : ℕ) × Lists p k n
+  pub start : HasStaticStart p o o.storage
+
+pub record IsFormal (p : Program) (n : ℕ) : Type 0 where
+  pub object : Object
+  pub there : slice_get p.objects n ≡ Some object
+  pub storage : object.storage ≡ Formal
+  pub sized : 1 ≤ size_of p.structs object.of
+
+-- a function that is defined
+pub record IsTypedFunction (p : Program) (g : Function) : Type 0 where
+  pub result : IsCalled p.structs (result_of g.of)
+  pub formals : (i n : ℕ) → slice_get g.formals i ≡ Some n → IsFormal p n
+  pub distinct : (i j n : ℕ) → slice_get g.formals i ≡ Some n → slice_get g.formals j ≡ Some n → i ≡ j
+  pub body : IsTypedBody (scene_of p (g.formals ++ g.locals)) (result_of g.of) g.body
+
+pub record IsTypedProgram (p : Program) : Type 0 where
+  pub structs : IsTable p.structs
+  pub members : HaveMembers p.structs
+  pub objects : (n : ℕ) (o : Object) → slice_get p.objects n ≡ Some o → IsTypedObject p n o
+  pub functions : (n : ℕ) (g : Function) → slice_get p.functions n ≡ Some g → IsFormedSignature p.structs g.of
+  pub definitions : (k n : ℕ) → slice_get p.definitions k ≡ Some n
+      → (g : Function) × (slice_get p.functions n ≡ Some g) × IsTypedFunction p g
+  -- each function is defined once, and an object is one function's own
+  pub distinct : (j k n : ℕ) → slice_get p.definitions j ≡ Some n → slice_get p.definitions k ≡ Some n → j ≡ k
+  pub owners : (j k n : ℕ) → Lists p j n → Lists p k n → j ≡ k
+  pub main : (k : ℕ) × (slice_get p.definitions k ≡ Some p.main)

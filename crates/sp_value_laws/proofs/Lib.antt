@@ -1,0 +1,11 @@
+pub mod Lists
+pub mod Roots
+pub mod Leaves
+pub mod Unique
+pub mod Values
+pub mod Objects
+pub mod Steady
+pub mod Everywhere
+pub mod InKinds
+pub mod Constants
+pub mod Whole

@@ -1,0 +1,7 @@
+pub mod Bytes
+pub mod Values
+pub mod Ranges
+pub mod Tokens
+pub mod Levelled
+pub mod LevelledStatements
+pub mod Law

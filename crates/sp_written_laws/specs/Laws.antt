@@ -1,0 +1,15 @@
+-- The units of texts are written as a text can have them (C90 6.1.3, 6.3, 6.6).
+use Rattle.std.specs.Prelude.{ℕ, ◌<◌, List, Ok, All}
+use Rattle.sp_tree.specs.declared.token.Token.{Token}
+use Rattle.sp_syntax.specs.Syntax.{External}
+use Rattle.sp_lexer.specs.declared.spot.Spot.{Spot}
+use Rattle.sp_lexer.specs.Scan.{IsAnswer}
+use Rattle.sp_syntax.specs.Places.{SpellsUnit}
+use Rattle.sp_syntax.specs.Levels.{IsLevelledUnit}
+use Rattle.sp_written_laws.specs.Statements.{AreWrittenExternals}
+
+-- a levelled unit that the tokens of a text of bytes begin with
+abbrev pub UnitsAreWritten : Type 0
+UnitsAreWritten = (names : List (List ℕ)) (text : List ℕ) (from : Spot) (room : ℕ) (tokens rest : List Token) (es : List External)
+    → All (λ b. b < 256) text → IsAnswer names text from room (Ok tokens) → SpellsUnit tokens es rest → IsLevelledUnit es
+    → AreWrittenExternals es

@@ -1,0 +1,11 @@
+//! The unit of a text is written as a text can have it: a law that only proofs use.
+//!
+//! What the scanner reads of bytes has numbers of 64 bits and characters that are ints. In what the
+//! parser reads of that, an operator stands where the grammar has one, and the braces of a struct
+//! hold a member. The laws of checked trees ask for that (`AreWrittenExternals`,
+//! specs/Statements.antt). So the value of `'\377'` is -1, and no tree has the number 2^64.
+#![tactic(auto)]
+
+mod laws;
+
+pub use laws::units_are_written;
