@@ -20,7 +20,7 @@ use Rattle.sp_draft_laws.specs.Stands.{table, scene, Fits}
 use Rattle.sp_draft_laws.specs.Grown.{Grown, same, node, IsMaybeFormed}
 use Rattle.sp_draft_laws.specs.Uses.{IsValue, Designates, Gives, GivesEnds, IsGood}
 use Rattle.sp_draft_laws.proofs.Growing.{onward, ready, back}
-use Rattle.sp_draft_laws.proofs.Sorts.{false_true, scalar_there, stored_there, agrees_floating}
+use Rattle.sp_draft_laws.proofs.Sorts.{tells_agree, false_true, scalar_there, stored_there, agrees_floating}
 use Rattle.sp_draft_laws.proofs.Loads.{loaded_good, addressed_good}
 use Rattle.sp_draft_laws.proofs.Keeps.{gives_made, direct_of, keep_good}
 use Rattle.sp_draft_laws.proofs.Operators.{scalar_value}
@@ -129,8 +129,9 @@ module _ (c : Context) (os : List Object) (rs : List Region) where
         → IsGood c os rs e (lvalue c e (left (direct n (object_type c n))))
     object_good e n h f r =
         let is : object_type c n ≡ h.object.of = ap type_of_object h.there in
+        let a : agrees h.object.of (of e) ≡ true = tells_agree h.object.of (of e) h.told r in
         let d : Designates c os (of e) (direct n h.object.of) =
-        (direct_of c os rs n h.object.of (fits.objects n h.object h.there h.visible) (agrees_floating h.object.of (of e) h.same), h.same) in
+        (direct_of c os rs n h.object.of (fits.objects n h.object h.there h.visible) (agrees_floating h.object.of (of e) a), a) in
         lvalue_good e (left (direct n (object_type c n))) f r
         (λ s. record { grown = same; pure = λ k. subst (λ t. Designates c os (of e) (direct n t)) (sym is) d })
 

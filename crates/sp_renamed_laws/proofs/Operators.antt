@@ -7,7 +7,7 @@ use Rattle.sp_types.specs.Typed.{Typed, of}
 use Rattle.sp_ir.specs.Formed.{is_floating}
 use Rattle.sp_renaming.specs.Renaming.{Renaming, number_in, renamed_type}
 use Rattle.sp_typing.specs.Trees.{Scene, has_place, HasMemberIn, HasMember, PointsToMember, IsIndex, IsSum, IsDifference, AreCompared, AreIntegers, IsBinary, IsStep, IsSigned, IsUnary, Converts, IsChoice, IsAssigned, IsCalled, IsNumber}
-use Rattle.sp_renamed_laws.specs.Refines.{Refines, of_void, of_integer, of_floating, of_pointer, of_array, of_struct, of_function}
+use Rattle.sp_typing.specs.Refines.{Refines, of_void, of_integer, of_floating, of_pointer, of_array, of_struct, of_function}
 use Rattle.sp_renamed_laws.specs.Follows.{AreMembers, HasMembers, Follows}
 use Rattle.sp_renamed_laws.proofs.Types.{not_floating, agrees_through, refines_self, integer_kept, pointer_kept, scalar_kept, agrees_kept, value_kept, convertible_kept, exact_kept, some_size, sized_kept, stored_kept, stepped_kept}
 

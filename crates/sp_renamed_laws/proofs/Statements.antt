@@ -8,9 +8,8 @@ use Rattle.sp_types.specs.Statements.{TypedStatement, typed_statement, TypedStat
 use Rattle.sp_renaming.specs.Renaming.{Renaming, number_in, renamed, renamed_statement, renamed_statement_form, renamed_other, all_renamed_statements}
 use Rattle.sp_typing.specs.Trees.{Scene}
 use Rattle.sp_typing.specs.Statements.{labels_in, form_labels, other_labels, all_labels, Setting, IsCondition, IsMaybeTyped, IsMaybeCondition, IsReturned, IsDeclared, AreDeclared, IsTypedStatement, IsTypedForm, IsMaybeTypedStatement, AreTypedStatements}
-use Rattle.sp_renamed_laws.specs.Refines.{Refines, IsTold}
+use Rattle.sp_typing.specs.Refines.{Refines}
 use Rattle.sp_renamed_laws.specs.Follows.{Follows}
-use Rattle.sp_renamed_laws.specs.Statements.{IsToldMaybe, IsToldStatement, IsToldStatementForm, IsToldOther, AreToldStatements}
 use Rattle.sp_renamed_laws.specs.Laws.{IsRenamed, BodiesAreRenamed}
 use Rattle.sp_renamed_laws.proofs.Types.{integer_is, scalar_kept, value_kept, stored_kept}
 use Rattle.sp_renamed_laws.proofs.Trees.{renamed_tree}
@@ -61,72 +60,72 @@ module _ (r : Renaming) (s p : Scene) (w : Follows r s p) (t u : CType) (told : 
   declared_kept [] h = tt
   declared_kept (n ∷ ns) h = (entered n h.0, declared_kept ns h.1)
 
-  condition_kept : (e : Typed) → IsTold s e → IsCondition s e → IsCondition p (renamed r e)
-  condition_kept e k h =
-      let x : IsRenamed r p e = renamed_tree r s p w e k h.0 in
+  condition_kept : (e : Typed) → IsCondition s e → IsCondition p (renamed r e)
+  condition_kept e h =
+      let x : IsRenamed r p e = renamed_tree r s p w e h.0 in
       (x.typed, scalar_kept (number_in r.structs) (of e) (of (renamed r e)) x.refines h.1)
 
-  maybe_kept : (e : Option Typed) → IsToldMaybe s e → IsMaybeTyped s e → IsMaybeTyped p (option_map (renamed r) e)
-  maybe_kept None k h = tt
-  maybe_kept (Some e) k h = (renamed_tree r s p w e k h).typed
+  maybe_kept : (e : Option Typed) → IsMaybeTyped s e → IsMaybeTyped p (option_map (renamed r) e)
+  maybe_kept None h = tt
+  maybe_kept (Some e) h = (renamed_tree r s p w e h).typed
 
-  maybe_condition_kept : (e : Option Typed) → IsToldMaybe s e → IsMaybeCondition s e → IsMaybeCondition p (option_map (renamed r) e)
-  maybe_condition_kept None k h = tt
-  maybe_condition_kept (Some e) k h = condition_kept e k h
+  maybe_condition_kept : (e : Option Typed) → IsMaybeCondition s e → IsMaybeCondition p (option_map (renamed r) e)
+  maybe_condition_kept None h = tt
+  maybe_condition_kept (Some e) h = condition_kept e h
 
-  returned_kept : (e : Option Typed) → IsToldMaybe s e → IsReturned before e → IsReturned later (option_map (renamed r) e)
-  returned_kept None k h = tt
-  returned_kept (Some e) k h =
-      let x : IsRenamed r p e = renamed_tree r s p w e k h.0 in
+  returned_kept : (e : Option Typed) → IsReturned before e → IsReturned later (option_map (renamed r) e)
+  returned_kept None h = tt
+  returned_kept (Some e) h =
+      let x : IsRenamed r p e = renamed_tree r s p w e h.0 in
       (x.typed, stored_kept r s p w t u told h.1, value_kept (number_in r.structs) (of e) (of (renamed r e)) t u x.refines told h.2)
 
   mutual
-    statement_kept : (k : Option IntKind) (x : TypedStatement) → IsToldStatement s x → IsTypedStatement before k x
+    statement_kept : (k : Option IntKind) (x : TypedStatement) → IsTypedStatement before k x
         → IsTypedStatement later k (renamed_statement r x)
-    statement_kept k (typed_statement f q e) l h = form_kept k f l h
+    statement_kept k (typed_statement f q e) h = form_kept k f h
 
-    form_kept : (k : Option IntKind) (f : TypedStatementForm) → IsToldStatementForm s f → IsTypedForm before k f
+    form_kept : (k : Option IntKind) (f : TypedStatementForm) → IsTypedForm before k f
         → IsTypedForm later k (renamed_statement_form r f)
-    form_kept k (label n x) l h = statement_kept k x l h
-    form_kept k (case_of z x) l h = (h.0, statement_kept k x l h.1)
-    form_kept k (default_of x) l h = (h.0, statement_kept k x l h.1)
-    form_kept k (block ns xs) l h = (declared_kept ns h.0, statements_kept k xs l h.1)
-    form_kept k empty l h = tt
-    form_kept k (single e) l h = (renamed_tree r s p w e l h).typed
-    form_kept k (if_else e x other) l h =
-        (condition_kept e l.0 h.0, statement_kept k x l.1 h.1, other_kept k other l.2 h.2)
-    form_kept k (switch_on e x) l h =
-        let y : IsRenamed r p e = renamed_tree r s p w e l.0 h.0 in (
+    form_kept k (label n x) h = statement_kept k x h
+    form_kept k (case_of z x) h = (h.0, statement_kept k x h.1)
+    form_kept k (default_of x) h = (h.0, statement_kept k x h.1)
+    form_kept k (block ns xs) h = (declared_kept ns h.0, statements_kept k xs h.1)
+    form_kept k empty h = tt
+    form_kept k (single e) h = (renamed_tree r s p w e h).typed
+    form_kept k (if_else e x other) h =
+        (condition_kept e h.0, statement_kept k x h.1, other_kept k other h.2)
+    form_kept k (switch_on e x) h =
+        let y : IsRenamed r p e = renamed_tree r s p w e h.0 in (
           y.typed,
           (
             h.1.0,
             integer_is (number_in r.structs) h.1.0 (of e) (of (renamed r e)) y.refines h.1.1,
-            statement_kept (Some h.1.0) x l.1 h.1.2,
+            statement_kept (Some h.1.0) x h.1.2,
           ),
         )
-    form_kept k (while_loop e x) l h = (condition_kept e l.0 h.0, statement_kept k x l.1 h.1)
-    form_kept k (do_loop x e) l h = (statement_kept k x l.0 h.0, condition_kept e l.1 h.1)
-    form_kept k (for_loop a e d x) l h =
-        (maybe_kept a l.0 h.0, maybe_condition_kept e l.1 h.1, maybe_kept d l.2 h.2, statement_kept k x l.3 h.3)
-    form_kept k (goto_name n) l h = h
-    form_kept k continue_loop l h = tt
-    form_kept k break_out l h = tt
-    form_kept k (return_value e) l h = returned_kept e l h
+    form_kept k (while_loop e x) h = (condition_kept e h.0, statement_kept k x h.1)
+    form_kept k (do_loop x e) h = (statement_kept k x h.0, condition_kept e h.1)
+    form_kept k (for_loop a e d x) h =
+        (maybe_kept a h.0, maybe_condition_kept e h.1, maybe_kept d h.2, statement_kept k x h.3)
+    form_kept k (goto_name n) h = h
+    form_kept k continue_loop h = tt
+    form_kept k break_out h = tt
+    form_kept k (return_value e) h = returned_kept e h
 
-    other_kept : (k : Option IntKind) (o : MaybeTypedStatement) → IsToldOther s o → IsMaybeTypedStatement before k o
+    other_kept : (k : Option IntKind) (o : MaybeTypedStatement) → IsMaybeTypedStatement before k o
         → IsMaybeTypedStatement later k (renamed_other r o)
-    other_kept k no_statement l h = tt
-    other_kept k (some_statement x) l h = statement_kept k x l h
+    other_kept k no_statement h = tt
+    other_kept k (some_statement x) h = statement_kept k x h
 
-    statements_kept : (k : Option IntKind) (xs : TypedStatements) → AreToldStatements s xs → AreTypedStatements before k xs
+    statements_kept : (k : Option IntKind) (xs : TypedStatements) → AreTypedStatements before k xs
         → AreTypedStatements later k (all_renamed_statements r xs)
-    statements_kept k no_statements l h = tt
-    statements_kept k (next_statement x xs) l h = (statement_kept k x l.0 h.0, statements_kept k xs l.1 h.1)
+    statements_kept k no_statements h = tt
+    statements_kept k (next_statement x xs) h = (statement_kept k x h.0, statements_kept k xs h.1)
 
-  pub kept : (x : TypedStatement) → IsToldStatement s x → IsTypedStatement before None x → IsTypedStatement later None (renamed_statement r x)
-  kept x l h = statement_kept None x l h
+  pub kept : (x : TypedStatement) → IsTypedStatement before None x → IsTypedStatement later None (renamed_statement r x)
+  kept x h = statement_kept None x h
 
 pub bodies_renamed : BodiesAreRenamed
-bodies_renamed r s p t u body w told entered whole h =
+bodies_renamed r s p t u body w told entered h =
     subst (λ ls. IsTypedStatement (record { scene = p; labels = ls; result = u }) None (renamed_statement r body)) (sym (labels_kept r body))
-    (kept r s p w t u told entered (labels_in body) body whole h)
+    (kept r s p w t u told entered (labels_in body) body h)

@@ -1,5 +1,5 @@
 -- Well-typed expressions of a unit are well typed in its program.
-use Rattle.std.proofs.Common.{◌≡◌, ℕ, true, false, unwrap_or, refl, sym, ap, subst, true≢false, pos}
+use Rattle.std.proofs.Common.{Option, None, Some, ◌≡◌, ℕ, true, false, unwrap_or, refl, sym, ap, subst, pos}
 use Rattle.sp_tree.specs.declared.token.Punct.TheVariants.{Star}
 use Rattle.sp_tree.specs.declared.fault.Place.{Place}
 use Rattle.sp_types.specs.Types.{CType, void, integer, floating, pointer, array, structure, function}
@@ -8,23 +8,25 @@ use Rattle.sp_types.specs.Typed.{Typed, typed, TypedForm, TypedList, no_typed, n
 use Rattle.sp_types.specs.Typed as tree
 use Rattle.sp_ir.specs.Formed.{is_floating}
 use Rattle.sp_renaming.specs.Renaming.{Renaming, number_in, renamed_type, type_in, renamed, renamed_form, all_renamed}
-use Rattle.sp_typing.specs.Sorts.{agrees}
 use Rattle.sp_typing.specs.Trees.{Scene, Names, has_place, IsTyped, IsForm, AreArguments}
-use Rattle.sp_renamed_laws.specs.Refines.{Refines, IsToldBy, IsTold, AreTold}
+use Rattle.sp_typing.specs.Refines.{Tells, KeepsLength, of_void, of_integer, of_floating, of_pointer, of_array, of_struct, of_function, Refines}
 use Rattle.sp_renamed_laws.specs.Follows.{IsObjectIn, Follows}
 use Rattle.sp_renamed_laws.specs.Laws.{IsRenamed, ExpressionsAreRenamed}
-use Rattle.sp_renamed_laws.proofs.Types.{number_equals, refines_self, refines_through, floating_kept, function_kept, decayed_kept, pointer_kept, scalar_kept, struct_kept, agrees_kept, value_kept, formed_kept, some_size, stored_kept}
+use Rattle.sp_renamed_laws.proofs.Types.{refines_self, refines_through, floating_kept, function_kept, decayed_kept, pointer_kept, scalar_kept, struct_kept, agrees_kept, value_kept, formed_kept, some_size, stored_kept}
 use Rattle.sp_renamed_laws.proofs.Operators.{member_kept, pointed_kept, index_kept, binary_kept, step_kept, unary_kept, converts_kept, choice_kept, assigned_kept, called_kept, number_kept}
 
--- what has a type of its own agrees with itself
-agrees_self : (t : CType) → is_floating t ≡ false → agrees t t ≡ true
-agrees_self void h = refl
-agrees_self (integer k) h = refl
-agrees_self (floating k) h = absurd (true≢false h)
-agrees_self (pointer t) h = refl
-agrees_self (array t n) h = refl
-agrees_self (structure k) h = number_equals k
-agrees_self (function s) h = refl
+keeps_self : (n : Option ℕ) → KeepsLength n n
+keeps_self None = tt
+keeps_self (Some n) = refl
+
+tells_self : (t : CType) → Tells t t
+tells_self void = of_void
+tells_self (integer k) = of_integer k
+tells_self (floating k) = of_floating k
+tells_self (pointer t) = of_pointer t t (tells_self t)
+tells_self (array t n) = of_array t t n n (tells_self t) (keeps_self n)
+tells_self (structure k) = of_struct k
+tells_self (function s) = of_function s s
 
 module _ (r : Renaming) where
   placed : (e : Typed) → has_place e ≡ true → has_place (renamed r e) ≡ true
@@ -64,93 +66,93 @@ module _ (r : Renaming) (s p : Scene) (w : Follows r s p) where
     refines = subst (λ u. Refines (number_in r.structs) t u) (sym is) (self t);
   }
 
-  object_of : (t : CType) (n : ℕ) (q m : Place) → IsToldBy s.objects n t → is_floating t ≡ false → Names s n t
+  object_of : (t : CType) (n : ℕ) (q m : Place) → is_floating t ≡ false → Names s n t
       → IsRenamed r p (typed (tree.object n) t q m)
-  object_of t n q m told fixed h =
+  object_of t n q m fixed h =
       let o : IsObjectIn r p n h.object.of = w.objects n h.object h.there h.visible in
       let is : type_in r (tree.object n) t ≡ o.object.of = ap (λ x. unwrap_or x (here t)) o.told in
       let x : Refines (number_in r.structs) t o.object.of =
-      refines_through (number_in r.structs) t h.object.of o.object.of (told h.object h.there) o.refines in
+      refines_through (number_in r.structs) t h.object.of o.object.of h.told o.refines in
       let apart : is_floating o.object.of ≡ false = floating_kept (number_in r.structs) t o.object.of x fixed in
       record {
         typed = subst (λ u. (is_floating u ≡ false) × IsFormed p.structs u × Names p (number_in r.objects n) u) (sym is)
-            (apart, o.formed, record { object = o.object; there = o.there; visible = o.visible; same = agrees_self o.object.of apart });
+            (apart, o.formed, record { object = o.object; there = o.there; visible = o.visible; told = tells_self o.object.of });
         refines = subst (λ u. Refines (number_in r.structs) t u) (sym is) x;
       }
 
   mutual
-    pub renamed_tree : (e : Typed) → IsTold s e → IsTyped s e → IsRenamed r p e
-    renamed_tree (typed (tree.object n) t q m) k h = object_of t n q m k h.0 h.2
-    renamed_tree (typed (tree.number n) t q m) k h =
+    pub renamed_tree : (e : Typed) → IsTyped s e → IsRenamed r p e
+    renamed_tree (typed (tree.object n) t q m) h = object_of t n q m h.0 h.2
+    renamed_tree (typed (tree.number n) t q m) h =
         tree_of t (tree.number n) q m refl h.0 h.1 (number_kept r s p w (pos n.value) t (here t) (self t) h.2)
-    renamed_tree (typed (tree.character z) t q m) k h =
+    renamed_tree (typed (tree.character z) t q m) h =
         tree_of t (tree.character z) q m refl h.0 h.1 (number_kept r s p w z t (here t) (self t) h.2)
-    renamed_tree (typed (tree.constant z) t q m) k h =
+    renamed_tree (typed (tree.constant z) t q m) h =
         tree_of t (tree.constant z) q m refl h.0 h.1 (number_kept r s p w z t (here t) (self t) h.2)
-    renamed_tree (typed (tree.function n) t q m) k h =
+    renamed_tree (typed (tree.function n) t q m) h =
         tree_of t (tree.function n) q m refl h.0 h.1
         (function_kept (number_in r.structs) t (here t) (self t) h.2.0, w.functions n h.2.1)
-    renamed_tree (typed (tree.convert a) t q m) k h =
-        let x : IsRenamed r p a = renamed_tree a k h.2.0 in
+    renamed_tree (typed (tree.convert a) t q m) h =
+        let x : IsRenamed r p a = renamed_tree a h.2.0 in
         tree_of t (tree.convert a) q m refl h.0 h.1
         (x.typed, converts_kept r s p w (of a) (of (renamed r a)) t (here t) x.refines (self t) h.2.1)
-    renamed_tree (typed (tree.decay a) t q m) k h =
-        let x : IsRenamed r p a = renamed_tree a k h.2.0 in
+    renamed_tree (typed (tree.decay a) t q m) h =
+        let x : IsRenamed r p a = renamed_tree a h.2.0 in
         tree_of t (tree.decay a) q m refl h.0 h.1 (
           x.typed,
           placed r a h.2.1,
           decayed_kept (number_in r.structs) (of a) (of (renamed r a)) x.refines h.2.2,
           pointer_kept (number_in r.structs) t (here t) (self t) h.2.3,
         )
-    renamed_tree (typed (tree.index a b) t q m) k h =
-        let x : IsRenamed r p a = renamed_tree a k.0 h.2.0 in
-        let y : IsRenamed r p b = renamed_tree b k.1 h.2.1 in
+    renamed_tree (typed (tree.index a b) t q m) h =
+        let x : IsRenamed r p a = renamed_tree a h.2.0 in
+        let y : IsRenamed r p b = renamed_tree b h.2.1 in
         tree_of t (tree.index a b) q m refl h.0 h.1 (
           x.typed,
           y.typed,
           index_kept r s p w (of a) (of (renamed r a)) (of b) (of (renamed r b)) x.refines y.refines h.2.2,
           some_size r s p w t (here t) (self t) h.2.3,
         )
-    renamed_tree (typed (tree.call a es) t q m) k h =
-        let x : IsRenamed r p a = renamed_tree a k.0 h.2.0 in
+    renamed_tree (typed (tree.call a es) t q m) h =
+        let x : IsRenamed r p a = renamed_tree a h.2.0 in
         tree_of t (tree.call a es) q m refl h.0 h.1 (
           x.typed,
           pointer_kept (number_in r.structs) (of a) (of (renamed r a)) x.refines h.2.1,
-          renamed_list es k.1 h.2.2,
+          renamed_list es h.2.2,
           called_kept r s p w t (here t) (self t) h.2.3,
         )
-    renamed_tree (typed (tree.member a n) t q m) k h =
-        let x : IsRenamed r p a = renamed_tree a k h.2.0 in
+    renamed_tree (typed (tree.member a n) t q m) h =
+        let x : IsRenamed r p a = renamed_tree a h.2.0 in
         tree_of t (tree.member a n) q m refl h.0 h.1
         (x.typed, member_kept r s p w (of a) (of (renamed r a)) n t (here t) x.refines (self t) h.2.1)
-    renamed_tree (typed (tree.arrow a n) t q m) k h =
-        let x : IsRenamed r p a = renamed_tree a k h.2.0 in
+    renamed_tree (typed (tree.arrow a n) t q m) h =
+        let x : IsRenamed r p a = renamed_tree a h.2.0 in
         tree_of t (tree.arrow a n) q m refl h.0 h.1
         (x.typed, pointed_kept r s p w (of a) (of (renamed r a)) n t (here t) x.refines (self t) h.2.1)
-    renamed_tree (typed (tree.after op a) t q m) k h =
-        let x : IsRenamed r p a = renamed_tree a k h.2.0 in
+    renamed_tree (typed (tree.after op a) t q m) h =
+        let x : IsRenamed r p a = renamed_tree a h.2.0 in
         tree_of t (tree.after op a) q m refl h.0 h.1
         (x.typed, step_kept r s p w a (renamed r a) (placed r a) x.refines t (here t) (self t) h.2.1)
-    renamed_tree (typed (tree.unary op a) t q m) k h =
-        let x : IsRenamed r p a = renamed_tree a k h.2.0 in
+    renamed_tree (typed (tree.unary op a) t q m) h =
+        let x : IsRenamed r p a = renamed_tree a h.2.0 in
         tree_of t (tree.unary op a) q m refl h.0 h.1
         (x.typed, unary_kept r s p w a (renamed r a) (placed r a) x.refines op t (here t) (self t) h.2.1)
-    renamed_tree (typed (tree.cast a) t q m) k h =
-        let x : IsRenamed r p a = renamed_tree a k h.2.0 in
+    renamed_tree (typed (tree.cast a) t q m) h =
+        let x : IsRenamed r p a = renamed_tree a h.2.0 in
         tree_of t (tree.cast a) q m refl h.0 h.1
         (x.typed, converts_kept r s p w (of a) (of (renamed r a)) t (here t) x.refines (self t) h.2.1)
-    renamed_tree (typed (tree.binary op a b) t q m) k h =
-        let x : IsRenamed r p a = renamed_tree a k.0 h.2.0 in
-        let y : IsRenamed r p b = renamed_tree b k.1 h.2.1 in
+    renamed_tree (typed (tree.binary op a b) t q m) h =
+        let x : IsRenamed r p a = renamed_tree a h.2.0 in
+        let y : IsRenamed r p b = renamed_tree b h.2.1 in
         tree_of t (tree.binary op a b) q m refl h.0 h.1 (
           x.typed,
           y.typed,
           binary_kept r s p w op (of a) (of (renamed r a)) (of b) (of (renamed r b)) t (here t) x.refines y.refines (self t) h.2.2,
         )
-    renamed_tree (typed (tree.choice a b c) t q m) k h =
-        let x : IsRenamed r p a = renamed_tree a k.0 h.2.0 in
-        let y : IsRenamed r p b = renamed_tree b k.1 h.2.1 in
-        let z : IsRenamed r p c = renamed_tree c k.2 h.2.2 in
+    renamed_tree (typed (tree.choice a b c) t q m) h =
+        let x : IsRenamed r p a = renamed_tree a h.2.0 in
+        let y : IsRenamed r p b = renamed_tree b h.2.1 in
+        let z : IsRenamed r p c = renamed_tree c h.2.2 in
         tree_of t (tree.choice a b c) q m refl h.0 h.1 (
           x.typed,
           y.typed,
@@ -158,9 +160,9 @@ module _ (r : Renaming) (s p : Scene) (w : Follows r s p) where
           scalar_kept (number_in r.structs) (of a) (of (renamed r a)) x.refines h.2.3,
           choice_kept r s p w (of b) (of (renamed r b)) (of c) (of (renamed r c)) t (here t) y.refines z.refines (self t) h.2.4,
         )
-    renamed_tree (typed (tree.assign op a b) t q m) k h =
-        let x : IsRenamed r p a = renamed_tree a k.0 h.2.0 in
-        let y : IsRenamed r p b = renamed_tree b k.1 h.2.1 in
+    renamed_tree (typed (tree.assign op a b) t q m) h =
+        let x : IsRenamed r p a = renamed_tree a h.2.0 in
+        let y : IsRenamed r p b = renamed_tree b h.2.1 in
         tree_of t (tree.assign op a b) q m refl h.0 h.1 (
           x.typed,
           y.typed,
@@ -169,17 +171,17 @@ module _ (r : Renaming) (s p : Scene) (w : Follows r s p) where
           value_kept (number_in r.structs) (of a) (of (renamed r a)) t (here t) x.refines (self t) h.2.4,
           assigned_kept r s p w op (of b) (of (renamed r b)) t (here t) y.refines (self t) h.2.5,
         )
-    renamed_tree (typed (tree.comma a b) t q m) k h =
-        let x : IsRenamed r p a = renamed_tree a k.0 h.2.0 in
-        let y : IsRenamed r p b = renamed_tree b k.1 h.2.1 in
+    renamed_tree (typed (tree.comma a b) t q m) h =
+        let x : IsRenamed r p a = renamed_tree a h.2.0 in
+        let y : IsRenamed r p b = renamed_tree b h.2.1 in
         tree_of t (tree.comma a b) q m refl h.0 h.1
         (x.typed, y.typed, agrees_kept (number_in r.structs) (of b) (of (renamed r b)) t (here t) y.refines (self t) h.2.2)
 
-    renamed_list : (es : TypedList) → AreTold s es → AreArguments s es → AreArguments p (all_renamed r es)
-    renamed_list no_typed k h = tt
-    renamed_list (next_typed e es) k h =
-        let x : IsRenamed r p e = renamed_tree e k.0 h.0 in
-        (x.typed, stored_kept r s p w (of e) (of (renamed r e)) x.refines h.1, renamed_list es k.1 h.2)
+    renamed_list : (es : TypedList) → AreArguments s es → AreArguments p (all_renamed r es)
+    renamed_list no_typed h = tt
+    renamed_list (next_typed e es) h =
+        let x : IsRenamed r p e = renamed_tree e h.0 in
+        (x.typed, stored_kept r s p w (of e) (of (renamed r e)) x.refines h.1, renamed_list es h.2)
 
 pub renamed_typed : ExpressionsAreRenamed
-renamed_typed r s p e w k h = renamed_tree r s p w e k h
+renamed_typed r s p e w h = renamed_tree r s p w e h

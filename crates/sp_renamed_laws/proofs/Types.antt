@@ -12,7 +12,7 @@ use Rattle.sp_ir.specs.Formed.{is_integer, is_pointer, is_struct, is_array, is_f
 use Rattle.sp_renaming.specs.Renaming.{Renaming, number_in, renamed_type, renamed_signature, renamed_parameters, renamed_types}
 use Rattle.sp_typing.specs.Sorts.{is_function, agrees, same_value, IsExact, IsSized, IsStored, IsStepped}
 use Rattle.sp_typing.specs.Trees.{Scene}
-use Rattle.sp_renamed_laws.specs.Refines.{KeepsLength, Refines, of_void, of_integer, of_floating, of_pointer, of_array, of_struct, of_function}
+use Rattle.sp_typing.specs.Refines.{KeepsLength, Refines, of_void, of_integer, of_floating, of_pointer, of_array, of_struct, of_function}
 use Rattle.sp_renamed_laws.specs.Follows.{Follows}
 
 none_some : {A : Type 0} (x : A) → None ≡ Some x → ⊥

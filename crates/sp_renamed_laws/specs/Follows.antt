@@ -9,7 +9,7 @@ use Rattle.sp_ir.specs.Formed.{is_floating}
 use Rattle.sp_renaming.specs.Renaming.{Renaming, number_in, renamed_type}
 use Rattle.sp_typing.specs.Sorts.{agrees}
 use Rattle.sp_typing.specs.Trees.{Scene}
-use Rattle.sp_renamed_laws.specs.Refines.{Refines}
+use Rattle.sp_typing.specs.Refines.{Refines}
 
 -- the same names in the same order, with types of the sorts that those of the unit have
 abbrev pub AreMembers : List ℕ → List (ℕ × CType) → List (ℕ × CType) → Type 0

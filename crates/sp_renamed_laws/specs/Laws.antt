@@ -6,9 +6,8 @@ use Rattle.sp_types.specs.Statements.{TypedStatement}
 use Rattle.sp_renaming.specs.Renaming.{Renaming, number_in, renamed, renamed_statement}
 use Rattle.sp_typing.specs.Trees.{Scene, IsTyped}
 use Rattle.sp_typing.specs.Statements.{IsDeclared, IsTypedBody}
-use Rattle.sp_renamed_laws.specs.Refines.{Refines, IsTold}
+use Rattle.sp_typing.specs.Refines.{Refines}
 use Rattle.sp_renamed_laws.specs.Follows.{Follows}
-use Rattle.sp_renamed_laws.specs.Statements.{IsToldStatement}
 
 -- the tree as the program has it, with a type that stands for the unit's
 pub record IsRenamed (r : Renaming) (p : Scene) (e : Typed) : Type 0 where
@@ -16,10 +15,10 @@ pub record IsRenamed (r : Renaming) (p : Scene) (e : Typed) : Type 0 where
   pub refines : Refines (number_in r.structs) (of e) (of (renamed r e))
 
 abbrev pub ExpressionsAreRenamed : Type 0
-ExpressionsAreRenamed = (r : Renaming) (s p : Scene) (e : Typed) → Follows r s p → IsTold s e → IsTyped s e → IsRenamed r p e
+ExpressionsAreRenamed = (r : Renaming) (s p : Scene) (e : Typed) → Follows r s p → IsTyped s e → IsRenamed r p e
 
 -- where the objects of blocks are well typed in the program, and the result has a type for the unit's
 abbrev pub BodiesAreRenamed : Type 0
 BodiesAreRenamed = (r : Renaming) (s p : Scene) (t u : CType) (body : TypedStatement) → Follows r s p
     → Refines (number_in r.structs) t u → ((n : ℕ) → IsDeclared s n → IsDeclared p (number_in r.objects n))
-    → IsToldStatement s body → IsTypedBody s t (Some body) → IsTypedBody p u (Some (renamed_statement r body))
+    → IsTypedBody s t (Some body) → IsTypedBody p u (Some (renamed_statement r body))

@@ -1,4 +1,2 @@
-pub mod Refines
 pub mod Follows
-pub mod Statements
 pub mod Laws

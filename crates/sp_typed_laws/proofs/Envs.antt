@@ -17,6 +17,7 @@ use Rattle.sp_unit_laws.proofs.Tables.{whole_level}
 use Rattle.sp_unit_laws.proofs.Envs.{IsFormedEnv, Goes, Keeps, keeps_on}
 use Rattle.sp_typed_laws.specs.Sound.{IsSound, IsSoundSignature, IsSoundStruct, is_lasting, lasts, is_seen, scene_of}
 use Rattle.sp_typed_laws.proofs.Types.{IsSoundTable}
+use Rattle.sp_typing.specs.Refines.{Tells}
 use Rattle.sp_typing.specs.Sorts.{agrees}
 use Rattle.sp_typed_laws.proofs.Grows.{Grows}
 
@@ -54,12 +55,12 @@ is_linked Inner = false
 abbrev pub IsHome : Object → Type 0
 IsHome o = is_linked o.linkage ≡ true → is_lasting o.storage ≡ true
 
--- the object of this number agrees with all that it agreed with, and lasts where it lasted; where
+-- the object of this number tells all that it told, and lasts where it lasted; where
 -- it doesn't last it is the same
 pub record IsKeptObject (os : List Object) (k : ℕ) (o : Object) : Type 0 where
   pub object : Object
   pub there : slice_get os k ≡ Some object
-  pub same : (t : CType) → agrees o.of t ≡ true → agrees object.of t ≡ true
+  pub same : (t : CType) → Tells o.of t → Tells object.of t
   pub stored : is_lasting o.storage ≡ true → is_lasting object.storage ≡ true
   pub whole : is_lasting o.storage ≡ false → object ≡ o
 

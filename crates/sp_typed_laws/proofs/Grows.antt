@@ -11,7 +11,8 @@ use Rattle.sp_types.specs.Typed as tree
 use Rattle.sp_types.specs.Layout.{layout}
 use Rattle.sp_types.specs.Programs.{Object}
 use Rattle.sp_ir.specs.Terrain.{size_in, size_of}
-use Rattle.sp_typing.specs.Sorts.{agrees, IsSized, IsStored, IsStepped}
+use Rattle.sp_typing.specs.Refines.{Tells}
+use Rattle.sp_typing.specs.Sorts.{IsSized, IsStored, IsStepped}
 use Rattle.sp_typing.specs.Trees.{Scene, Names, HasMember, PointsToMember, IsIndex, IsSum, IsDifference, IsBinary, IsStep, IsUnary, IsChoice, IsAssigned, IsCalled, IsTyped, IsForm, AreArguments}
 use Rattle.sp_unit_laws.proofs.Lists.{some_is}
 use Rattle.sp_unit_laws.proofs.Longer.{type_longer}
@@ -20,12 +21,12 @@ use Rattle.sp_typed_laws.specs.Laws.{IsKnown}
 use Rattle.sp_typed_laws.proofs.Types.{size_laid}
 use Rattle.sp_typed_laws.proofs.Trees.{IsTree, IsValued}
 
--- an object of this number that agrees with all that this one agrees with
+-- an object of this number that tells all that this one tells
 pub record IsStill (r : Scene) (n : ℕ) (o : Object) : Type 0 where
   pub object : Object
   pub there : slice_get r.objects n ≡ Some object
   pub visible : r.is_visible n ≡ true
-  pub same : (t : CType) → agrees o.of t ≡ true → agrees object.of t ≡ true
+  pub same : (t : CType) → Tells o.of t → Tells object.of t
 
 pub record Grows (s r : Scene) : Type 0 where
   pub stays : Stays s.structs r.structs
@@ -162,7 +163,7 @@ module _ (s r : Scene) (g : Grows s r) where
   names_stay : (n : ℕ) (t : CType) → Names s n t → Names r n t
   names_stay n t h =
       let x : IsStill r n h.object = g.names n h.object h.there h.visible in
-      record { object = x.object; there = x.there; visible = x.visible; same = x.same t h.same }
+      record { object = x.object; there = x.there; visible = x.visible; told = x.same t h.told }
 
   mutual
     pub typed_stays : (e : Typed) → IsTyped s e → IsTyped r e

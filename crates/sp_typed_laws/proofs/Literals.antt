@@ -25,7 +25,7 @@ use Rattle.sp_unit_laws.proofs.Lists.{none_some, some_is, get_below, pushed_last
 use Rattle.sp_unit_laws.proofs.Composites.{array_formed}
 use Rattle.sp_unit_laws.proofs.After.{Gives, gives, gives_none, gives_met, gives_given}
 use Rattle.sp_typed_laws.specs.Sound.{lasts, is_seen, scene_of}
-use Rattle.sp_typed_laws.proofs.Types.{and_true, or_right, agrees_self, IsLaid, type_laid}
+use Rattle.sp_typed_laws.proofs.Types.{and_true, or_right, tells_self, IsLaid, type_laid}
 use Rattle.sp_typed_laws.proofs.Trees.{IsMade}
 use Rattle.sp_typed_laws.proofs.Envs.{IsFit, fit_table, visible_fitting, Reaches, reaches_on}
 use Rattle.sp_typed_laws.proofs.After.{After, done, given}
@@ -146,7 +146,7 @@ module _ (own : ℕ → Bool) (env : Env) (h : IsFit own env) where
             there = pushed_last env.tables.objects o;
             visible = or_right (own (length env.tables.objects)) _
                 (ap lasts (pushed_last env.tables.objects o));
-            same = refl;
+            told = tells_self _;
           },
         );
         placed = λ e. refl;
@@ -182,7 +182,7 @@ module _ (own : ℕ → Bool) (env : Env) (h : IsFit own env) where
         typed = λ solid. (
           solid,
           (h.formed.objects k o at).0,
-          record { object = o; there = at; visible = seen; same = agrees_self o.of solid },
+          record { object = o; there = at; visible = seen; told = tells_self o.of },
         );
         placed = λ e. refl;
       })

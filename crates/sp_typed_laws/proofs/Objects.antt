@@ -1,5 +1,5 @@
 -- What a table of objects gives where an entry is set (C90 6.1.2.6, 6.5.4.3).
-use Rattle.std.proofs.Common.{◌≡◌, ◌⊎◌, inl, inr, ℕ, zero, suc, ◌≤◌, ◌<◌, ◌||◌, Bool, true, false, length, List, [], ◌∷◌, Some, refl, ap, sym, subst, ◌∙◌, true≢false, arith}
+use Rattle.std.proofs.Common.{None, Some, Option, ◌≡◌, ◌⊎◌, inl, inr, ℕ, zero, suc, ◌≤◌, ◌<◌, ◌||◌, Bool, true, false, length, List, [], ◌∷◌, Some, refl, ap, sym, subst, ◌∙◌, true≢false, arith}
 use Rattle.std.specs.Prelude.{slice_get, slice_set}
 use Rattle.sp_types.specs.Types.{CType, pointer, array, function}
 use Rattle.sp_types.specs.Programs.{Object}
@@ -8,9 +8,10 @@ use Rattle.sp_operands.specs.Conversions.{is_function}
 use Rattle.sp_scopes.specs.Meanings.{Meaning}
 use Rattle.sp_scopes.specs.Meanings as means
 use Rattle.sp_env.specs.Env.{Env, set_object}
-use Rattle.sp_names.specs.Composite.{composite}
+use Rattle.sp_names.specs.Composite.{composite, composite_signature, told_length}
+use Rattle.sp_typing.specs.Refines.{Tells, of_void, of_integer, of_floating, of_pointer, of_array, of_struct, of_function, KeepsLength}
 use Rattle.sp_typing.specs.Sorts.{agrees}
-use Rattle.sp_unit_laws.proofs.Lists.{some_is, each_set, get_below, set_there, set_other}
+use Rattle.sp_unit_laws.proofs.Lists.{none_some, some_is, each_set, get_below, set_there, set_other}
 use Rattle.sp_unit_laws.proofs.Envs.{Goes, keeps_on}
 use Rattle.sp_unit_laws.proofs.Updates.{goes_object_set}
 use Rattle.sp_typed_laws.specs.Sound.{IsSound, is_lasting, lasts, is_seen}
@@ -113,10 +114,27 @@ composite_agrees (function r) (function s) (function t) h = refl
 composite_agrees (function r) (function s) t h = h
 composite_agrees a b t h = h
 
--- an object that agrees with all that the one that was there agrees with, where both last
+length_kept : (n m o : Option ℕ) → KeepsLength n m → KeepsLength n (told_length m o)
+length_kept None m o h = tt
+length_kept (Some n) None o h = absurd (none_some n h)
+length_kept (Some n) (Some m) o h = h
+
+-- so it tells at least what the type does
+pub composite_tells : (a b t : CType) → Tells a t → Tells (composite a b) t
+composite_tells a (pointer b) t (of_pointer u v x) = of_pointer u (composite v b) (composite_tells v b u x)
+composite_tells a (array b o) t (of_array u v n m x k) =
+    of_array u (composite v b) n (told_length m o) (composite_tells v b u x) (length_kept n m o k)
+composite_tells a (function r) t (of_function p s) = of_function p (composite_signature s r)
+composite_tells a b t of_void = of_void
+composite_tells a b t (of_integer k) = of_integer k
+composite_tells a b t (of_floating k) = of_floating k
+composite_tells a b t (of_struct k) = of_struct k
+composite_tells a b t x = x
+
+-- an object that tells all that the one that was there tells, where both last
 pub reaches_replaced : (own : ℕ → Bool) (env later : Env) (k : ℕ) (was o : Object)
     → Reaches own env later → slice_get env.tables.objects k ≡ Some was
-    → ((t : CType) → agrees was.of t ≡ true → agrees o.of t ≡ true)
+    → ((t : CType) → Tells was.of t → Tells o.of t)
     → is_lasting was.storage ≡ true → is_lasting o.storage ≡ true
     → IsFormed later.tables.structs o.of → is_function o.of ≡ false → IsSound o.of
     → Reaches own env (set_object later k o)
@@ -155,7 +173,7 @@ reaches_replaced own env later k was o g at same lasts stays formed plain sound 
           there = subst (λ i. slice_get (slice_set later.tables.objects k o) i ≡ Some o) is
               (set_there later.tables.objects k o
               (get_below later.tables.objects k y.object y.there));
-          same = subst (λ y. (t : CType) → agrees y.of t ≡ true → agrees o.of t ≡ true) old same;
+          same = subst (λ y. (t : CType) → Tells y.of t → Tells o.of t) old same;
           stored = λ e. stays;
           whole = λ e. absurd
               (true≢false (sym lasts ∙ ap (λ y. is_lasting y.storage) old ∙ e));

@@ -103,7 +103,7 @@ module _ (own : ℕ → Bool) (env : Env) where
       object = w.object;
       there = w.there;
       visible = object_same (slice_get os k) h;
-      same = w.same;
+      told = w.told;
     }
     designated_alone t (tree.function k) h w = w
     designated_alone t (tree.index a b) h w =

@@ -15,7 +15,7 @@ use Rattle.sp_initialisers.specs.declared.targets.Target.{Target}
 use Rattle.sp_initialisers.specs.Runs.{parts, taken as part_taken}
 use Rattle.sp_initialisers.specs.Strings.{only_value, string_for, string_added}
 use Rattle.sp_initialisers.specs.Initialisers.{leaf_given, one_given, only_given, is_aggregate, Progress, filled, given as init_given, struct_given, array_given, alone, initialised, how_many, last_leaf, measured, with_length, is_unmeasured, Started, started}
-use Rattle.sp_typing.specs.Sorts.{agrees}
+use Rattle.sp_typing.specs.Refines.{Tells, of_array}
 use Rattle.sp_unit_laws.proofs.Lists.{none_some, some_is}
 use Rattle.sp_unit_laws.proofs.Composites.{array_formed}
 use Rattle.sp_unit_laws.proofs.After.{Gives, gives, gives_met, gives_given, anything}
@@ -136,21 +136,16 @@ some_elements : (last each : ℕ) → 1 ≤ how_many last each
 some_elements last zero = omega arith
 some_elements last (suc each) = omega arith
 
--- of the second type is what is of the first
+-- the second type tells all that the first does
 abbrev pub Completes : CType → CType → Type 0
-Completes t u = (v : CType) → agrees t v ≡ true → agrees u v ≡ true
+Completes t u = (v : CType) → Tells t v → Tells u v
 
 abbrev IsMeasured : CType → Env → CType → Type 0
 IsMeasured t env u = IsObjectType u env × Completes t u
 
-array_completes : (t : CType) (n m : Option ℕ) → Completes (array t n) (array t m)
-array_completes t n m (array v k) h = refl
-array_completes t n m void h = h
-array_completes t n m (integer k) h = h
-array_completes t n m (floating k) h = h
-array_completes t n m (pointer v) h = h
-array_completes t n m (structure k) h = h
-array_completes t n m (function s) h = h
+array_completes : (t : CType) (m : Option ℕ) → Completes (array t None) (array t m)
+array_completes t m v (of_array u w None o x k) = of_array u t None m x tt
+array_completes t m v (of_array u w (Some n) o x k) = absurd (none_some n k)
 
 measured_sound : (env : Env) (at : Place) (vs : List (ℕ × Typed)) (t : CType) → IsObjectType t env
     → Gives (IsMeasured t env) (measured env.tables.structs at vs t)
@@ -167,7 +162,7 @@ measured_sound env at vs (array t None) h =
         ),
         refl,
       ),
-      array_completes t None (Some n),
+      array_completes t (Some n),
     ))))
 measured_sound env at vs (array t (Some n)) h = gives {x = array t (Some n)} (h, λ v e. e)
 measured_sound env at vs void h = gives {x = void} (h, λ v e. e)

@@ -22,8 +22,8 @@ use Rattle.sp_env.specs.Env.{Env, declared, with_typing, set_object, object_type
 use Rattle.sp_names.specs.Composite.{composite}
 use Rattle.sp_names.specs.Functions.{is_same_linkage, is_retyped, retyped}
 use Rattle.sp_objects.specs.Objects.{storage_for, is_outside, new_object, object_reserved, linked_to, object_added, is_valued, is_more_defined, joined_object, may_join, joined_at, object_joined, object_declared, may_wait, object_unvalued}
+use Rattle.sp_typing.specs.Refines.{Tells}
 use Rattle.sp_typing.specs.Trees.{Scene}
-use Rattle.sp_typing.specs.Sorts.{agrees}
 use Rattle.sp_typing.specs.Statements.{IsEntered, IsDeclared}
 use Rattle.sp_unit_laws.proofs.Lists.{get_below, set_there}
 use Rattle.sp_unit_laws.proofs.After.{refused_not, accepted_is, Gives, gives, gives_met, gives_given}
@@ -35,7 +35,7 @@ use Rattle.sp_typed_laws.proofs.Envs.{is_linked, IsFit, Reaches, reaches_nowhere
 use Rattle.sp_typed_laws.proofs.After.{After, Leads, leads, leads_none, leads_met}
 use Rattle.sp_typed_laws.proofs.Updates.{reaches_linked, reaches_typing, reaches_object, leads_declared}
 use Rattle.sp_typed_laws.proofs.Functions.{reaches_retyped}
-use Rattle.sp_typed_laws.proofs.Objects.{composite_agrees, reaches_set, reaches_replaced}
+use Rattle.sp_typed_laws.proofs.Objects.{composite_tells, reaches_set, reaches_replaced}
 use Rattle.sp_typed_laws.proofs.Leaves.{type_kept}
 use Rattle.sp_typed_unit_laws.proofs.Held.{IsHeld, held_on}
 use Rattle.sp_typed_unit_laws.proofs.Going.{all_declared_stay}
@@ -208,7 +208,7 @@ linked_same a l h g = absurd (true≢false (sym h))
 record IsJoined (env : Env) (k : ℕ) (o : Object) : Type 0 where
   was : Object
   there : slice_get env.tables.objects k ≡ Some was
-  same : (t : CType) → agrees was.of t ≡ true → agrees o.of t ≡ true
+  same : (t : CType) → Tells was.of t → Tells o.of t
   lasted : is_lasting was.storage ≡ true
   lasting : is_lasting o.storage ≡ true
   good : IsObjectType o.of env
@@ -235,7 +235,7 @@ joined_good own env k was t s valued p h at lasted f = by (is_more_defined was.s
     by true = record {
       was = was;
       there = at;
-      same = composite_agrees was.of t;
+      same = composite_tells was.of t;
       lasted = lasted;
       lasting = refl;
       good = c;
@@ -243,7 +243,7 @@ joined_good own env k was t s valued p h at lasted f = by (is_more_defined was.s
     by false = record {
       was = was;
       there = at;
-      same = composite_agrees was.of t;
+      same = composite_tells was.of t;
       lasted = lasted;
       lasting = lasted;
       good = c;

@@ -1,4 +1,5 @@
 pub mod Sorts
+pub mod Refines
 pub mod Trees
 pub mod Starts
 pub mod Statements

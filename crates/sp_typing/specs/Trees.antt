@@ -12,6 +12,7 @@ use Rattle.sp_types.specs.Typed as tree
 use Rattle.sp_types.specs.Programs.{Object}
 use Rattle.sp_ir.specs.Formed.{InKind, is_integer, is_pointer, is_array, is_struct, is_scalar, is_floating, is_operator}
 use Rattle.sp_ir.specs.Terrain.{size_of}
+use Rattle.sp_typing.specs.Refines.{Tells}
 use Rattle.sp_typing.specs.Sorts.{is_function, agrees, same_value, IsExact, IsSized, IsStored, IsStepped}
 
 -- What a tree may name: objects, of which a local one is visible in its own function alone, and
@@ -22,12 +23,12 @@ pub record Scene : Type 0 where
   pub functions : ℕ
   pub is_visible : ℕ → Bool
 
--- the object of this number, by a type of its own type's sort
+-- the object of this number, whose type tells at least what the tree's does
 pub record Names (s : Scene) (n : ℕ) (t : CType) : Type 0 where
   pub object : Object
   pub there : slice_get s.objects n ≡ Some object
   pub visible : s.is_visible n ≡ true
-  pub same : agrees object.of t ≡ true
+  pub told : Tells object.of t
 
 -- ---- lvalues
 
