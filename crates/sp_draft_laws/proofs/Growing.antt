@@ -13,7 +13,7 @@ use Rattle.sp_draft.specs.Context.{Context}
 use Rattle.sp_draft.specs.Draft.{Draft, next, with_loose, add}
 use Rattle.sp_draft.specs.Calls.{with_site, next_site}
 use Rattle.sp_draft_laws.specs.Stands.{Holds}
-use Rattle.sp_draft_laws.specs.Grown.{IsEnd, IsHead, AreEnds, IsReady, is_plain, GivesSite, Grown, same, node, called, made, sited, turned, joined}
+use Rattle.sp_draft_laws.specs.Grown.{IsEnd, AreEnds, IsReady, is_plain, GivesSite, Grown, same, node, called, made, sited, turned, joined}
 
 -- ---- lists
 
@@ -75,9 +75,6 @@ module _ {c : Context} {os : List Object} {rs : List Region} where
 
   pub end_stays : {s t : Draft} → Grown c os rs s t → (f n : ℕ) → IsEnd s.nodes f n → IsEnd t.nodes f n
   end_stays g f n h = record { node = h.node; there = nodes_stay g n h.node h.there; function = h.function; begins = h.begins }
-
-  pub head_stays : {s t : Draft} → Grown c os rs s t → (f n : ℕ) → IsHead s.nodes f n → IsHead t.nodes f n
-  head_stays g f n h = record { node = h.node; there = nodes_stay g n h.node h.there; function = h.function; ends = h.ends }
 
   pub ends_stay : {s t : Draft} → Grown c os rs s t → (ends : List ℕ) → AreEnds c s ends → AreEnds c t ends
   ends_stay {s = s} {t = t} g ends h = All-weaker (IsEnd s.nodes c.function) (IsEnd t.nodes c.function) (λ n. end_stays g c.function n) ends h

@@ -176,9 +176,6 @@ module _ (c : Context) (os : List Object) (rs : List Region) where
       by (array t n) e st = absurd st
       by (function s) e st = absurd st
 
-  kept_agrees : (t : CType) (l : Lvalue) → IsKept t l → is_floating t ≡ false → agrees (lvalue_type l) t ≡ true
-  kept_agrees t l h f = subst (λ u. agrees u t ≡ true) (sym h.1) (agrees_self t f)
-
   -- the value goes to a new temporary
   pub save_good : (t : CType) (e : Expression) (at : Place) (s : Draft) → IsFormed c.structs t → IsStored c.structs t → (Holds c os s → IsValue c os t e)
       → Gives c os rs (IsKept t) s (save c t e at s)

@@ -13,7 +13,7 @@ use Rattle.sp_lower_functions.specs.Functions.{Part, result_count, frame_for, fi
 use Rattle.sp_lower_objects.specs.Codes.{part_at, number_in, result_object, first_behind, code_for, codes_from}
 use Rattle.sp_lower_objects.specs.Names.{name_at}
 use Rattle.sp_lower_objects.specs.Objects.{own_objects, local_objects}
-use Rattle.sp_lowered_laws.proofs.Places.{StandFrom, some_is}
+use Rattle.sp_value_laws.proofs.Lists.{StandFrom, some_is}
 use Rattle.sp_lowered_laws.proofs.Objects.{IsHolder}
 use Rattle.sp_lowered_laws.proofs.Locals.{result_stands, rest_stand}
 

@@ -23,7 +23,7 @@ use Rattle.sp_typing.specs.Programs.{is_static, Lists, IsTypedObject, IsTypedPro
 use Rattle.sp_draft_laws.specs.Stands.{site_kind}
 use Rattle.sp_draft_laws.specs.Sound.{IsFormedSite}
 use Rattle.sp_value_laws.specs.Starts.{StartsStand}
-use Rattle.sp_lowered_laws.proofs.Places.{place_cases, some_is}
+use Rattle.sp_value_laws.proofs.Lists.{place_cases, some_is}
 use Rattle.sp_lowered_laws.proofs.Owners.{code_defines}
 use Rattle.sp_lowered_laws.proofs.Objects.{IsProgramObject, program_from, program_length, IsFunctionObject, function_from, IsHolder, IsOwn, temporary, result, local_from}
 use Rattle.sp_lowered_laws.proofs.Locals.{IsSiteLike, site_like, mapped_from}

@@ -35,7 +35,7 @@ use Rattle.sp_draft_laws.proofs.Sorts.{false_true, stored_there}
 use Rattle.sp_body_laws.specs.Frames.{FitsFrame}
 use Rattle.sp_function_laws.specs.Functions.{AreFit}
 use Rattle.sp_value_laws.specs.Starts.{StartsStand}
-use Rattle.sp_lowered_laws.proofs.Places.{StandFrom, stand_all, stand_left, stand_right, some_is, below_there}
+use Rattle.sp_value_laws.proofs.Lists.{StandFrom, stand_all, stand_left, stand_right, some_is, below_there}
 use Rattle.sp_lowered_laws.proofs.Owners.{IsIn, IsListed, listed, listed_owned}
 use Rattle.sp_lowered_laws.proofs.Objects.{IsProgramObject, program_at, program_length, IsFunctionObject, function_at, function_length}
 use Rattle.sp_lowered_laws.proofs.Locals.{result_stands, result_held, rest_stand, part_is, local_length, start_length}

@@ -11,7 +11,7 @@ use Rattle.sp_lower_laws.proofs.Typed.{lowered-holds}
 use Rattle.sp_typing.specs.Programs.{IsTypedProgram}
 use Rattle.sp_value_laws.specs.Starts.{StartsStand}
 use Rattle.sp_lowered_laws.specs.Formed.{LoweringsAreFormed}
-use Rattle.sp_lowered_laws.proofs.Places.{below_there}
+use Rattle.sp_value_laws.proofs.Lists.{below_there}
 use Rattle.sp_lowered_laws.proofs.Fits.{c, is, os, rs}
 use Rattle.sp_lowered_laws.proofs.Statics.{starts_stand}
 use Rattle.sp_lowered_laws.proofs.Whole.{sound}

@@ -1,4 +1,3 @@
-pub mod Places
 pub mod Owners
 pub mod Objects
 pub mod Locals

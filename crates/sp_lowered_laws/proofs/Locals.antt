@@ -15,7 +15,7 @@ use Rattle.sp_lower_objects.specs.Objects.{plain_object, temporary_objects, resu
 use Rattle.sp_lower.specs.Programs.{local_count, site_count}
 use Rattle.sp_draft_laws.specs.Stands.{Stands, site_kind}
 use Rattle.sp_function_laws.specs.Functions.{TemporariesStand, SitesStand}
-use Rattle.sp_lowered_laws.proofs.Places.{StandFrom, stand_left, stand_right, stand_first, some_is}
+use Rattle.sp_value_laws.proofs.Lists.{StandFrom, stand_left, stand_right, stand_first, some_is}
 use Rattle.sp_lowered_laws.proofs.Objects.{IsHolder, IsPlain, temporary_at, temporary_length, result_at, result_length}
 
 -- what holds a value of a function stands for it

@@ -27,7 +27,7 @@ use Rattle.sp_body_laws.specs.Bodies.{is_inner}
 use Rattle.sp_function_laws.specs.Functions.{IsPlaced, IsOfPart, IsNodeOf, AreLowered}
 use Rattle.sp_function_laws.specs.Functions as placed
 use Rattle.sp_value_laws.specs.Starts.{StartsStand}
-use Rattle.sp_lowered_laws.proofs.Places.{some_is, below_there, there_below}
+use Rattle.sp_value_laws.proofs.Lists.{some_is, below_there, there_below}
 use Rattle.sp_lowered_laws.proofs.Owners.{in_left, code_is}
 use Rattle.sp_lowered_laws.proofs.Objects.{IsProgramObject, IsFunctionObject}
 use Rattle.sp_lowered_laws.proofs.Codes.{IsCodeFor, code_from}

@@ -14,7 +14,7 @@ use Rattle.sp_lower_objects.specs.Codes.{part_at}
 use Rattle.sp_lower_objects.specs.Objects.{plain_object, kind_of_storage, owner_of, texts_behind, start_of, zero_of, program_object, program_objects, function_object, function_objects, temporary_objects, result_objects, own_objects, local_objects}
 use Rattle.sp_lower_objects.specs.Names.{name_at, temporary_name, result_name}
 use Rattle.sp_lower_objects.specs.Owners.{mark_at}
-use Rattle.sp_lowered_laws.proofs.Places.{place_cases, some_is}
+use Rattle.sp_value_laws.proofs.Lists.{place_cases, some_is}
 
 -- without start values and code
 pub record IsPlain (x : Object) : Type 0 where

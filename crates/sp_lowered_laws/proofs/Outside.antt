@@ -26,7 +26,7 @@ use Rattle.sp_draft_laws.specs.Sound.{IsSiteNode}
 use Rattle.sp_draft_laws.proofs.Sorts.{false_true}
 use Rattle.sp_value_laws.specs.Starts.{StartsStand}
 use Rattle.sp_lowered_laws.proofs.Shapes.{one_shape}
-use Rattle.sp_lowered_laws.proofs.Places.{StandFrom, place_cases, stand_left, stand_first, some_is}
+use Rattle.sp_value_laws.proofs.Lists.{StandFrom, place_cases, stand_left, stand_first, some_is}
 use Rattle.sp_lowered_laws.proofs.Objects.{program_from, function_from, IsOwn, temporary, result, local_from}
 use Rattle.sp_lowered_laws.proofs.Locals.{site_like, mapped_from}
 use Rattle.sp_lowered_laws.proofs.Codes.{code_at}

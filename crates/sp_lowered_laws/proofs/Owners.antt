@@ -3,7 +3,7 @@ use Rattle.std.proofs.Common.{◌≡◌, ◌⊎◌, inl, inr, ℕ, zero, suc, �
 use Rattle.std.proofs.lemmas.Option.{none-some}
 use Rattle.sp_types.specs.Programs.{Object, Function}
 use Rattle.sp_lower_objects.specs.Owners.{marked, owned, nothing_for, owners_of, numbered, codes_of, known_mark, mark_at}
-use Rattle.sp_lowered_laws.proofs.Places.{some_is, behind, place_cases}
+use Rattle.sp_value_laws.proofs.Lists.{some_is, behind, place_cases}
 use Rattle.sp_draft_laws.proofs.Growing.{before_all}
 
 -- ---- lists that are set
@@ -166,14 +166,6 @@ owned_some k (x ∷ gs) marks n (suc i) g e own low =
     owned_some (k + 1) gs (marked k x.locals (marked k x.formals marks)) n i g e own (omega (arith, marked_length k x.locals (marked k x.formals marks), marked_length k x.formals marks, low)) in
     let s : k + 1 + h.2.index ≡ k + suc h.2.index = omega arith in
     (h.0, h.1, record { index = suc h.2.index; function = h.2.function; there = h.2.there; number = h.2.number ∙ s; own = h.2.own })
-
--- the owner of an object is a function that lists it
-pub owner_lists : (objects : List Object) (gs : List Function) (n k : ℕ) → mark_at (owners_of objects gs) n ≡ Some k → IsListed 0 gs n k
-owner_lists objects gs n k e = by (owned_cases 0 gs (nothing_for objects) n)
-  where
-    by : (mark_at (owners_of objects gs) n ≡ mark_at (nothing_for objects) n) ⊎ ((j : ℕ) × (mark_at (owners_of objects gs) n ≡ Some j) × IsListed 0 gs n j) → IsListed 0 gs n k
-    by (inl h) = absurd (none-some k (sym (nothing_at objects n) ∙ sym h ∙ e))
-    by (inr h) = subst (λ j. IsListed 0 gs n j) (some_is h.0 k (sym h.1 ∙ e)) h.2
 
 -- what a function lists has an owner that lists it
 pub listed_owned : (objects : List Object) (gs : List Function) (n i : ℕ) (g : Function) → slice_get gs i ≡ Some g → IsIn (listed g) n → n < length objects

@@ -3,7 +3,7 @@ use Rattle.std.proofs.Common.{◌≡◌, ℕ, List, [], ◌∷◌, Some, None, s
 use Rattle.sp_types.specs.Types.{CType, void, integer, floating, pointer, array, structure, function, Struct}
 use Rattle.sp_ir.specs.Shapes.{Shape, Shapes, union_of, array_of, struct_of, next_shape, HasShape, HaveShapes, has_integer, has_pointer, has_floating, has_array, has_struct, has_union, have_none, have_next}
 use Rattle.sp_draft_laws.proofs.Sorts.{false_true}
-use Rattle.sp_lowered_laws.proofs.Places.{some_is}
+use Rattle.sp_value_laws.proofs.Lists.{some_is}
 
 first_is : (m k : ℕ × CType) (r q : List (ℕ × CType)) → m ∷ r ≡ k ∷ q → m ≡ k
 first_is m k r q e = some_is m k (ap (λ xs. slice_get xs 0) e)

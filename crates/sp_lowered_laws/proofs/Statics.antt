@@ -14,7 +14,7 @@ use Rattle.sp_typing.specs.Programs.{is_static, is_static_object, sees, IsTypedP
 use Rattle.sp_draft_laws.specs.Stands.{Stands, Fits}
 use Rattle.sp_draft_laws.proofs.Sorts.{false_true}
 use Rattle.sp_value_laws.specs.Starts.{StartsStand}
-use Rattle.sp_value_laws.specs.Laws.{AreLowered}
+use Rattle.sp_value_laws.specs.Laws.{ObjectsStand}
 use Rattle.sp_value_laws.proofs.Whole.{starts_hold}
 use Rattle.sp_lowered_laws.proofs.Objects.{IsProgramObject}
 use Rattle.sp_lowered_laws.proofs.Fits.{c, is, os, rs, owners, unit_object, function_object_at, local_storage, storage_site, sized_layout}
@@ -47,7 +47,7 @@ module _ (p : Program) (names : List (List ℕ)) (typed : IsTypedProgram p) (w :
         pointers-hold p.structs t (os p names typed w numbered) typed.structs typed.members e.0 e.1;
   }
 
-  units_lowered : AreLowered p.objects (os p names typed w numbered)
+  units_lowered : ObjectsStand p.objects (os p names typed w numbered)
   units_lowered n o there = let x = unit_object p names typed w numbered n o there in (x.0, x.1, x.2.of, x.2.kind)
 
   pub starts_stand : StartsStand p (c p names typed w numbered) (os p names typed w numbered) (rs p names typed w numbered) (is p names typed w numbered)

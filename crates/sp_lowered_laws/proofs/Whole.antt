@@ -21,7 +21,7 @@ use Rattle.sp_draft_laws.proofs.Sorts.{false_true}
 use Rattle.sp_function_laws.specs.Functions.{AreFit, TemporariesStand, SitesStand, AreLowered}
 use Rattle.sp_function_laws.proofs.Functions.{functions_are}
 use Rattle.sp_value_laws.specs.Starts.{StartsStand}
-use Rattle.sp_lowered_laws.proofs.Places.{some_is, below_there}
+use Rattle.sp_value_laws.proofs.Lists.{some_is, below_there}
 use Rattle.sp_lowered_laws.proofs.Locals.{temporaries_stand, sites_stand}
 use Rattle.sp_lowered_laws.proofs.Codes.{parts_length, codes_length}
 use Rattle.sp_lowered_laws.proofs.Fits.{gs, c, is, os, rs, definitions_there, v, defined_at, locals_stand, sites_from, all_fit}

@@ -4,7 +4,7 @@
 //! with the start values of its objects (`StartsStand` of `sp_value_laws`), in all that later layers
 //! ask (`IsFormed` of `sp_ir`): each expression, command and edge, each object with its
 //! owner and its start, each function with its one entry and exit, each call with its return, and
-//! each site with its node. So the test of `sp_formed` says yes to it.
+//! each site with its node.
 #![tactic(auto)]
 
 mod laws;

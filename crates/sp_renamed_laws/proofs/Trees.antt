@@ -1,5 +1,5 @@
 -- Well-typed expressions of a unit are well typed in its program.
-use Rattle.std.proofs.Common.{Option, None, Some, ◌≡◌, ℕ, true, false, unwrap_or, refl, sym, ap, subst, pos}
+use Rattle.std.proofs.Common.{◌≡◌, ℕ, true, false, unwrap_or, refl, sym, ap, subst, pos}
 use Rattle.sp_tree.specs.declared.token.Punct.TheVariants.{Star}
 use Rattle.sp_tree.specs.declared.fault.Place.{Place}
 use Rattle.sp_types.specs.Types.{CType, void, integer, floating, pointer, array, structure, function}
@@ -9,15 +9,11 @@ use Rattle.sp_types.specs.Typed as tree
 use Rattle.sp_ir.specs.Formed.{is_floating}
 use Rattle.sp_renaming.specs.Renaming.{Renaming, number_in, renamed_type, type_in, renamed, renamed_form, all_renamed}
 use Rattle.sp_typing.specs.Trees.{Scene, Names, has_place, IsTyped, IsForm, AreArguments}
-use Rattle.sp_typing.specs.Refines.{Tells, KeepsLength, of_void, of_integer, of_floating, of_pointer, of_array, of_struct, of_function, Refines}
+use Rattle.sp_typing.specs.Refines.{Tells, of_void, of_integer, of_floating, of_pointer, of_array, of_struct, of_function, Refines}
 use Rattle.sp_renamed_laws.specs.Follows.{IsObjectIn, Follows}
 use Rattle.sp_renamed_laws.specs.Laws.{IsRenamed, ExpressionsAreRenamed}
-use Rattle.sp_renamed_laws.proofs.Types.{refines_self, refines_through, floating_kept, function_kept, decayed_kept, pointer_kept, scalar_kept, struct_kept, agrees_kept, value_kept, formed_kept, some_size, stored_kept}
+use Rattle.sp_renamed_laws.proofs.Types.{keeps_self, refines_self, refines_through, floating_kept, function_kept, decayed_kept, pointer_kept, scalar_kept, struct_kept, agrees_kept, value_kept, formed_kept, some_size, stored_kept}
 use Rattle.sp_renamed_laws.proofs.Operators.{member_kept, pointed_kept, index_kept, binary_kept, step_kept, unary_kept, converts_kept, choice_kept, assigned_kept, called_kept, number_kept}
-
-keeps_self : (n : Option ℕ) → KeepsLength n n
-keeps_self None = tt
-keeps_self (Some n) = refl
 
 tells_self : (t : CType) → Tells t t
 tells_self void = of_void

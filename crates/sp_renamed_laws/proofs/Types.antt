@@ -33,7 +33,7 @@ same_numbers f j k h = subst (λ i. (f j == f i) ≡ true) (eqb-true j k h) (num
 
 -- ---- which types stand for which
 
-keeps_self : (n : Option ℕ) → KeepsLength n n
+pub keeps_self : (n : Option ℕ) → KeepsLength n n
 keeps_self None = tt
 keeps_self (Some n) = refl
 

@@ -4,18 +4,17 @@ use Rattle.std.specs.Prelude.{slice_get, slice_set}
 use Rattle.sp_tree.specs.declared.fault.Place.{Place}
 use Rattle.sp_types.specs.Types.{CType, structure, Struct}
 use Rattle.sp_types.specs.Structs.{IsWhole}
-use Rattle.sp_types.specs.declared.extents.Extent.{Extent}
 use Rattle.sp_operands.specs.Answers.{accepted, and_then}
 use Rattle.sp_scopes.specs.declared.meaning.Tag.{Tag}
 use Rattle.sp_scopes.specs.declared.meaning.Tag.TheVariants as tags
 use Rattle.sp_env.specs.Env.{Env, with_struct, set_struct, with_depth}
-use Rattle.sp_type_rules.specs.Tags.{tag_found, open_struct, tagged, is_union, struct_at, struct_referred, enum_at, enum_referred}
-use Rattle.sp_member_rules.specs.Members.{is_open_level, begun_struct, begun, depth_above, completed}
+use Rattle.sp_type_rules.specs.Tags.{tag_found, open_struct, tagged, struct_at, struct_referred, enum_at, enum_referred}
+use Rattle.sp_member_rules.specs.Members.{begun_struct, begun, depth_above, completed}
 use Rattle.sp_expr_check.specs.Specifiers.{struct_opened}
-use Rattle.sp_unit_laws.proofs.Lists.{some_is, none_some, each_pushed, each_set, get_below, pushed_length, pushed_before, set_length, set_other, set_there}
-use Rattle.sp_unit_laws.proofs.Tables.{table_pushed, table_set, whole_level}
+use Rattle.sp_unit_laws.proofs.Lists.{some_is, each_pushed, each_set, get_below, pushed_length, pushed_before, set_length, set_other, set_there}
+use Rattle.sp_unit_laws.proofs.Tables.{table_pushed, table_set}
 use Rattle.sp_unit_laws.proofs.Members.{IsMade, struct_made}
-use Rattle.sp_unit_laws.proofs.Envs.{IsFormedEnv, Goes, formed_over}
+use Rattle.sp_unit_laws.proofs.Envs.{Goes, formed_over}
 use Rattle.sp_unit_laws.proofs.After.{Gives, gives, gives_none, gives_then, gives_met}
 use Rattle.sp_typed_laws.specs.Sound.{IsSoundStruct}
 use Rattle.sp_typed_laws.proofs.Envs.{IsFit, fit_table, kept_there, kept_function, Moves, moves_on, Reaches, reaches_nowhere, reaches_on}
@@ -23,6 +22,7 @@ use Rattle.sp_typed_laws.proofs.After.{After, done, after_none, next, taken, met
 use Rattle.sp_typed_laws.proofs.Updates.{reaches_by, reaches_tagged}
 use Rattle.sp_typed_laws.proofs.Members.{is_filled, struct_sound}
 use Rattle.sp_typed_laws.proofs.Leaves.{IsType, AreMembers}
+use Rattle.sp_unit_laws.proofs.Braces.{found_union, found_open, open_incomplete, IsBegun}
 
 -- the struct of a number is there
 abbrev IsThere : ℕ → Env → Type 0
@@ -49,10 +49,6 @@ reaches_opened own env tag union h =
     (omega arith) (kept_function env.tables.functions) refl
     (each_pushed IsSoundStruct env.tables.structs (open_struct tag union) h.structs (tt, tt))
     h.objects h.functions
-
-found_union : (o : Option Struct) (was : Bool) → is_union o ≡ Some was → (s : Struct) × (o ≡ Some s)
-found_union None was e = absurd (none_some was e)
-found_union (Some s) was e = (s, refl)
 
 struct_there : (own : ℕ → Bool) (env : Env) (union : Bool) (tag : Option ℕ) (p : Place)
     (o : Option Tag) → IsFit own env → After own env IsThere (struct_at env union tag p o)
@@ -88,25 +84,6 @@ enum_named env tag p = by (tag_found env false tag)
     by (Some (tags.Struct k)) = gives_none
 
 -- ---- the struct whose members are about to be read
-
-found_open : (o : Option Struct) → is_open_level o ≡ true
-    → (s : Struct) × (o ≡ Some s) × ((s.level == 0) ≡ true)
-found_open None e = absurd (true≢false (sym e))
-found_open (Some s) e = (s, refl, e)
-
-open_incomplete : (env : Env) (k : ℕ) (s : Struct) → IsFormedEnv env
-    → slice_get env.tables.structs k ≡ Some s → (s.level == 0) ≡ true → s.extent ≡ None
-open_incomplete env k s h at low = by s.extent refl
-  where
-    by : (o : Option Extent) → s.extent ≡ o → s.extent ≡ None
-    by None e = e
-    by (Some x) e = absurd
-        (true≢false (sym low ∙ whole_level env.tables.structs s s.members x e (h.table k s at)))
-
--- it is open before, and begun behind the rule
-pub record IsBegun (env : Env) (tag : Option ℕ) (union : Bool) (k : ℕ) (later : Env) : Type 0 where
-  pub before : (s : Struct) → slice_get env.tables.structs k ≡ Some s → (s.level == 0) ≡ false → ⊥
-  pub behind : slice_get later.tables.structs k ≡ Some (begun_struct tag union)
 
 reaches_begun : (own : ℕ → Bool) (env : Env) (k : ℕ) (tag : Option ℕ) (union : Bool) (s : Struct)
     → IsFit own env → slice_get env.tables.structs k ≡ Some s → (s.level == 0) ≡ true

@@ -14,7 +14,7 @@ use Rattle.sp_ir.specs.Formed.{InKind}
 use Rattle.sp_unit_laws.proofs.Lists.{Each, each_first, each_behind, each_found}
 use Rattle.sp_unit_laws.proofs.Stays.{Stays}
 use Rattle.sp_unit_laws.proofs.Tables.{whole_level}
-use Rattle.sp_unit_laws.proofs.Envs.{IsFormedEnv, Goes, Keeps, keeps_on}
+use Rattle.sp_unit_laws.proofs.Envs.{IsFormedEnv, Keeps, keeps_on}
 use Rattle.sp_typed_laws.specs.Sound.{IsSound, IsSoundSignature, IsSoundStruct, is_lasting, lasts, is_seen, scene_of}
 use Rattle.sp_typed_laws.proofs.Types.{IsSoundTable}
 use Rattle.sp_typing.specs.Refines.{Tells}
@@ -239,9 +239,6 @@ reaches_nowhere own env h = record { fit = h; moves = moves_nowhere env }
 pub reaches_on : (own : ℕ → Bool) (a b c : Env) → Reaches own a b → Reaches own b c
     → Reaches own a c
 reaches_on own a b c g h = record { fit = h.fit; moves = moves_on a b c g.moves h.moves }
-
-pub goes_of : (own : ℕ → Bool) (env later : Env) → Reaches own env later → Goes env later
-goes_of own env later g = record { formed = g.fit.formed; keeps = g.moves.keeps }
 
 pub grows_of : (own : ℕ → Bool) (env later : Env) → IsFit own env → Reaches own env later
     → Grows (scene_of own env) (scene_of own later)

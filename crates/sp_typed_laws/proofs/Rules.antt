@@ -35,10 +35,6 @@ use Rattle.sp_typed_laws.proofs.Operators.{IsGood, IsBalanced, binary_balanced, 
 module _ (s : Scene) (table : IsSoundTable s.structs) where
   -- ---- elements and members (C90 6.3.2.1, 6.3.2.3)
 
-  complete_plain : (t : CType) → is_complete s.structs t ≡ true → is_function t ≡ false
-  complete_plain (function r) h = absurd (true≢false (sym h))
-  complete_plain t h = refl
-
   not_placed : (t : CType) (e : Typed) → is_function t ≡ false → is_function t ≡ true
       → has_place e ≡ true
   not_placed t e h g = absurd (true≢false (sym g ∙ h))

@@ -102,14 +102,6 @@ module _ {own : ℕ → Bool} {A : Type 0} {env : Env} {L : A → Type 0} {P : A
   shows_staying {c = accepted x} f h = shown (λ l. (reaches_nowhere own env f, h.at x refl l))
   shows_staying {c = refused k p} f h = shows_none
 
-  pub shows_after : {c : Checked (A × Env)} → After own env P c → Shows own env L P c
-  shows_after h = record { at = λ x e l. h.at x e }
-
-  -- where nothing need fit
-  pub after_shows : {c : Checked (A × Env)} → ((x : A × Env) → c ≡ accepted x → L x.0)
-      → Shows own env L P c → After own env P c
-  after_shows l h = record { at = λ x e. h.at x e (l x e) }
-
 -- an answer behind such parts
 module _ {own : ℕ → Bool} {env : Env} {A B : Type 0} {P : B → Type 0} {Q : A → Env → Type 0}
     {c : Checked (A × Env)} {f : A × Env → Checked B} where

@@ -9,6 +9,10 @@ use Rattle.sp_operands.specs.Conversions.{is_function}
 use Rattle.sp_env.specs.Env.{Env}
 use Rattle.sp_initialisers.specs.declared.targets.Target.{Target}
 use Rattle.sp_initialisers.specs.Initialisers.{Started, started}
+use Rattle.sp_types.specs.Typed.{Typed}
+use Rattle.sp_initialisers.specs.StaticValues.{is_static}
+use Rattle.sp_typing.specs.Trees.{IsTyped}
+use Rattle.sp_typing.specs.Constants.{is_constant}
 use Rattle.sp_typing.specs.Starts.{AreLeafValues, IsStarted}
 use Rattle.sp_written_laws.specs.Written.{IsWrittenInit}
 use Rattle.sp_typed_laws.specs.Sound.{IsSound, IsSoundEnv, scene_of}
@@ -48,3 +52,10 @@ StartsAreTyped names = (own : ℕ → Bool) (env : Env) (w : Target) (t : CType)
     → IsSoundEnv own env → IsFormed env.tables.structs t → is_function t ≡ false → IsSound t
     → IsWrittenInit i → (x : Started × Env) → started names env w t i ≡ accepted x
     → IsStart own w x.1 x.0
+
+-- a value that the checks take for an object that lasts is a constant, and typed where what lasts is
+-- seen alone (C90 6.4)
+abbrev pub StaticsAreTyped : Type 0
+StaticsAreTyped = (own : ℕ → Bool) (env : Env) (e : Typed) → is_static env.tables.objects e ≡ true
+    → IsTyped (scene_of own env) e
+    → (is_constant e ≡ true) × IsTyped (scene_of lasting_alone env) e

@@ -40,7 +40,7 @@ goes_opened env tag union h =
       };
     }
 
-found_union : (o : Option Struct) (was : Bool) → is_union o ≡ Some was → (s : Struct) × (o ≡ Some s)
+pub found_union : (o : Option Struct) (was : Bool) → is_union o ≡ Some was → (s : Struct) × (o ≡ Some s)
 found_union None was e = absurd (none_some was e)
 found_union (Some s) was e = (s, refl)
 
@@ -72,11 +72,11 @@ enum_named env tag p = by (tag_found env false tag)
 
 -- ---- the struct whose members are about to be read
 
-found_open : (o : Option Struct) → is_open_level o ≡ true → (s : Struct) × (o ≡ Some s) × ((s.level == 0) ≡ true)
+pub found_open : (o : Option Struct) → is_open_level o ≡ true → (s : Struct) × (o ≡ Some s) × ((s.level == 0) ≡ true)
 found_open None e = absurd (true≢false (sym e))
 found_open (Some s) e = (s, refl, e)
 
-open_incomplete : (env : Env) (k : ℕ) (s : Struct) → IsFormedEnv env → slice_get env.tables.structs k ≡ Some s → (s.level == 0) ≡ true → s.extent ≡ None
+pub open_incomplete : (env : Env) (k : ℕ) (s : Struct) → IsFormedEnv env → slice_get env.tables.structs k ≡ Some s → (s.level == 0) ≡ true → s.extent ≡ None
 open_incomplete env k s h at low = by s.extent refl
   where
     by : (o : Option Extent) → s.extent ≡ o → s.extent ≡ None

@@ -22,7 +22,7 @@ use Rattle.sp_typing.specs.Trees.{IsTyped, IsForm, IsNumber, PointsToMember, has
 use Rattle.sp_typing.specs.Constants.{is_constant, is_address, is_fixed, designates_fixed, is_stored}
 use Rattle.sp_draft_laws.specs.Stands.{table, scene, Fits, Holds}
 use Rattle.sp_draft_laws.specs.Uses.{Yields, IsValue, Designates, Gives, IsGood}
-use Rattle.sp_draft_laws.proofs.Sorts.{false_true, agrees_self}
+use Rattle.sp_draft_laws.proofs.Sorts.{scalar_there, false_true, agrees_self}
 use Rattle.sp_draft_laws.proofs.Loads.{IsPointer, loaded_good, addressed_good}
 use Rattle.sp_draft_laws.proofs.Members.{member_good, arrow_good}
 use Rattle.sp_draft_laws.proofs.Operators.{pointer_value, scalar_value, operated_good, element_good}
@@ -50,15 +50,6 @@ constant_scalar (typed f (floating k) p m) h = h
 constant_scalar (typed f (array t n) p m) h = h
 constant_scalar (typed f (structure k) p m) h = h
 constant_scalar (typed f (function s) p m) h = h
-
-scalar_there : (t : CType) → is_scalar t ≡ true → is_void t ≡ false
-scalar_there (integer k) h = refl
-scalar_there (pointer t) h = refl
-scalar_there void h = false_true h
-scalar_there (floating k) h = refl
-scalar_there (array t n) h = refl
-scalar_there (structure k) h = refl
-scalar_there (function s) h = refl
 
 -- what is fixed has a place
 fixed_placed : (f : TypedForm) (t : CType) → designates_fixed f ≡ true → form_has_place t f ≡ true

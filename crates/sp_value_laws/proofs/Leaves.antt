@@ -18,7 +18,7 @@ use Rattle.sp_draft_laws.proofs.Sorts.{false_true}
 use Rattle.sp_draft_laws.proofs.Keeps.{both_integers, both_pointers}
 use Rattle.sp_draft_laws.proofs.Operators.{scalar_value}
 use Rattle.sp_value_laws.proofs.Lists.{behind, some_is}
-use Rattle.sp_value_laws.proofs.Roots.{regions_length}
+use Rattle.sp_lower_objects.proofs.Lengths.{length-regions}
 
 -- ---- leaves of floating type have one
 
@@ -95,7 +95,7 @@ own o path j m b = cond b [] (regions o (path ++ Field j ∷ []) (Some 1) m)
 
 own_length : (o : ℕ) (path : List Step) (j : ℕ) (m : Shape) (b : Bool) → length (own o path j m b) ≡ cond b 0 (region_count m)
 own_length o path j m true = refl
-own_length o path j m false = regions_length o (path ++ Field j ∷ []) (Some 1) m
+own_length o path j m false = length-regions o (path ++ Field j ∷ []) (Some 1) m
 
 -- a floating member has no scalar leaf
 floating_none : (m : Shape) (k : ℕ) (u : CType) → is_floating_shape m ≡ true → AreFloating m → leaf_type m k ≡ Some u → is_scalar u ≡ true → ⊥

@@ -28,7 +28,7 @@ use Rattle.sp_lower_objects.specs.Regions.{all_regions}
 use Rattle.sp_typing.specs.Starts.{IsLeafValue, AreLeafValues}
 use Rattle.sp_draft_laws.specs.Stands.{table, scene}
 use Rattle.sp_body_laws.specs.Frames.{AreLeavesOf}
-use Rattle.sp_value_laws.specs.Laws.{AreLowered}
+use Rattle.sp_value_laws.specs.Laws.{ObjectsStand}
 use Rattle.sp_value_laws.proofs.Lists.{StandFrom, stand_first, stand_rest, stand_all}
 use Rattle.sp_value_laws.proofs.Roots.{root_from, standing, root_number, initial_is}
 use Rattle.sp_value_laws.proofs.Leaves.{shape_floats}
@@ -50,7 +50,7 @@ sized_layout ss t h = by (layout ss t) refl h
 
 -- ---- one object
 
-module _ (c : Context) (os : List Object) (lowered : AreLowered c.objects os) (table_formed : IsTable c.structs) (some : HaveMembers c.structs)
+module _ (c : Context) (os : List Object) (lowered : ObjectsStand c.objects os) (table_formed : IsTable c.structs) (some : HaveMembers c.structs)
     (n : ℕ) (o : program.Object) (there : slice_get c.objects n ≡ Some o) (big : 1 ≤ size_of c.structs o.of) where
   abbrev root : ℕ
   root = root_from c.structs 0 c.objects n

@@ -1,7 +1,6 @@
 -- The regions of the objects of a program stand where their start values are counted from.
 use Rattle.std.proofs.Common.{◌≡◌, ◌⊎◌, inl, inr, ℕ, zero, suc, ◌+◌, ◌-◌, ◌<◌, ◌≤◌, ◌==◌, ◌&&◌, nat_eq, Bool, true, false, cond, List, [], ◌∷◌, ◌++◌, length, Option, Some, None, slice_get, if◌then◌else◌, refl, ap, sym, ◌∙◌, subst, arith, eq-eqb}
 use Rattle.std.proofs.lemmas.Option.{none-some}
-use Rattle.std.proofs.lemmas.List.{length-append}
 use Rattle.std.proofs.lemmas.Bool.Decides.{nat_tests}
 use Rattle.sp_types.specs.declared.program.Storage.{Storage}
 use Rattle.sp_types.specs.declared.program.Storage.TheVariants as storage
@@ -12,41 +11,20 @@ use Rattle.sp_ir.specs.declared.region.Step.TheVariants.{Field, Element}
 use Rattle.sp_ir.specs.Paths.{same_path}
 use Rattle.sp_ir.specs.Programs.{Object}
 use Rattle.sp_ir.specs.Regions.{Region, stands_at, number_at}
-use Rattle.sp_ir.specs.Shapes.{Shape, Shapes, scalar, floating_shape, union_of, array_of, struct_of, no_shapes, next_shape, is_floating_shape, region, regions, member_regions, region_count, member_region_count}
+use Rattle.sp_ir.specs.Shapes.{Shape, Shapes, scalar, floating_shape, union_of, array_of, struct_of, no_shapes, next_shape, is_floating_shape, region, regions, member_regions, region_count}
 use Rattle.sp_ir.specs.Terrain.{size_of}
 use Rattle.sp_layouts.specs.Layouts.{layout_of}
 use Rattle.sp_lower_objects.specs.Initials.{object_region_count, initial_at, initials_from}
 use Rattle.sp_lower_objects.specs.Objects.{kind_of_storage}
 use Rattle.sp_lower_objects.specs.Regions.{typed_regions, object_regions, kind_regions, all_regions}
-use Rattle.sp_value_laws.specs.Laws.{AreLowered}
+use Rattle.sp_lower_objects.proofs.Lengths.{length-regions}
+use Rattle.sp_value_laws.specs.Laws.{ObjectsStand}
 use Rattle.sp_value_laws.proofs.Lists.{StandFrom, stand_left, stand_right, there_below, some_is, place_cases, position_first}
 
 -- ---- the regions of one object
 
 abbrev own : ℕ → List Step → ℕ → Shape → Bool → List Region
 own o path k m b = cond b [] (regions o (path ++ Field k ∷ []) (Some 1) m)
-
-own_length : (o : ℕ) (path : List Step) (k : ℕ) (m : Shape) (b : Bool) → length (regions o (path ++ Field k ∷ []) (Some 1) m) ≡ region_count m → length (own o path k m b) ≡ cond b 0 (region_count m)
-own_length o path k m true h = refl
-own_length o path k m false h = h
-
-one_more : (a b : ℕ) → a ≡ b → suc a ≡ 1 + b
-one_more a b h = omega (arith, h)
-
-mutual
-  pub regions_length : (o : ℕ) (path : List Step) (n : Option ℕ) (s : Shape) → length (regions o path n s) ≡ region_count s
-  regions_length o path n (scalar t z) = refl
-  regions_length o path n (floating_shape t z) = refl
-  regions_length o path n (union_of z first) = refl
-  regions_length o path n (array_of t z inner k) = one_more (length (regions o (path ++ Element ∷ []) (Some k) inner)) (region_count inner) (regions_length o (path ++ Element ∷ []) (Some k) inner)
-  regions_length o path n (struct_of t z ms) = one_more (length (member_regions o path 0 ms)) (member_region_count ms) (members_length o path 0 ms)
-
-  members_length : (o : ℕ) (path : List Step) (k : ℕ) (ms : Shapes) → length (member_regions o path k ms) ≡ member_region_count ms
-  members_length o path k no_shapes = refl
-  members_length o path k (next_shape m ms) =
-      length-append (own o path k m (is_floating_shape m)) (member_regions o path (k + 1) ms)
-      ∙ ap (λ x. x + length (member_regions o path (k + 1) ms)) (own_length o path k m (is_floating_shape m) (regions_length o (path ++ Field k ∷ []) (Some 1) m))
-      ∙ ap (λ x. cond (is_floating_shape m) 0 (region_count m) + x) (members_length o path (k + 1) ms)
 
 -- all are of the object
 abbrev AreOf : ℕ → List Region → Type 0
@@ -100,7 +78,7 @@ typed_length ss n t = by (size_of ss t == 0)
   where
     by : (b : Bool) → length (if b then region n [] None 1 (Some 0) ∷ [] else regions n [] (Some 1) (layout_of ss t)) ≡ (if b then 1 else region_count (layout_of ss t))
     by true = refl
-    by false = regions_length n [] (Some 1) (layout_of ss t)
+    by false = length-regions n [] (Some 1) (layout_of ss t)
 
 typed_of : (ss : List Struct) (n : ℕ) (t : CType) → AreOf n (typed_regions ss n (Some 1) t)
 typed_of ss n t = by (size_of ss t == 0)
@@ -165,7 +143,7 @@ below_more whole r n xs stand of low j z less there = by (near j r)
         let is : z.object ≡ n = ap (λ (y : Region). y.object) (sym same) ∙ of (j - r) x.0 x.1 in
         omega (arith, is)
 
-stand_at : (ss : List Struct) (whole : List Region) (objects : List program.Object) (os : List Object) (r n : ℕ) → AreLowered objects os
+stand_at : (ss : List Struct) (whole : List Region) (objects : List program.Object) (os : List Object) (r n : ℕ) → ObjectsStand objects os
     → StandFrom whole r (all_regions ss n os) → Below whole r n
     → (i : ℕ) (o : program.Object) → slice_get objects i ≡ Some o → Stand ss whole (root_from ss r objects i) (n + i) o.of
 stand_at ss whole [] os r n lowered stand low i o e = absurd (none-some o e)
@@ -192,7 +170,7 @@ stand_at ss whole (q ∷ objects) (x ∷ os) r n lowered stand low i o e =
         subst (λ m. Stand ss whole r m o.of) (sym (from_zero n)) (subst (λ (y : program.Object). Stand ss whole r n y.of) is (here, low))
     by (suc j) e here rest = subst (λ m. Stand ss whole (root_from ss (r + object_region_count ss q.of) objects j) m o.of) (from_suc n j) (rest j e)
 
-pub standing : (ss : List Struct) (objects : List program.Object) (os : List Object) → AreLowered objects os
+pub standing : (ss : List Struct) (objects : List program.Object) (os : List Object) → ObjectsStand objects os
     → (n : ℕ) (o : program.Object) → slice_get objects n ≡ Some o → Stand ss (all_regions ss 0 os) (root_from ss 0 objects n) n o.of
 standing ss objects os lowered n o e =
     subst (λ m. Stand ss (all_regions ss 0 os) (root_from ss 0 objects n) m o.of) (zero_plus n)
@@ -202,7 +180,7 @@ standing ss objects os lowered n o e =
     zero_plus n = omega arith
 
 -- the root has its number
-pub root_number : (ss : List Struct) (objects : List program.Object) (os : List Object) → AreLowered objects os
+pub root_number : (ss : List Struct) (objects : List program.Object) (os : List Object) → ObjectsStand objects os
     → (n : ℕ) (o : program.Object) → slice_get objects n ≡ Some o → number_at (all_regions ss 0 os) n [] ≡ Some (root_from ss 0 objects n)
 root_number ss objects os lowered n o e =
     let w : Stand ss (all_regions ss 0 os) (root_from ss 0 objects n) n o.of = standing ss objects os lowered n o e in

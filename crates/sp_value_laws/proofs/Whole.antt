@@ -24,13 +24,13 @@ use Rattle.sp_typing.specs.Starts.{AreLeafValues}
 use Rattle.sp_draft_laws.specs.Stands.{table, scene, Fits}
 use Rattle.sp_draft_laws.proofs.Sorts.{false_true}
 use Rattle.sp_body_laws.specs.Frames.{AreLeavesOf}
-use Rattle.sp_value_laws.specs.Laws.{AreLowered, StartsHold}
+use Rattle.sp_value_laws.specs.Laws.{ObjectsStand, StartsHold}
 use Rattle.sp_value_laws.proofs.Roots.{root_from}
 use Rattle.sp_value_laws.proofs.Values.{IsFormedValue}
 use Rattle.sp_value_laws.proofs.Objects.{initial_here, start_good, automatic_filled, static_filled}
 use Rattle.sp_value_laws.proofs.Constants.{start_value_good}
 
-module _ (p : Program) (names : List (List ℕ)) (site : ℕ) (os : List Object) (h : IsTypedProgram p) (lowered : AreLowered p.objects os) where
+module _ (p : Program) (names : List (List ℕ)) (site : ℕ) (os : List Object) (h : IsTypedProgram p) (lowered : ObjectsStand p.objects os) where
   abbrev c : Context
   c = program_context p names site
 

@@ -12,12 +12,12 @@ use Rattle.sp_draft_laws.specs.Stands.{Fits}
 use Rattle.sp_value_laws.specs.Starts.{StartsStand}
 
 -- the objects of the program, lowered, come first in the list, with their types and kinds
-abbrev pub AreLowered : List program.Object → List Object → Type 0
-AreLowered objects os = (n : ℕ) (o : program.Object) → slice_get objects n ≡ Some o
+abbrev pub ObjectsStand : List program.Object → List Object → Type 0
+ObjectsStand objects os = (n : ℕ) (o : program.Object) → slice_get objects n ≡ Some o
     → (x : Object) × (slice_get os n ≡ Some x) × (x.of ≡ Some o.of) × (x.kind ≡ kind_of_storage o.storage)
 
 -- Whichever function is lowered, what sees static objects alone finds what it names in the program.
 abbrev pub StartsHold : Type 0
-StartsHold = (p : Program) (names : List (List ℕ)) (site : ℕ) (os : List Object) → IsTypedProgram p → AreLowered p.objects os
+StartsHold = (p : Program) (names : List (List ℕ)) (site : ℕ) (os : List Object) → IsTypedProgram p → ObjectsStand p.objects os
     → ((k : ℕ) → Fits (record (program_context p names site) { function = k }) os (sees p.objects []))
     → StartsStand p (program_context p names site) os (all_regions p.structs 0 os) (initials_from p.structs 0 p.objects)
