@@ -34,13 +34,11 @@ ghost use Rattle.sp_expr_steps.specs.Expressions.{
   arguments_checked,
   type_name_checked,
   declared_type,
-  steps_checked,
   derivations_checked,
   length_checked,
   params_checked,
   param_checked,
   list_checked,
-  list_read,
   specifiers_checked,
   specifier_checked,
   struct_checked,
@@ -54,7 +52,6 @@ ghost use Rattle.sp_expr_steps.specs.Expressions.{
   declarations_in,
   constants_in,
   items_in,
-  with_implicit,
   arguments_of,
   is_operation,
   joins_operands,
@@ -63,14 +60,14 @@ ghost use Rattle.sp_expr_steps.specs.Expressions.{
 
 use sp_env::Env;
 use sp_expr_steps::{
-    is_alone_in, length_told, member_added, names_type, next_enumerator, param_told, size_of_type,
-    size_of_value, struct_opened, told_types,
+    call_made, callee_declared, comma, derived, held, is_alone_in, length_told, member_added,
+    names_type, next_enumerator, param_told, pushed, size_of_type, size_of_value, struct_closed,
+    struct_opened, told_types,
 };
 use sp_member_rules::{
-    completed, declared_name, enumerator, has_parameter_storage, is_lone_void, reserved,
-    with_enum_tag,
+    declared_name, enumerator, has_parameter_storage, is_lone_void, reserved, with_enum_tag,
 };
-use sp_names::{character_checked, implicit_name, name_checked, number_checked, text_checked};
+use sp_names::{character_checked, name_checked, number_checked, text_checked};
 use sp_operands::{CheckError, fault, value};
 use sp_rules::{assign, binary, cast_to, choice, not_floating};
 use sp_syntax::{
@@ -81,8 +78,8 @@ use sp_tree::{FaultKind, Names, Place};
 use sp_type_rules::{Derivation, enum_referred, made, named_checked, struct_referred, words_type};
 use sp_types::{CType, IntKind, Signature, TypedExpr};
 use sp_unary_rules::{
-    argument_at, arrow_taken, called, called_signature, indexed, member_taken, stepped_after,
-    takes_object, unary_object, unary_value,
+    argument_at, arrow_taken, called_signature, indexed, member_taken, stepped_after, takes_object,
+    unary_object, unary_value,
 };
 use std::alloc::Global;
 
@@ -140,21 +137,23 @@ fn form(
         ExprForm::Paren(inner) => checked(alloc, env, names, inner),
         ExprForm::Index(a, b) => {
             let a = value_checked(alloc, env, names, a)?;
-            let b = value_checked(alloc, env, names, b)?;
+            let (a, b) = held(a, value_checked(alloc, env, names, b))?;
             indexed(alloc, env.structs(), place, mark, a, b)
         }
         ExprForm::Call(callee, _) => {
-            called_name(alloc, env, names, callee)?;
+            callee_declared(alloc, env, names, callee)?;
             let at = callee.place;
             let callee = value_checked(alloc, env, names, callee)?;
-            let signature = called_signature(alloc, at, callee.of())?;
-            let arguments = arguments_checked(alloc, form, env, names, &signature)?;
-            called(
+            let signature = called_signature(alloc, at, callee.of());
+            let (callee, signature) = held(callee, signature)?;
+            let arguments = arguments_checked(alloc, form, env, names, &signature);
+            let ((callee, signature), arguments) = held((callee, signature), arguments)?;
+            call_made(
                 alloc,
                 env.structs(),
                 place,
                 mark,
-                &signature,
+                signature,
                 callee,
                 arguments,
             )
@@ -224,7 +223,7 @@ fn operation(
         ExprForm::Cast(t, e) => {
             let to = type_name_checked(alloc, env, names, t)?;
             let at = e.place;
-            let e = value_checked(alloc, env, names, e)?;
+            let (to, e) = held(to, value_checked(alloc, env, names, e))?;
             cast_to(alloc, to, place, mark, at, e)
         }
         _ => fault(FaultKind::F14, place),
@@ -250,19 +249,19 @@ fn joined(
     match form {
         ExprForm::Binary(operator, a, b) => {
             let a = value_checked(alloc, env, names, a)?;
-            let b = value_checked(alloc, env, names, b)?;
+            let (a, b) = held(a, value_checked(alloc, env, names, b))?;
             binary(alloc, env.structs(), *operator, place, mark, a, b)
         }
         ExprForm::Choice(c, a, b) => {
             let c = value_checked(alloc, env, names, c)?;
-            let a = value_checked(alloc, env, names, a)?;
-            let b = value_checked(alloc, env, names, b)?;
+            let (c, a) = held(c, value_checked(alloc, env, names, a))?;
+            let ((c, a), b) = held((c, a), value_checked(alloc, env, names, b))?;
             choice(alloc, place, mark, c, a, b)
         }
         ExprForm::Assign(operator, a, b) => {
             let (at, there) = (a.place, b.place);
             let a = checked(alloc, env, names, a)?;
-            let b = value_checked(alloc, env, names, b)?;
+            let (a, b) = held(a, value_checked(alloc, env, names, b))?;
             assign(
                 alloc,
                 env.structs(),
@@ -277,22 +276,10 @@ fn joined(
         }
         ExprForm::Comma(a, b) => {
             let a = value_checked(alloc, env, names, a)?;
-            let b = value_checked(alloc, env, names, b)?;
-            let of = b.of().copy(alloc)?;
-            Ok(TypedExpr::comma(alloc, a, b, of, place, mark)?)
+            let (a, b) = held(a, value_checked(alloc, env, names, b))?;
+            comma(alloc, place, mark, a, b)
         }
         _ => fault(FaultKind::F14, place),
-    }
-}
-
-/// Declares the callee where it is a name that isn't declared (C90 6.3.2.2).
-fn called_name(alloc: Global, env: &mut Env, names: &Names, callee: &Expr) -> Result<(), CheckError>
-    ensures { LeadsTo (with_implicit names.now (env_of env.old) (tree_of callee.now))
-        (env_of env.new) result }
-{
-    match &callee.form {
-        ExprForm::Name(name) => implicit_name(alloc, env, names, *name, callee.place),
-        _ => Ok(()),
     }
 }
 
@@ -315,7 +302,9 @@ fn arguments_checked(
         return Ok(all);
     };
     'arguments: for (i, e) in arguments.iter().enumerate() {
-        all.push(argument_checked(alloc, e, env, names, signature, i)?)?;
+        let next = argument_checked(alloc, e, env, names, signature, i);
+        let (before, next) = held(all, next)?;
+        all = pushed(before, next)?;
     }
     Ok(all)
 }
@@ -376,26 +365,12 @@ pub(crate) fn declared_type(
         (declared_type names.now (env_of env.old) (type_of base) (declarator_of declarator.now))
         (env_of env.new) result }
 {
-    let steps = derivations(alloc, &declarator.form, env, names, declarator.place)?;
+    let steps = derivations(alloc, &declarator.form, env, names, declarator.place);
+    let (base, steps) = held(base, steps)?;
     made(alloc, env.structs(), declarator.place, steps, base)
 }
 
-/// What a declarator derives, from the name outwards.
-#[cycle(expression)]
-fn steps(
-    alloc: Global,
-    declarator: &Declarator,
-    env: &mut Env,
-    names: &Names,
-) -> Result<Vec<Derivation>, CheckError>
-    ensures { AnswersIn (λ steps. map derivation_of steps.items)
-        (steps_checked names.now (env_of env.old) (declarator_of declarator.now))
-        (env_of env.new) result }
-{
-    derivations(alloc, &declarator.form, env, names, declarator.place)
-}
-
-/// What the form of a declarator at this place derives.
+/// What the form of a declarator at this place derives, from the name outwards.
 #[cycle(expression)]
 fn derivations(
     alloc: Global,
@@ -410,28 +385,24 @@ fn derivations(
 {
     match form {
         DeclaratorForm::Absent | DeclaratorForm::Name(_) => Ok(Vec::new(alloc)),
-        DeclaratorForm::Paren(inner) => steps(alloc, inner, env, names),
+        DeclaratorForm::Paren(inner) => derivations(alloc, &inner.form, env, names, inner.place),
         DeclaratorForm::Pointer(_, inner) => {
-            let mut all = steps(alloc, inner, env, names)?;
-            all.push(Derivation::Pointer)?;
-            Ok(all)
+            let all = derivations(alloc, &inner.form, env, names, inner.place)?;
+            derived(all, Derivation::Pointer)
         }
         DeclaratorForm::Array(inner, None) => {
-            let mut all = steps(alloc, inner, env, names)?;
-            all.push(Derivation::Array(None, place))?;
-            Ok(all)
+            let all = derivations(alloc, &inner.form, env, names, inner.place)?;
+            derived(all, Derivation::Array(None, place))
         }
         DeclaratorForm::Array(inner, Some(length)) => {
-            let mut all = steps(alloc, inner, env, names)?;
-            let length = length_checked(alloc, length, env, names)?;
-            all.push(Derivation::Array(Some(length), place))?;
-            Ok(all)
+            let all = derivations(alloc, &inner.form, env, names, inner.place)?;
+            let (all, length) = held(all, length_checked(alloc, length, env, names))?;
+            derived(all, Derivation::Array(Some(length), place))
         }
         DeclaratorForm::Function(inner, _, variadic) => {
-            let mut all = steps(alloc, inner, env, names)?;
-            let params = list_checked(alloc, form, env, names)?;
-            all.push(Derivation::Function(params, *variadic, place))?;
-            Ok(all)
+            let all = derivations(alloc, &inner.form, env, names, inner.place)?;
+            let (all, params) = held(all, list_checked(alloc, form, env, names))?;
+            derived(all, Derivation::Function(params, *variadic, place))
         }
     }
 }
@@ -452,7 +423,9 @@ fn length_checked(
     length_told(env, value, length.place)
 }
 
-/// The parameters of a declarator of a function, where it tells them (C90 6.5.4.3).
+/// The parameters of a declarator of a function, where it tells them (C90 6.5.4.3): they are read
+/// in a scope of their own.
+#[tactic(auto, using(crate::proofs::Lists::lists))]
 #[cycle(expression)]
 fn list_checked(
     alloc: Global,
@@ -462,21 +435,6 @@ fn list_checked(
 ) -> Result<Option<Vec<CType>>, CheckError>
     ensures { AnswersIn parameters_seen
         (list_checked names.now (env_of env.old) (declarator_form_of form.now))
-        (env_of env.new) result }
-{
-    list_read(alloc, form, env, names)
-}
-
-/// The same, with a scope of its own around the list.
-#[cycle(expression)]
-fn list_read(
-    alloc: Global,
-    form: &DeclaratorForm,
-    env: &mut Env,
-    names: &Names,
-) -> Result<Option<Vec<CType>>, CheckError>
-    ensures { AnswersIn parameters_seen
-        (list_read names.now (env_of env.old) (declarator_form_of form.now))
         (env_of env.new) result }
 {
     env.enter(alloc)?;
@@ -504,7 +462,7 @@ fn params_checked(
         return Ok(all);
     };
     'params: for (i, param) in params.iter().enumerate() {
-        all = param_checked(alloc, param, env, names, alone, all)?;
+        param_checked(alloc, param, env, names, alone, &mut all)?;
     }
     Ok(all)
 }
@@ -518,12 +476,12 @@ fn param_checked(
     env: &mut Env,
     names: &Names,
     alone: bool,
-    all: Vec<CType>,
-) -> Result<Vec<CType>, CheckError>
-    ensures { AnswersIn (λ all. map type_of all.items)
-        (param_checked names.now (env_of env.old) alone (map type_of all.items)
+    all: &mut Vec<CType>,
+) -> Result<(), CheckError>
+    ensures { LeadsTo
+        (param_checked names.now (env_of env.old) alone (map type_of all.old.items)
         (param_of param.now))
-        (env_of env.new) result }
+        (map type_of all.new.items, env_of env.new) result }
 {
     let at = param.declarator.place;
     if !has_parameter_storage(&param.specifiers) {
@@ -533,7 +491,7 @@ fn param_checked(
     let number = reserved(alloc, env, name)?;
     let base = specifiers_checked(alloc, &param.specifiers, env, names, false, at)?;
     if alone && is_lone_void(&base, &param.declarator) {
-        return Ok(all);
+        return Ok(());
     }
     let of = declared_type(alloc, &param.declarator, env, names, base)?;
     param_told(alloc, env, number, all, of, &param.declarator)
@@ -606,8 +564,7 @@ fn struct_checked(
     }
     let number = struct_opened(env, spec.union, spec.tag, spec.place)?;
     let members = members_checked(alloc, spec, env, names)?;
-    completed(env, number, spec.union, spec.place, members)?;
-    Ok(CType::Struct(number))
+    struct_closed(env, number, spec.union, spec.place, members)
 }
 
 /// The members of a struct or a union.
@@ -627,7 +584,7 @@ fn members_checked(
         return Ok(all);
     };
     'members: for (i, declaration) in members.iter().enumerate() {
-        all = declaration_members(alloc, declaration, env, names, all)?;
+        declaration_members(alloc, declaration, env, names, &mut all)?;
     }
     Ok(all)
 }
@@ -639,12 +596,12 @@ fn declaration_members(
     declaration: &Declaration,
     env: &mut Env,
     names: &Names,
-    all: Vec<(u32, CType)>,
-) -> Result<Vec<(u32, CType)>, CheckError>
-    ensures { AnswersIn (λ all. members_seen all.items)
-        (declaration_members names.now (env_of env.old) (members_seen all.items)
+    all: &mut Vec<(u32, CType)>,
+) -> Result<(), CheckError>
+    ensures { LeadsTo
+        (declaration_members names.now (env_of env.old) (members_seen all.old.items)
         (declaration_of declaration.now))
-        (env_of env.new) result }
+        (members_seen all.new.items, env_of env.new) result }
 {
     let at = declaration.place;
     let base = specifiers_checked(alloc, &declaration.specifiers, env, names, false, at)?;
@@ -658,17 +615,17 @@ fn items_checked(
     env: &mut Env,
     names: &Names,
     base: &CType,
-    mut all: Vec<(u32, CType)>,
-) -> Result<Vec<(u32, CType)>, CheckError>
-    ensures { AnswersIn (λ all. members_seen all.items)
-        (items_checked names.now (env_of env.old) (type_of base.now) (members_seen all.items)
+    all: &mut Vec<(u32, CType)>,
+) -> Result<(), CheckError>
+    ensures { LeadsTo
+        (items_checked names.now (env_of env.old) (type_of base.now) (members_seen all.old.items)
         (items_in (declaration_of declaration.now)))
-        (env_of env.new) result }
+        (members_seen all.new.items, env_of env.new) result }
 {
     'items: for (i, item) in declaration.items.iter().enumerate() {
-        all = item_checked(alloc, item, env, names, base, all)?;
+        item_checked(alloc, item, env, names, base, all)?;
     }
-    Ok(all)
+    Ok(())
 }
 
 /// A member, behind those that are read.
@@ -679,12 +636,12 @@ fn item_checked(
     env: &mut Env,
     names: &Names,
     base: &CType,
-    all: Vec<(u32, CType)>,
-) -> Result<Vec<(u32, CType)>, CheckError>
-    ensures { AnswersIn (λ all. members_seen all.items)
-        (item_checked names.now (env_of env.old) (type_of base.now) (members_seen all.items)
+    all: &mut Vec<(u32, CType)>,
+) -> Result<(), CheckError>
+    ensures { LeadsTo
+        (item_checked names.now (env_of env.old) (type_of base.now) (members_seen all.old.items)
         (init_declarator_of item.now))
-        (env_of env.new) result }
+        (members_seen all.new.items, env_of env.new) result }
 {
     let of = declared_type(alloc, &item.declarator, env, names, base.copy(alloc)?)?;
     member_added(env.structs(), all, of, &item.declarator)

@@ -6,7 +6,7 @@
 //! a struct opens the struct, its members come one after another, an enumeration constant takes the
 //! value of its expression ([`struct_opened`], [`member_added`], [`next_enumerator`]). A parameter
 //! goes behind those that are read, and a named one is declared in the scope of its list
-//! ([`param_told`]).
+//! ([`param_told`]). What the walk has at hand while it reads on goes through [`held`].
 //!
 //! So the second `a` of `struct s { int a; char a; }` is the fault F9 at its name, and a parameter
 //! of type `void` beside another is the fault F13 at its declarator.
@@ -15,10 +15,16 @@
 //! its name in `specs/`, or its fault.
 #![tactic(auto)]
 
+mod derivations;
+mod kept;
 mod specifiers;
 mod values;
 
+pub use derivations::derived;
+pub use kept::{held, pushed};
 pub use specifiers::{
-    is_alone_in, member_added, names_type, param_told, struct_opened, told_types,
+    is_alone_in, member_added, names_type, param_told, struct_closed, struct_opened, told_types,
 };
-pub use values::{length_told, next_enumerator, size_of_type, size_of_value};
+pub use values::{
+    call_made, callee_declared, comma, length_told, next_enumerator, size_of_type, size_of_value,
+};

@@ -8,8 +8,10 @@ ghost use Rattle.sp_syntax.specs.View.{
 };
 ghost use Rattle.sp_types.specs.TypedView.{typed_of};
 ghost use Rattle.sp_types.specs.View.{type_of, struct_of};
-ghost use Rattle.sp_operands.specs.Answers.{Answers, AnswersIn};
+ghost use Rattle.sp_types.specs.Types.{structure};
+ghost use Rattle.sp_operands.specs.Answers.{AnswersIn, accepted, and_then};
 ghost use Rattle.sp_operands.specs.Balances.{members_seen};
+ghost use Rattle.sp_env.specs.Declaring.{LeadsTo};
 ghost use Rattle.sp_env.specs.Views.{env_of};
 ghost use Rattle.sp_type_rules.specs.DerivationView.{parameters_seen};
 ghost use Rattle.sp_expr_steps.specs.Parameters.{
@@ -19,6 +21,7 @@ ghost use Rattle.sp_expr_steps.specs.Parameters.{
   told_types,
   param_told,
 };
+ghost use Rattle.sp_member_rules.specs.Members.{completed};
 ghost use Rattle.sp_expr_steps.specs.SyntaxView.{declarator_form_of};
 ghost use Rattle.sp_expr_steps.specs.Specifiers.{
   names_type,
@@ -30,7 +33,7 @@ ghost use Rattle.sp_expr_steps.specs.Specifiers.{
 use sp_constants::constant;
 use sp_env::Env;
 use sp_member_rules::{
-    adjusted, begun, declared_name, enumerator, has_member, is_open, named_parameter,
+    adjusted, begun, completed, declared_name, enumerator, has_member, is_open, named_parameter,
 };
 use sp_operands::{CheckError, fault, is_complete, is_void};
 use sp_syntax::{Declarator, DeclaratorForm, Param, Specifier};
@@ -70,18 +73,35 @@ pub fn struct_opened(
     Ok(number)
 }
 
+/// The struct or the union of this number with its members, which are read: `place` is that of its
+/// specifier.
+pub fn struct_closed(
+    env: &mut Env,
+    number: u32,
+    union: bool,
+    place: Place,
+    members: Vec<(u32, CType)>,
+) -> Result<CType, CheckError>
+    ensures { AnswersIn type_of
+        (and_then (completed (env_of env.old) number union place (members_seen members.items))
+        (λ env. accepted (structure number, env))) (env_of env.new) result }
+{
+    completed(env, number, union, place, members)?;
+    Ok(CType::Struct(number))
+}
+
 /// A member of this type behind the others: F13 and F14 stand at its declarator where its type isn't
 /// complete, or it has no name, F9 at its name where another member has it.
 #[tactic(auto, using(crate::proofs::Places::places))]
 pub fn member_added(
     structs: &[StructType],
-    mut all: Vec<(u32, CType)>,
+    all: &mut Vec<(u32, CType)>,
     of: CType,
     declarator: &Declarator,
-) -> Result<Vec<(u32, CType)>, CheckError>
-    ensures { Answers (λ ms. members_seen ms.items)
-        (member_added (map struct_of structs.now) (members_seen all.items) (type_of of)
-        (declarator_of declarator.now)) result }
+) -> Result<(), CheckError>
+    ensures { LeadsTo
+        (member_added (map struct_of structs.now) (members_seen all.old.items) (type_of of)
+        (declarator_of declarator.now)) (members_seen all.new.items) result }
 {
     if !is_complete(&of, structs) {
         return fault(FaultKind::F13, declarator.place);
@@ -89,11 +109,11 @@ pub fn member_added(
     let Some((name, at)) = declared_name(declarator) else {
         return fault(FaultKind::F14, declarator.place);
     };
-    if has_member(&all, name) {
+    if has_member(all, name) {
         return fault(FaultKind::F9, at);
     }
     all.push((name, of))?;
-    Ok(all)
+    Ok(())
 }
 
 /// An enumeration constant whose value this expression gives; `at` is the place of the expression,
@@ -121,14 +141,14 @@ pub fn param_told(
     alloc: Global,
     env: &mut Env,
     number: u32,
-    mut all: Vec<CType>,
+    all: &mut Vec<CType>,
     of: CType,
     declarator: &Declarator,
-) -> Result<Vec<CType>, CheckError>
-    ensures { AnswersIn (λ all. map type_of all.items)
-        (param_told (env_of env.old) number (map type_of all.items) (type_of of)
+) -> Result<(), CheckError>
+    ensures { LeadsTo
+        (param_told (env_of env.old) number (map type_of all.old.items) (type_of of)
         (declarator_of declarator.now))
-        (env_of env.new) result }
+        (map type_of all.new.items, env_of env.new) result }
 {
     let of = adjusted(alloc, of)?;
     if is_void(&of) {
@@ -137,7 +157,7 @@ pub fn param_told(
     let name = declared_name(declarator);
     named_parameter(alloc, env, number, name, of.copy(alloc)?)?;
     all.push(of)?;
-    Ok(all)
+    Ok(())
 }
 
 /// Whether a list has one parameter, and no `...`.

@@ -1,23 +1,81 @@
-//! What a value or a type gives that the tree doesn't keep: the length of an array, a constant of an
+//! What typed parts give: a call or a comma of them, the length of an array, a constant of an
 //! enumeration, a size.
-ghost use Rattle.std.specs.Prelude.{pos, unwrap_or};
-ghost use Rattle.sp_types.specs.Typed.{of};
-ghost use Rattle.sp_types.specs.TypedView.{typed_of};
-ghost use Rattle.sp_types.specs.View.{type_of};
-ghost use Rattle.sp_operands.specs.Answers.{AnswersIn};
+ghost use Rattle.std.specs.Prelude.{map, pos, unwrap_or};
+ghost use Rattle.sp_syntax.specs.View.{tree_of};
+ghost use Rattle.sp_types.specs.Typed.{of, typed};
+ghost use Rattle.sp_types.specs.Typed as tree;
+ghost use Rattle.sp_types.specs.TypedView.{typed_of, typed_list};
+ghost use Rattle.sp_types.specs.View.{type_of, signature_of, struct_of};
+ghost use Rattle.sp_operands.specs.Answers.{Answers, AnswersIn, accepted};
+ghost use Rattle.sp_rules.specs.Rules.{called};
+ghost use Rattle.sp_env.specs.Declaring.{LeadsTo};
 ghost use Rattle.sp_env.specs.Views.{env_of};
 ghost use Rattle.sp_names.specs.Literals.{size_checked};
-ghost use Rattle.sp_expr_steps.specs.Expressions.{length_told};
+ghost use Rattle.sp_expr_steps.specs.Expressions.{length_told, with_implicit};
 ghost use Rattle.sp_expr_steps.specs.Specifiers.{enumerator_told};
 
+use crate::kept::held;
 use crate::specifiers::enumerator_told;
 use sp_constants::constant;
 use sp_env::Env;
-use sp_names::size_checked;
+use sp_names::{implicit_name, size_checked};
 use sp_operands::CheckError;
 use sp_rules::length_given;
-use sp_tree::Place;
-use sp_types::{CType, TypedExpr};
+use sp_syntax::{Expr, ExprForm};
+use sp_tree::{Names, Place};
+use sp_types::{CType, Signature, StructType, TypedExpr};
+use sp_unary_rules::called;
+use std::alloc::Global;
+
+/// Declares the callee where it is a name that isn't declared (C90 6.3.2.2).
+pub fn callee_declared(
+    alloc: Global,
+    env: &mut Env,
+    names: &Names,
+    callee: &Expr,
+) -> Result<(), CheckError>
+    ensures { LeadsTo (with_implicit names.now (env_of env.old) (tree_of callee.now))
+        (env_of env.new) result }
+{
+    match &callee.form {
+        ExprForm::Name(name) => implicit_name(alloc, env, names, *name, callee.place),
+        _ => Ok(()),
+    }
+}
+
+/// A call with its arguments (C90 6.3.2.2); the signature is that of its callee.
+pub fn call_made(
+    alloc: Global,
+    structs: &[StructType],
+    place: Place,
+    mark: Place,
+    signature: Signature,
+    callee: TypedExpr,
+    arguments: Vec<TypedExpr>,
+) -> Result<TypedExpr, CheckError>
+    ensures { Answers typed_of
+        (called (map struct_of structs.now) place mark (signature_of signature) (typed_of callee)
+        (typed_list (map typed_of arguments.items))) result }
+{
+    called(alloc, structs, place, mark, &signature, callee, arguments)
+}
+
+/// `a, b`, which has the type of `b` (C90 6.3.17).
+pub fn comma(
+    alloc: Global,
+    place: Place,
+    mark: Place,
+    a: TypedExpr,
+    b: TypedExpr,
+) -> Result<TypedExpr, CheckError>
+    ensures { Answers typed_of
+        (accepted (typed (tree.comma (typed_of a) (typed_of b)) (of (typed_of b)) place mark))
+        result }
+{
+    let of = b.of().copy(alloc);
+    let ((a, b), of) = held((a, b), of)?;
+    Ok(TypedExpr::comma(alloc, a, b, of, place, mark)?)
+}
 
 /// The length that this expression gives; it goes to the constants of the tables.
 fn length_of(env: &mut Env, value: &TypedExpr, at: Place) -> Result<u64, CheckError>

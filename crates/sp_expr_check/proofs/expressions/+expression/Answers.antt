@@ -1,6 +1,6 @@
-use Rattle.std.proofs.Common.{◌≡◌, ◌∷◌, [], ◌++◌, map, drop, suc, refl, sym, ap, ◌∙◌, add-one}
+use Rattle.std.proofs.Common.{◌≡◌, ◌∷◌, [], ◌++◌, map, drop, suc, refl, sym, ap, ◌∙◌, add-one, subst}
 use Rattle.std.proofs.lemmas.List.{map-append}
-use Rattle.std.specs.Prelude.{Err, Vec}
+use Rattle.std.specs.Prelude.{Err, Result, Vec}
 use Rattle.std.specs.declared.alloc.Global.{Global}
 use Rattle.std.proofs.lemmas.Result.{err_from_is_err_and}
 use Rattle.sp_types.specs.Typed.{TypedList}
@@ -9,6 +9,8 @@ use Rattle.sp_syntax.specs.declared.tree.DeclaratorForm.TheFolds.{fold-roll-Expr
 use Rattle.sp_syntax.specs.declared.tree.ExprForm.TheVariants.{rolls-Call}
 use Rattle.sp_types.specs.TypedView.{typed_list}
 use Rattle.sp_operands.specs.Answers.{AnswersIn}
+use Rattle.sp_operands.specs.declared.error.CheckError.{CheckError}
+use Rattle.sp_env.specs.Declaring.{LeadsTo}
 use Rattle.sp_syntax.specs.View.{tree_of, expressions}
 use Rattle.sp_types.specs.Types.{parameters_of}
 use Rattle.sp_types.specs.View.{signature_of}
@@ -28,7 +30,8 @@ use Rattle.sp_syntax.specs.View.{declaration_of, declarations, init_declarators,
 use Rattle.sp_expr_steps.proofs.Braces.{constant_seen, declarations_in-view, constants_in-view, items_in-view, first_declaration, no_declaration_left, first_item, no_item_left, first_constant, no_constant_left}
 use Rattle.sp_expr_steps.specs.Expressions.{params_checked, param_checked, members_checked, declaration_members, items_checked, item_checked, constants_checked, constant_checked, declarations_in, constants_in, items_in}
 use Rattle.sp_expr_steps.specs.SyntaxView.{declarator_form_of}
-use Rattle.sp_expr_steps.proofs.Lists.{first_param, no_param_left, param_read, param_refused, params_read, list_form, list_failed, taken, ended}
+use Rattle.sp_expr_check.proofs.Lists.{part_failed, part_stopped}
+use Rattle.sp_expr_steps.proofs.Lists.{first_param, no_param_left, param_read, param_refused, params_read, list_failed, taken, ended}
 use Rattle.sp_syntax.specs.View.{param_of, params}
 use Rattle.sp_syntax.specs.declared.tree.DeclaratorForm.TheFolds.{fold-roll-DeclaratorForm}
 use Rattle.sp_syntax.specs.declared.tree.DeclaratorForm.TheVariants.{rolls-Function}
@@ -57,28 +60,28 @@ arguments_checked-arguments-preserved t c =
     let ts = told (parameters_of (signature_of c.args.signature.now)) in
     let e = tree_of c.e-item.result in
     let rest = expressions (map tree_of (drop (suc c.arguments.i) c.deref-e-items.result.now)) in
-    let a = typed_of c.in_ok-argument_checked.field-0 in
     let whole = arguments_checked c.args.names.now (env_of c.args.env.now) ts (arguments_of (form_of c.args.form.now)) in
-    let g : one_checked c.args.names.now (env_of c.arguments.env) ts c.arguments.i e ≡ accepted (a, env_of c.argument_checked.new.env) = c.in_ok-argument_checked.ensures in
+    let one = one_checked c.args.names.now (env_of c.arguments.env) ts c.arguments.i e in
+    let after = env_of c.argument_checked-next.new.env in
+    let g : one ≡ accepted (typed_of c.in_ok-before.next, after) = subst (λ (r : Result TypedExpr CheckError). AnswersIn typed_of one after r) c.in_ok-before.ensures.1 c.argument_checked-next.ensures in
     let h = rw (front c.deref-e-items.result.now c.arguments.i c.e-item.result c.arguments-test.true c.e-item.is) at c.arguments.invariant in
-    let items : c.push.new.self.items ≡ c.arguments.all.items ++ c.in_ok-argument_checked.field-0 ∷ [] = c.in_ok-push.ensures.items in
-    rw (items, map-append, add-one) (step whole c.args.names.now (env_of c.arguments.env) (env_of c.argument_checked.new.env) c.arguments.i ts (map typed_of c.arguments.all.items) e rest a g h)
+    let items : c.in_ok-all.all.items ≡ c.arguments.all.items ++ c.in_ok-before.next ∷ [] = c.in_ok-all.ensures ∙ ap (λ (v : Vec TypedExpr Global). v.items ++ c.in_ok-before.next ∷ []) c.in_ok-before.ensures.0 in
+    rw (items, map-append, add-one) (step whole c.args.names.now (env_of c.arguments.env) after c.arguments.i ts (map typed_of c.arguments.all.items) e rest (typed_of c.in_ok-before.next) g h)
 
-pub arguments_checked-returns-in_err-argument_checked : goal.arguments_checked-returns-in_err-argument_checked
-arguments_checked-returns-in_err-argument_checked t c =
+pub arguments_checked-returns-in_err-before : goal.arguments_checked-returns-in_err-before
+arguments_checked-returns-in_err-before t c =
     let ts = told (parameters_of (signature_of c.args.signature.now)) in
     let e = tree_of c.e-item.result in
     let rest = expressions (map tree_of (drop (suc c.arguments.i) c.deref-e-items.result.now)) in
     let whole = arguments_checked c.args.names.now (env_of c.args.env.now) ts (arguments_of (form_of c.args.form.now)) in
+    let one = one_checked c.args.names.now (env_of c.arguments.env) ts c.arguments.i e in
+    let after = env_of c.argument_checked-next.new.env in
     let h = rw (front c.deref-e-items.result.now c.arguments.i c.e-item.result c.arguments-test.true c.e-item.is) at c.arguments.invariant in
     let seen : Vec TypedExpr Global → TypedList = λ es. typed_list (map typed_of es.items) in
-    let made : AnswersIn seen whole (env_of c.argument_checked.new.env) (Err c.in_err-argument_checked.field-0.0) = failed seen typed_of whole (one_checked c.args.names.now (env_of c.arguments.env) ts c.arguments.i e) (env_of c.argument_checked.new.env) (env_of c.argument_checked.new.env) c.in_err-argument_checked.field-0.0 (λ k p g. stopped whole c.args.names.now (env_of c.arguments.env) c.arguments.i ts (map typed_of c.arguments.all.items) e rest k p h g) c.in_err-argument_checked.ensures in
+    let g : AnswersIn typed_of one after (Err c.in_err-before.field-0.0) = subst (λ (r : Result TypedExpr CheckError). AnswersIn typed_of one after r) c.in_err-before.ensures c.argument_checked-next.ensures in
+    let made : AnswersIn seen whole after (Err c.in_err-before.field-0.0) = failed seen typed_of whole one after after c.in_err-before.field-0.0 (λ k p g. stopped whole c.args.names.now (env_of c.arguments.env) c.arguments.i ts (map typed_of c.arguments.all.items) e rest k p h g) g in
     let p = err_from_is_err_and c.from_residual.result c.from_residual.ensures.1 in
     rw (p.1, p.2) made
-
-pub list_checked-returns : goal.list_checked-returns
-list_checked-returns t c =
-    rw (list_form c.args.names.now (env_of c.args.env.now) (declarator_form_of c.args.form.now)) c.list_read.ensures
 
 pub params_checked-params-init : goal.params_checked-params-init
 params_checked-params-init t c =
@@ -90,10 +93,10 @@ pub params_checked-params-preserved : goal.params_checked-params-preserved
 params_checked-params-preserved t c =
     let items = c.deref-param-items.result.now in
     rw add-one (param_read (params_checked c.args.names.now (env_of c.args.env.now) c.is_alone_in-alone.result [] (params_of (declarator_form_of c.args.form.now)))
-    c.args.names.now (env_of c.params.env) (env_of c.param_checked.new.env) c.is_alone_in-alone.result (map type_of c.params.all.items) (map type_of c.in_ok-all.all.items)
+    c.args.names.now (env_of c.params.env) (env_of c.param_checked.new.env) c.is_alone_in-alone.result (map type_of c.params.all.items) (map type_of c.param_checked.new.all.items)
     (param_of c.param-item.result) (params (map param_of (drop (suc c.params.i) items))) (params (map param_of (drop c.params.i items)))
     (first_param items c.params.i c.param-item.result c.params-test.true c.param-item.is)
-    c.in_ok-all.ensures c.params.invariant)
+    c.in_ok-param_checked.ensures c.params.invariant)
 
 pub params_checked-returns : goal.params_checked-returns
 params_checked-returns t c =
@@ -102,17 +105,17 @@ params_checked-returns t c =
     c.args.names.now (env_of c.params.env) c.is_alone_in-alone.result (map type_of c.params.all.items) (params (map param_of (drop c.params.i c.deref-param-items.result.now)))
     (no_param_left c.deref-param-items.result.now c.params.i c.params-test.false) c.params.invariant
 
-pub params_checked-returns-in_err-all : goal.params_checked-returns-in_err-all
-params_checked-returns-in_err-all t c =
+pub params_checked-returns-in_err-param_checked : goal.params_checked-returns-in_err-param_checked
+params_checked-returns-in_err-param_checked t c =
     let items = c.deref-param-items.result.now in
     let whole = params_checked c.args.names.now (env_of c.args.env.now) c.is_alone_in-alone.result [] (params_of (declarator_form_of c.args.form.now)) in
     let told = params_checked c.args.names.now (env_of c.args.env.now) (is_alone_in (declarator_form_of c.args.form.now)) [] (params_of (declarator_form_of c.args.form.now)) in
     let same : told ≡ whole = ap (λ b. params_checked c.args.names.now (env_of c.args.env.now) b [] (params_of (declarator_form_of c.args.form.now))) (sym c.is_alone_in-alone.ensures) in
     let seen : Vec CodeType Global → List CType = λ ts. map type_of ts.items in
-    let made : AnswersIn seen told (env_of c.param_checked.new.env) (Err c.in_err-all.field-0.0) =
-    list_failed seen seen told (param_checked c.args.names.now (env_of c.params.env) c.is_alone_in-alone.result (map type_of c.params.all.items) (param_of c.param-item.result)) (env_of c.param_checked.new.env) (env_of c.param_checked.new.env) c.in_err-all.field-0.0
+    let made : AnswersIn seen told (env_of c.param_checked.new.env) (Err c.in_err-param_checked.field-0.0) =
+    part_failed seen told (param_checked c.args.names.now (env_of c.params.env) c.is_alone_in-alone.result (map type_of c.params.all.items) (param_of c.param-item.result)) (map type_of c.param_checked.new.all.items, env_of c.param_checked.new.env) (env_of c.param_checked.new.env) c.in_err-param_checked.field-0.0
     (λ k q g. same ∙ param_refused whole c.args.names.now (env_of c.params.env) c.is_alone_in-alone.result (map type_of c.params.all.items) (param_of c.param-item.result) (params (map param_of (drop (suc c.params.i) items))) (params (map param_of (drop c.params.i items))) (first_param items c.params.i c.param-item.result c.params-test.true c.param-item.is) c.params.invariant k q g)
-    c.in_err-all.ensures in
+    c.in_err-param_checked.ensures in
     let p = err_from_is_err_and c.from_residual.result c.from_residual.ensures.1 in
     rw (p.1, p.2) made
 
@@ -134,15 +137,15 @@ members_checked-members-preserved t c =
     let part = declaration_members names (env_of c.members.env) (members_seen c.members.all.items) (declaration_of c.declaration-item.result) in
     let first = first_declaration items c.members.i c.declaration-item.result c.members-test.true c.declaration-item.is in
     let h : and_then part (λ x. members_checked names x.1 x.0 rest) ≡ whole = sym (ap (members_checked names (env_of c.members.env) (members_seen c.members.all.items)) first) ∙ c.members.invariant in
-    rw add-one (taken part (λ x. members_checked names x.1 x.0 rest) (members_seen c.in_ok-all.all.items, env_of c.declaration_members.new.env) whole h c.in_ok-all.ensures)
+    rw add-one (taken part (λ x. members_checked names x.1 x.0 rest) (members_seen c.declaration_members.new.all.items, env_of c.declaration_members.new.env) whole h c.in_ok-declaration_members.ensures)
 
 pub members_checked-returns : goal.members_checked-returns
 members_checked-returns t c =
     let items = c.deref-declaration-items.result.now in
     sym c.members.invariant ∙ ap (members_checked c.args.names.now (env_of c.members.env) (members_seen c.members.all.items)) (no_declaration_left items c.members.i c.members-test.false)
 
-pub members_checked-returns-in_err-all : goal.members_checked-returns-in_err-all
-members_checked-returns-in_err-all t c =
+pub members_checked-returns-in_err-declaration_members : goal.members_checked-returns-in_err-declaration_members
+members_checked-returns-in_err-declaration_members t c =
     let items = c.deref-declaration-items.result.now in
     let names = c.args.names.now in
     let whole = members_checked names (env_of c.args.env.now) [] (declarations_in (struct_spec_of c.args.spec.now)) in
@@ -151,8 +154,8 @@ members_checked-returns-in_err-all t c =
     let first = first_declaration items c.members.i c.declaration-item.result c.members-test.true c.declaration-item.is in
     let h : and_then part (λ x. members_checked names x.1 x.0 rest) ≡ whole = sym (ap (members_checked names (env_of c.members.env) (members_seen c.members.all.items)) first) ∙ c.members.invariant in
     let seen : Vec (ℕ × CodeType) Global → List (ℕ × CType) = λ ms. members_seen ms.items in
-    let made : AnswersIn seen whole (env_of c.declaration_members.new.env) (Err c.in_err-all.field-0.0) =
-    list_failed seen seen whole part (env_of c.declaration_members.new.env) (env_of c.declaration_members.new.env) c.in_err-all.field-0.0 (ended part (λ x. members_checked names x.1 x.0 rest) whole h) c.in_err-all.ensures in
+    let made : AnswersIn seen whole (env_of c.declaration_members.new.env) (Err c.in_err-declaration_members.field-0.0) =
+    part_failed seen whole part (members_seen c.declaration_members.new.all.items, env_of c.declaration_members.new.env) (env_of c.declaration_members.new.env) c.in_err-declaration_members.field-0.0 (ended part (λ x. members_checked names x.1 x.0 rest) whole h) c.in_err-declaration_members.ensures in
     let p = err_from_is_err_and c.from_residual.result c.from_residual.ensures.1 in
     rw (p.1, p.2) made
 
@@ -160,38 +163,37 @@ pub items_checked-items-init : goal.items_checked-items-init
 items_checked-items-init t c =
     let items = c.deref-item-items.result.now in
     let same : items_in (declaration_of c.args.declaration.now) ≡ init_declarators (map init_declarator_of items) = items_in-view c.args.declaration.now ∙ ap (λ xs. init_declarators (map init_declarator_of xs)) (sym c.deref-item-items.ensures.value) in
-    sym (ap (items_checked c.args.names.now (env_of c.args.env.now) (type_of c.args.base.now) (members_seen c.args.all.items)) same)
+    sym (ap (items_checked c.args.names.now (env_of c.args.env.now) (type_of c.args.base.now) (members_seen c.args.all.now.items)) same)
 
 pub items_checked-items-preserved : goal.items_checked-items-preserved
 items_checked-items-preserved t c =
     let items = c.deref-item-items.result.now in
     let names = c.args.names.now in
     let base = type_of c.args.base.now in
-    let whole = items_checked names (env_of c.args.env.now) base (members_seen c.args.all.items) (items_in (declaration_of c.args.declaration.now)) in
+    let whole = items_checked names (env_of c.args.env.now) base (members_seen c.args.all.now.items) (items_in (declaration_of c.args.declaration.now)) in
     let rest = init_declarators (map init_declarator_of (drop (suc c.items.i) items)) in
     let part = item_checked names (env_of c.items.env) base (members_seen c.items.all.items) (init_declarator_of c.item-item.result) in
     let first = first_item items c.items.i c.item-item.result c.items-test.true c.item-item.is in
     let h : and_then part (λ x. items_checked names x.1 base x.0 rest) ≡ whole = sym (ap (items_checked names (env_of c.items.env) base (members_seen c.items.all.items)) first) ∙ c.items.invariant in
-    rw add-one (taken part (λ x. items_checked names x.1 base x.0 rest) (members_seen c.in_ok-all.all.items, env_of c.item_checked.new.env) whole h c.in_ok-all.ensures)
+    rw add-one (taken part (λ x. items_checked names x.1 base x.0 rest) (members_seen c.item_checked.new.all.items, env_of c.item_checked.new.env) whole h c.in_ok-item_checked.ensures)
 
 pub items_checked-returns : goal.items_checked-returns
 items_checked-returns t c =
     let items = c.deref-item-items.result.now in
     sym c.items.invariant ∙ ap (items_checked c.args.names.now (env_of c.items.env) (type_of c.args.base.now) (members_seen c.items.all.items)) (no_item_left items c.items.i c.items-test.false)
 
-pub items_checked-returns-in_err-all : goal.items_checked-returns-in_err-all
-items_checked-returns-in_err-all t c =
+pub items_checked-returns-in_err-item_checked : goal.items_checked-returns-in_err-item_checked
+items_checked-returns-in_err-item_checked t c =
     let items = c.deref-item-items.result.now in
     let names = c.args.names.now in
     let base = type_of c.args.base.now in
-    let whole = items_checked names (env_of c.args.env.now) base (members_seen c.args.all.items) (items_in (declaration_of c.args.declaration.now)) in
+    let whole = items_checked names (env_of c.args.env.now) base (members_seen c.args.all.now.items) (items_in (declaration_of c.args.declaration.now)) in
     let rest = init_declarators (map init_declarator_of (drop (suc c.items.i) items)) in
     let part = item_checked names (env_of c.items.env) base (members_seen c.items.all.items) (init_declarator_of c.item-item.result) in
     let first = first_item items c.items.i c.item-item.result c.items-test.true c.item-item.is in
     let h : and_then part (λ x. items_checked names x.1 base x.0 rest) ≡ whole = sym (ap (items_checked names (env_of c.items.env) base (members_seen c.items.all.items)) first) ∙ c.items.invariant in
-    let seen : Vec (ℕ × CodeType) Global → List (ℕ × CType) = λ ms. members_seen ms.items in
-    let made : AnswersIn seen whole (env_of c.item_checked.new.env) (Err c.in_err-all.field-0.0) =
-    list_failed seen seen whole part (env_of c.item_checked.new.env) (env_of c.item_checked.new.env) c.in_err-all.field-0.0 (ended part (λ x. items_checked names x.1 base x.0 rest) whole h) c.in_err-all.ensures in
+    let made : LeadsTo whole (members_seen c.item_checked.new.all.items, env_of c.item_checked.new.env) (Err c.in_err-item_checked.field-0.0) =
+    part_stopped whole part (members_seen c.item_checked.new.all.items, env_of c.item_checked.new.env) (members_seen c.item_checked.new.all.items, env_of c.item_checked.new.env) c.in_err-item_checked.field-0.0 (ended part (λ x. items_checked names x.1 base x.0 rest) whole h) c.in_err-item_checked.ensures in
     let p = err_from_is_err_and c.from_residual.result c.from_residual.ensures.1 in
     rw (p.1, p.2) made
 
