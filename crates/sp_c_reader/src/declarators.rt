@@ -18,6 +18,7 @@ ghost use Rattle.sp_grammar.specs.CTokens.{view};
 ghost use Rattle.sp_grammar.specs.CTokens as sorts_there;
 
 use crate::expressions::{CONDITIONAL, read_level};
+use crate::kept::{keeping, pushed};
 use crate::specifiers::read_specifiers;
 use sp_c_tokens::{
     AlsoAllowed, Context, DeclaratorKind, Declared, DeclaredShape, Mark, ParameterPart, Parameters,
@@ -107,7 +108,8 @@ pub fn read_type_name<'a>(
 {
     let specifiers = read_specifiers(context, tokens, false, depth)?;
     let behind = specifiers.rest;
-    let part = read_declarator(context, behind, DeclaratorKind::Abstract, depth)?;
+    let next = read_declarator(context, behind, DeclaratorKind::Abstract, depth);
+    let (part, all) = keeping(next, specifiers.tree.all)?;
     let Part {
         tree: declared,
         depth: reached,
@@ -116,7 +118,7 @@ pub fn read_type_name<'a>(
     Ok(Part {
         tree: TypeNamePart {
             tree: TypeName {
-                specifiers: specifiers.tree.all,
+                specifiers: all,
                 declarator: declared.tree,
             },
             behind: declared.behind,
@@ -170,7 +172,8 @@ fn read_pointer<'a>(
         (IsPointedStop (context_of context.entry) (form_seen form) depth tokens.now) }
 {
     let (qualifiers, rest) = read_qualifiers(context, tokens)?;
-    let inner = read_declarator(context, rest, form, depth - 1)?;
+    let next = read_declarator(context, rest, form, depth - 1);
+    let (inner, qualifiers) = keeping(next, qualifiers)?;
     let Part {
         tree,
         depth: reached,
@@ -289,19 +292,21 @@ fn read_declarator_after_paren<'a>(
     let (token, _) = next_token(tokens);
     if begins_parameters(form, sort_at(context.types, token.kind)) {
         let head = absent(form, opening.place);
-        let parameters = read_parameters(context, tokens, depth - 1)?;
+        let (parameters, head) = keeping(read_parameters(context, tokens, depth - 1), head)?;
         let purpose = parameters.tree.behind;
-        let rest = expect(context, purpose, Mark::CloseParen, parameters.rest)?;
+        let next = expect(context, purpose, Mark::CloseParen, parameters.rest);
+        let (rest, (head, given)) = keeping(next, (head, parameters.tree))?;
         return Ok(Part {
-            tree: function_of(context.alloc, head, parameters.tree)?,
+            tree: function_of(context.alloc, head, given)?,
             depth: 1 + parameters.depth.max(1),
             rest,
         });
     }
     let inner = read_group(context, tokens, form, depth - 1)?;
-    let rest = expect(context, inner.tree.behind, Mark::CloseParen, inner.rest)?;
+    let next = expect(context, inner.tree.behind, Mark::CloseParen, inner.rest);
     let depth = 1 + inner.depth;
-    let tree = grouped(context.alloc, opening.place, inner.tree)?;
+    let (rest, declared) = keeping(next, inner.tree)?;
+    let tree = grouped(context.alloc, opening.place, declared)?;
     Ok(Part { tree, depth, rest })
 }
 
@@ -497,7 +502,9 @@ fn read_declarator_suffixes<'a>(
             break;
         }
         if part.depth >= depth {
-            return Err(ReadError::TooDeep(part.rest));
+            let rest = part.rest;
+            drop(part);
+            return Err(ReadError::TooDeep(rest));
         }
         part = read_part(context, behind, token, part.tree, part.depth, depth)?;
     }
@@ -556,10 +563,11 @@ fn read_array<'a>(
         part.rest.now)
         (IsArrayStop (context_of context.entry) context.entry.scope depth tokens.now) }
 {
-    let length = read_length(context, tokens, depth - 1)?;
+    let (length, of) = keeping(read_length(context, tokens, depth - 1), head.tree)?;
     let purpose = purpose_of(&length.tree);
-    let rest = expect(context, purpose, Mark::CloseBracket, length.rest)?;
-    let tree = array_of(context.alloc, head.tree, length.tree)?;
+    let next = expect(context, purpose, Mark::CloseBracket, length.rest);
+    let (rest, (of, many)) = keeping(next, (of, length.tree))?;
+    let tree = array_of(context.alloc, of, many)?;
     Ok(Part {
         tree: Declared {
             tree,
@@ -647,11 +655,12 @@ fn read_function<'a>(
         (IsStop (context_of context.entry) (grammar.declarator_suffixes
         (declared_seen head pending)) depth (opening ∷ tokens.now)) }
 {
-    let parameters = read_parameters(context, tokens, depth - 1)?;
+    let (parameters, head) = keeping(read_parameters(context, tokens, depth - 1), head)?;
     let purpose = parameters.tree.behind;
-    let rest = expect(context, purpose, Mark::CloseParen, parameters.rest)?;
+    let next = expect(context, purpose, Mark::CloseParen, parameters.rest);
+    let (rest, (head, given)) = keeping(next, (head, parameters.tree))?;
     Ok(Part {
-        tree: function_of(context.alloc, head, parameters.tree)?,
+        tree: function_of(context.alloc, head, given)?,
         depth: 1 + reached.max(parameters.depth),
         rest,
     })
@@ -672,12 +681,12 @@ fn read_parameters<'a>(
         (IsStop (context_of context.entry) grammar.parameters depth tokens.now) }
 {
     let (token, _) = next_token(tokens);
-    let all = Vec::new(context.alloc);
     if !begins_specifiers(
         true,
         context.scope.in_function,
         sort_at(context.types, token.kind),
     ) {
+        let all = Vec::new(context.alloc);
         let behind = AlsoAllowed::Parameter;
         let dots = false;
         return Ok(Part {
@@ -687,11 +696,10 @@ fn read_parameters<'a>(
         });
     }
     let first = read_parameter(context, tokens, depth)?;
-    let mut all = all;
     let mut behind = first.tree.behind;
     let mut reached = first.depth;
     let mut rest = first.rest;
-    all.push(first.tree.tree)?;
+    let mut all = pushed(Vec::new(context.alloc), first.tree.tree)?;
     'parameters: loop {
         let (comma, more) = next_token(rest);
         if !is_mark(Mark::Comma, sort_at(context.types, comma.kind)) {
@@ -707,11 +715,11 @@ fn read_parameters<'a>(
                 rest: last,
             });
         }
-        let next = read_parameter(context, more, depth)?;
+        let (next, read) = keeping(read_parameter(context, more, depth), all)?;
         behind = next.tree.behind;
         reached = reached.max(next.depth);
         rest = next.rest;
-        all.push(next.tree.tree)?;
+        all = pushed(read, next.tree.tree)?;
     }
     let dots = false;
     Ok(Part {
@@ -737,7 +745,8 @@ fn read_parameter<'a>(
 {
     let specifiers = read_specifiers(context, tokens, true, depth)?;
     let behind = specifiers.rest;
-    let part = read_declarator(context, behind, DeclaratorKind::Either, depth)?;
+    let next = read_declarator(context, behind, DeclaratorKind::Either, depth);
+    let (part, all) = keeping(next, specifiers.tree.all)?;
     let Part {
         tree: declared,
         depth: reached,
@@ -746,7 +755,7 @@ fn read_parameter<'a>(
     Ok(Part {
         tree: ParameterPart {
             tree: Param {
-                specifiers: specifiers.tree.all,
+                specifiers: all,
                 declarator: declared.tree,
             },
             behind: declared.behind,

@@ -15,6 +15,7 @@ ghost use Rattle.sp_c_reader.specs.Reading.{Answers, IsRead, IsStop, IsSuffixed,
 ghost use Rattle.sp_c_tokens.specs.Codes.{sort_seen};
 
 use crate::declarators::read_type_name;
+use crate::kept::{keeping, pushed};
 use crate::primaries::{is_operand, number_of, read_leaf};
 use sp_c_tokens::{
     AlsoAllowed, Context, Mark, Operand, Part, ReadError, Sort, begins_expression, continues_level,
@@ -159,11 +160,13 @@ fn read_operators<'a>(
             break;
         }
         if reached >= depth {
+            drop(tree);
             return Err(ReadError::TooDeep(rest));
         }
-        let right = read_level(context, behind, level - 1, depth - 1)?;
+        let next = read_level(context, behind, level - 1, depth - 1);
+        let (right, left) = keeping(next, tree)?;
         let punct = punct_of(token.kind);
-        tree = Expr::binary(context.alloc, tree, token.place, punct, right.tree.tree)?;
+        tree = Expr::binary(context.alloc, left, token.place, punct, right.tree.tree)?;
         unary = false;
         reached = 1 + reached.max(right.depth);
         rest = right.rest;
@@ -202,10 +205,12 @@ fn read_sequence<'a>(
             break;
         }
         if reached >= depth {
+            drop(tree);
             return Err(ReadError::TooDeep(rest));
         }
-        let right = read_level(context, behind, ASSIGNMENT, depth - 1)?;
-        tree = Expr::comma(context.alloc, tree, token.place, right.tree.tree)?;
+        let next = read_level(context, behind, ASSIGNMENT, depth - 1);
+        let (right, left) = keeping(next, tree)?;
+        tree = Expr::comma(context.alloc, left, token.place, right.tree.tree)?;
         unary = false;
         reached = 1 + reached.max(right.depth);
         rest = right.rest;
@@ -241,13 +246,15 @@ fn read_assignment<'a>(
         });
     }
     if inner >= depth {
+        drop(left);
         return Err(ReadError::TooDeep(tokens));
     }
-    let assigned = read_level(context, behind, ASSIGNMENT, depth - 1)?;
+    let next = read_level(context, behind, ASSIGNMENT, depth - 1);
+    let (assigned, target) = keeping(next, left.tree)?;
     let punct = punct_of(token.kind);
     let tree = Expr::assign(
         context.alloc,
-        left.tree,
+        target,
         token.place,
         punct,
         assigned.tree.tree,
@@ -283,13 +290,17 @@ fn read_conditional<'a>(
         });
     }
     if inner >= depth {
+        drop(left);
         return Err(ReadError::TooDeep(tokens));
     }
-    let first = read_level(context, behind, COMMA, depth - 1)?;
-    let rest = expect(context, AlsoAllowed::Nothing, Mark::Colon, first.rest)?;
-    let second = read_level(context, rest, CONDITIONAL, depth - 1)?;
+    let next = read_level(context, behind, COMMA, depth - 1);
+    let (first, condition) = keeping(next, left.tree)?;
+    let next = expect(context, AlsoAllowed::Nothing, Mark::Colon, first.rest);
+    let (rest, read) = keeping(next, (condition, first.tree.tree))?;
+    let next = read_level(context, rest, CONDITIONAL, depth - 1);
+    let (second, (condition, when_true)) = keeping(next, read)?;
     let place = token.place;
-    let (condition, when_true, when_false) = (left.tree, first.tree.tree, second.tree.tree);
+    let when_false = second.tree.tree;
     let tree = Expr::choice(context.alloc, condition, place, when_true, when_false)?;
     Ok(Part {
         tree: Operand { tree, unary: false },
@@ -342,14 +353,10 @@ fn read_after_paren<'a>(
     let (token, _) = next_token(tokens);
     if is_specifier(sort_at(context.types, token.kind)) {
         let name = read_type_name(context, tokens, depth - 1)?;
-        let rest = expect(context, name.tree.behind, Mark::CloseParen, name.rest)?;
-        let operand = read_cast(context, rest, depth - 1)?;
-        let tree = Expr::cast(
-            context.alloc,
-            opening.place,
-            name.tree.tree,
-            operand.tree.tree,
-        )?;
+        let next = expect(context, name.tree.behind, Mark::CloseParen, name.rest);
+        let (rest, target) = keeping(next, name.tree.tree)?;
+        let (operand, target) = keeping(read_cast(context, rest, depth - 1), target)?;
+        let tree = Expr::cast(context.alloc, opening.place, target, operand.tree.tree)?;
         return Ok(Part {
             tree: Operand { tree, unary: false },
             depth: 1 + name.depth.max(operand.depth),
@@ -357,8 +364,9 @@ fn read_after_paren<'a>(
         });
     }
     let inner = read_level(context, tokens, COMMA, depth - 1)?;
-    let rest = expect(context, AlsoAllowed::Nothing, Mark::CloseParen, inner.rest)?;
-    let group = Expr::paren(context.alloc, opening.place, inner.tree.tree)?;
+    let next = expect(context, AlsoAllowed::Nothing, Mark::CloseParen, inner.rest);
+    let (rest, tree) = keeping(next, inner.tree.tree)?;
+    let group = Expr::paren(context.alloc, opening.place, tree)?;
     let part = read_suffixes(context, rest, group, 1 + inner.depth, depth)?;
     Ok(Part {
         tree: Operand {
@@ -468,8 +476,9 @@ fn read_sizeof_after_paren<'a>(
     let (token, _) = next_token(tokens);
     if is_specifier(sort_at(context.types, token.kind)) {
         let name = read_type_name(context, tokens, depth - 1)?;
-        let rest = expect(context, name.tree.behind, Mark::CloseParen, name.rest)?;
-        let tree = Expr::sizeof_type(context.alloc, word.place, name.tree.tree)?;
+        let next = expect(context, name.tree.behind, Mark::CloseParen, name.rest);
+        let (rest, measured) = keeping(next, name.tree.tree)?;
+        let tree = Expr::sizeof_type(context.alloc, word.place, measured)?;
         return Ok(Part {
             tree,
             depth: 1 + name.depth,
@@ -477,8 +486,9 @@ fn read_sizeof_after_paren<'a>(
         });
     }
     let inner = read_level(context, tokens, COMMA, depth - 2)?;
-    let rest = expect(context, AlsoAllowed::Nothing, Mark::CloseParen, inner.rest)?;
-    let group = Expr::paren(context.alloc, opening.place, inner.tree.tree)?;
+    let next = expect(context, AlsoAllowed::Nothing, Mark::CloseParen, inner.rest);
+    let (rest, tree) = keeping(next, inner.tree.tree)?;
+    let group = Expr::paren(context.alloc, opening.place, tree)?;
     let operand = read_suffixes(context, rest, group, 1 + inner.depth, depth - 1)?;
     let tree = Expr::sizeof_expr(context.alloc, word.place, operand.tree)?;
     Ok(Part {
@@ -505,8 +515,9 @@ fn read_primary<'a>(
             return Err(ReadError::TooDeep(tokens));
         }
         let inner = read_level(context, rest, COMMA, depth - 1)?;
-        let rest = expect(context, AlsoAllowed::Nothing, Mark::CloseParen, inner.rest)?;
-        let tree = Expr::paren(context.alloc, token.place, inner.tree.tree)?;
+        let next = expect(context, AlsoAllowed::Nothing, Mark::CloseParen, inner.rest);
+        let (rest, grouped) = keeping(next, inner.tree.tree)?;
+        let tree = Expr::paren(context.alloc, token.place, grouped)?;
         return Ok(Part {
             tree,
             depth: 1 + inner.depth,
@@ -548,7 +559,9 @@ pub fn read_suffixes<'a>(
             break;
         }
         if part.depth >= depth {
-            return Err(ReadError::TooDeep(part.rest));
+            let rest = part.rest;
+            drop(part);
+            return Err(ReadError::TooDeep(rest));
         }
         part = read_suffix(context, behind, token, part.tree, part.depth, depth)?;
     }
@@ -587,14 +600,15 @@ fn read_suffix<'a>(
 {
     let sort = sort_at(context.types, token.kind);
     if is_mark(Mark::OpenBracket, sort) {
-        let index = read_level(context, tokens, COMMA, depth - 1)?;
-        let rest = expect(
+        let (index, inner) = keeping(read_level(context, tokens, COMMA, depth - 1), inner)?;
+        let next = expect(
             context,
             AlsoAllowed::Nothing,
             Mark::CloseBracket,
             index.rest,
-        )?;
-        let tree = Expr::index(context.alloc, inner, token.place, index.tree.tree)?;
+        );
+        let (rest, (inner, at)) = keeping(next, (inner, index.tree.tree))?;
+        let tree = Expr::index(context.alloc, inner, token.place, at)?;
         return Ok(Part {
             tree,
             depth: 1 + reached.max(index.depth),
@@ -607,6 +621,7 @@ fn read_suffix<'a>(
     if is_mark(Mark::Member, sort) {
         let (name, rest) = next_token(tokens);
         if !is_name(name.kind) {
+            drop(inner);
             return Err(fault(context, AlsoAllowed::Nothing, tokens));
         }
         let tree = member_of(context.alloc, inner, token, number_of(name.kind))?;
@@ -664,14 +679,15 @@ fn read_call<'a>(
         (IsStop (context_of context.entry) (grammar.suffixes (tree_of inner)) depth
         (opening ∷ tokens.now)) }
 {
-    let arguments = read_arguments(context, tokens, depth - 1)?;
+    let (arguments, called) = keeping(read_arguments(context, tokens, depth - 1), inner)?;
     let purpose = if arguments.tree.is_empty() {
         AlsoAllowed::Name
     } else {
         AlsoAllowed::Nothing
     };
-    let rest = expect(context, purpose, Mark::CloseParen, arguments.rest)?;
-    let tree = Expr::call(context.alloc, inner, opening.place, arguments.tree)?;
+    let next = expect(context, purpose, Mark::CloseParen, arguments.rest);
+    let (rest, (called, given)) = keeping(next, (called, arguments.tree))?;
+    let tree = Expr::call(context.alloc, called, opening.place, given)?;
     Ok(Part {
         tree,
         depth: 1 + reached.max(arguments.depth),
@@ -690,17 +706,16 @@ fn read_arguments<'a>(
     ensures { Answers (context_of context.entry) grammar.arguments depth tokens.now
         (λ all. map tree_of all.items) result }
 {
-    let mut all = Vec::new(context.alloc);
     let (token, _) = next_token(tokens);
     if !begins_expression(sort_at(context.types, token.kind)) {
         return Ok(Part {
-            tree: all,
+            tree: Vec::new(context.alloc),
             depth: 0,
             rest: tokens,
         });
     }
     let first = read_level(context, tokens, ASSIGNMENT, depth)?;
-    all.push(first.tree.tree)?;
+    let mut all = pushed(Vec::new(context.alloc), first.tree.tree)?;
     let mut reached = first.depth;
     let mut rest = first.rest;
     'arguments: loop {
@@ -708,8 +723,8 @@ fn read_arguments<'a>(
         if !is_mark(Mark::Comma, sort_at(context.types, token.kind)) {
             break;
         }
-        let next = read_level(context, behind, ASSIGNMENT, depth)?;
-        all.push(next.tree.tree)?;
+        let (next, read) = keeping(read_level(context, behind, ASSIGNMENT, depth), all)?;
+        all = pushed(read, next.tree.tree)?;
         reached = reached.max(next.depth);
         rest = next.rest;
     }

@@ -18,9 +18,11 @@
 
 mod declarators;
 mod expressions;
+mod kept;
 mod primaries;
 mod specifiers;
 
 pub use declarators::{closed, read_declarator, read_type_name};
 pub use expressions::{ASSIGNMENT, COMMA, CONDITIONAL, read_level, read_suffixes, read_tail};
+pub use kept::{keeping, pushed};
 pub use specifiers::read_specifiers;

@@ -19,6 +19,7 @@ ghost use Rattle.sp_tree.specs.declared.token.Token.{Token};
 
 use crate::declarators::{closed, read_declarator};
 use crate::expressions::{CONDITIONAL, read_level};
+use crate::kept::{keeping, pushed};
 use sp_c_tokens::{
     AlsoAllowed, Context, DeclaratorKind, Declared, Mark, MemberDeclarators, NOTHING, Part,
     ReadError, Scope, Sort, SpecifierList, add_specifier, begins_specifiers, expect, fault,
@@ -84,17 +85,20 @@ pub fn read_specifiers<'a>(
             break;
         };
         if is_too_deep(depth, sort) {
+            drop(all);
             return Err(ReadError::TooDeep(rest));
         }
-        let next = read_specifier(context, behind, token, depth)?;
-        all.push(next.tree)?;
+        let (next, read) = keeping(read_specifier(context, behind, token, depth), all)?;
+        all = pushed(read, next.tree)?;
         typedefs = is_either(typedefs, is_mark(Mark::Typedef, sort));
         seen = more;
         reached = reached.max(next.depth);
         rest = next.rest;
     }
     if !is_typed(seen) {
-        return Err(fault(context, purpose_of(stores, &all), rest));
+        let purpose = purpose_of(stores, &all);
+        drop(all);
+        return Err(fault(context, purpose, rest));
     }
     Ok(Part {
         tree: SpecifierList { all, typedefs },
@@ -251,11 +255,12 @@ fn read_body<'a>(
     let (declaration, reached) = (first.tree, first.depth);
     let members = read_members(inner, first.rest, declaration, reached, depth - 1)?;
     let purpose = AlsoAllowed::TypeSpecifier;
-    let rest = expect(inner, purpose, Mark::CloseBrace, members.rest)?;
+    let next = expect(inner, purpose, Mark::CloseBrace, members.rest);
+    let (rest, all) = keeping(next, members.tree)?;
     let spec = StructSpec {
         union: is_union(word.kind),
         tag,
-        members: Some(members.tree),
+        members: Some(all),
         place: word.place,
     };
     Ok(Part {
@@ -281,8 +286,7 @@ fn read_members<'a>(
     ensures { Answers (context_of context.entry) (grammar.members (declaration_of first ∷ [])) depth
         tokens.now (λ all. map declaration_of all.items) result }
 {
-    let mut all = Vec::new(context.alloc);
-    all.push(first)?;
+    let mut all = pushed(Vec::new(context.alloc), first)?;
     let mut reached = inner;
     let mut rest = tokens;
     'members: loop {
@@ -294,8 +298,8 @@ fn read_members<'a>(
         ) {
             break;
         }
-        let next = read_member(context, rest, depth)?;
-        all.push(next.tree)?;
+        let (next, read) = keeping(read_member(context, rest, depth), all)?;
+        all = pushed(read, next.tree)?;
         reached = reached.max(next.depth);
         rest = next.rest;
     }
@@ -320,13 +324,16 @@ fn read_member<'a>(
     let place = next_token(tokens).0.place;
     let specifiers = read_specifiers(context, tokens, false, depth)?;
     let behind = specifiers.rest;
-    let first = read_declarator(context, behind, DeclaratorKind::Concrete, depth)?;
-    let items = read_items(context, first.rest, first.tree, first.depth, depth)?;
-    let rest = expect(context, items.tree.behind, Mark::Semicolon, items.rest)?;
+    let next = read_declarator(context, behind, DeclaratorKind::Concrete, depth);
+    let (first, all) = keeping(next, specifiers.tree.all)?;
+    let next = read_items(context, first.rest, first.tree, first.depth, depth);
+    let (items, all) = keeping(next, all)?;
+    let next = expect(context, items.tree.behind, Mark::Semicolon, items.rest);
+    let (rest, (all, declared)) = keeping(next, (all, items.tree.all))?;
     Ok(Part {
         tree: Declaration {
-            specifiers: specifiers.tree.all,
-            items: items.tree.all,
+            specifiers: all,
+            items: declared,
             place,
         },
         depth: specifiers.depth.max(items.depth),
@@ -353,9 +360,8 @@ fn read_items<'a>(
         (grammar.one_item (declared_seen first (declarator_of first.tree)) None)) depth
         tokens.now) }
 {
-    let mut all = Vec::new(context.alloc);
     let mut purpose = closed(first.behind);
-    all.push(item_of(first.tree))?;
+    let mut all = pushed(Vec::new(context.alloc), item_of(first.tree))?;
     let mut reached = inner;
     let mut rest = tokens;
     'items: loop {
@@ -363,11 +369,12 @@ fn read_items<'a>(
         if !is_mark(Mark::Comma, sort_at(context.types, token.kind)) {
             break;
         }
-        let next = read_declarator(context, behind, DeclaratorKind::Concrete, depth)?;
+        let next = read_declarator(context, behind, DeclaratorKind::Concrete, depth);
+        let (next, read) = keeping(next, all)?;
         purpose = closed(next.tree.behind);
         reached = reached.max(next.depth);
         rest = next.rest;
-        all.push(item_of(next.tree.tree))?;
+        all = pushed(read, item_of(next.tree.tree))?;
     }
     Ok(Part {
         tree: MemberDeclarators {
@@ -461,15 +468,16 @@ fn read_constants<'a>(
 {
     let first = read_enumerator(context, tokens, depth)?;
     let constants = read_enumerators(context, first.rest, first.tree, first.depth, depth)?;
-    let rest = expect(
+    let next = expect(
         context,
         AlsoAllowed::Nothing,
         Mark::CloseBrace,
         constants.rest,
-    )?;
+    );
+    let (rest, all) = keeping(next, constants.tree)?;
     let spec = EnumSpec {
         tag,
-        constants: Some(constants.tree),
+        constants: Some(all),
         place: word.place,
     };
     Ok(Part {
@@ -494,8 +502,7 @@ fn read_enumerators<'a>(
     ensures { Answers (context_of context.entry) (grammar.enumerators (constant_seen first ∷ [])) depth
         tokens.now (λ all. map constant_seen all.items) result }
 {
-    let mut all = Vec::new(context.alloc);
-    all.push(first)?;
+    let mut all = pushed(Vec::new(context.alloc), first)?;
     let mut reached = inner;
     let mut rest = tokens;
     'enumerators: loop {
@@ -503,8 +510,8 @@ fn read_enumerators<'a>(
         if !is_mark(Mark::Comma, sort_at(context.types, token.kind)) {
             break;
         }
-        let next = read_enumerator(context, behind, depth)?;
-        all.push(next.tree)?;
+        let (next, read) = keeping(read_enumerator(context, behind, depth), all)?;
+        all = pushed(read, next.tree)?;
         reached = reached.max(next.depth);
         rest = next.rest;
     }

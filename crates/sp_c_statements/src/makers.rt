@@ -1,4 +1,5 @@
-//! The makers of statements. Each answers exactly the tree that it names, or want of memory.
+//! The makers of statements. Each answers exactly the tree that it names, or want of memory. There it
+//! drops what it was given by a call, since a proof looks at each form of trees that a `?` drops.
 ghost use Rattle.std.specs.Prelude.{◌≡◌, IfOk, map, option_map, if◌then◌else◌};
 ghost use Rattle.sp_syntax.specs.Syntax as syntax;
 ghost use Rattle.sp_syntax.specs.Syntax.{statement};
@@ -98,7 +99,13 @@ pub(crate) fn prefixed(
     ensures { IfOk result (λ s. statement_of s ≡ prefixed prefix place (statement_of body)) }
 {
     let end = body.end;
-    let body = Box::new(alloc, body)?;
+    let body = match Box::new(alloc, body) {
+        Ok(body) => body,
+        Err(failed) => {
+            drop(prefix);
+            return Err(AllocError::from(failed));
+        }
+    };
     let form = match prefix {
         Prefix::Label(name) => StatementForm::Label(name, body),
         Prefix::Case(value) => StatementForm::Case(value, body),
@@ -126,11 +133,23 @@ pub(crate) fn if_else(
     let (other, end) = match other {
         Some(other) => {
             let end = other.end;
-            (Some(Box::new(alloc, other)?), end)
+            match Box::new(alloc, other) {
+                Ok(other) => (Some(other), end),
+                Err(failed) => {
+                    drop((condition, branch));
+                    return Err(AllocError::from(failed));
+                }
+            }
         }
         None => (None, branch.end),
     };
-    let branch = Box::new(alloc, branch)?;
+    let branch = match Box::new(alloc, branch) {
+        Ok(branch) => branch,
+        Err(failed) => {
+            drop((condition, other));
+            return Err(AllocError::from(failed));
+        }
+    };
     Ok(Statement {
         form: StatementForm::If(condition, branch, other),
         place,
@@ -149,7 +168,13 @@ pub(crate) fn do_while(
     ensures { IfOk result (λ s. statement_of s ≡ statement
         (syntax.do_loop (statement_of body) (tree_of condition)) place end) }
 {
-    let body = Box::new(alloc, body)?;
+    let body = match Box::new(alloc, body) {
+        Ok(body) => body,
+        Err(failed) => {
+            drop(condition);
+            return Err(AllocError::from(failed));
+        }
+    };
     Ok(Statement {
         form: StatementForm::Do(body, condition),
         place,

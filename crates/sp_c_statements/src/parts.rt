@@ -11,7 +11,7 @@ ghost use Rattle.sp_c_tokens.specs.Scopes.{context_of, purpose_seen};
 ghost use Rattle.sp_c_reader.specs.Reading.{Answers};
 ghost use Rattle.sp_c_statements.specs.Parts.{IsCondition, IsConditionStop, IsClause, IsClauseStop, IsDoEnd, IsDoEndStop};
 
-use sp_c_reader::{COMMA, read_level};
+use sp_c_reader::{COMMA, keeping, read_level};
 use sp_c_tokens::{
     AlsoAllowed, Context, Mark, Part, ReadError, begins_expression, expect, next_token, sort_at,
 };
@@ -55,14 +55,15 @@ pub(crate) fn read_condition<'a>(
 {
     let inner = expect(context, AlsoAllowed::Nothing, Mark::OpenParen, tokens)?;
     let condition = read_level(context, inner, COMMA, depth)?;
-    let rest = expect(
+    let next = expect(
         context,
         AlsoAllowed::Nothing,
         Mark::CloseParen,
         condition.rest,
-    )?;
+    );
+    let (rest, tree) = keeping(next, condition.tree.tree)?;
     Ok(Part {
-        tree: condition.tree.tree,
+        tree,
         depth: condition.depth,
         rest,
     })
@@ -120,13 +121,11 @@ pub(crate) fn read_clause<'a>(
 {
     let value = read_optional(context, tokens, depth)?;
     let end = first_place(value.rest);
-    let rest = expect(context, if_missing(&value.tree), mark, value.rest)?;
+    let next = expect(context, if_missing(&value.tree), mark, value.rest);
     let inner = value.depth;
+    let (rest, value) = keeping(next, value.tree)?;
     Ok(Part {
-        tree: Clause {
-            value: value.tree,
-            end,
-        },
+        tree: Clause { value, end },
         depth: inner,
         rest,
     })
@@ -147,18 +146,16 @@ pub(crate) fn read_do_end<'a>(
     let inner = expect(context, AlsoAllowed::Nothing, Mark::While, tokens)?;
     let condition = read_condition(context, inner, depth)?;
     let end = first_place(condition.rest);
-    let rest = expect(
+    let next = expect(
         context,
         AlsoAllowed::Nothing,
         Mark::Semicolon,
         condition.rest,
-    )?;
+    );
     let inner = condition.depth;
+    let (rest, condition) = keeping(next, condition.tree)?;
     Ok(Part {
-        tree: DoEnd {
-            condition: condition.tree,
-            end,
-        },
+        tree: DoEnd { condition, end },
         depth: inner,
         rest,
     })

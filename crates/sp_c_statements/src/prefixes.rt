@@ -12,7 +12,7 @@ ghost use Rattle.sp_c_statements.specs.declared.heads.PrefixKind.TheVariants as 
 use crate::heads::PrefixKind;
 use crate::parts::{read_clause, read_condition};
 use crate::simple::number_of;
-use sp_c_reader::{CONDITIONAL, read_level};
+use sp_c_reader::{CONDITIONAL, keeping, read_level};
 use sp_c_tokens::{AlsoAllowed, Context, Mark, Part, ReadError, expect, next_token};
 use sp_syntax::Expr;
 use sp_tree::Token;
@@ -98,9 +98,10 @@ fn read_case<'a>(
 {
     let (_, inner) = next_token(tokens);
     let value = read_level(context, inner, CONDITIONAL, depth - 1)?;
-    let rest = expect(context, AlsoAllowed::Nothing, Mark::Colon, value.rest)?;
+    let next = expect(context, AlsoAllowed::Nothing, Mark::Colon, value.rest);
+    let (rest, tree) = keeping(next, value.tree.tree)?;
     Ok(Part {
-        tree: Prefix::Case(value.tree.tree),
+        tree: Prefix::Case(tree),
         depth: value.depth,
         rest,
     })
@@ -192,10 +193,12 @@ fn read_for<'a>(
     let (_, inner) = next_token(tokens);
     let inner = expect(context, AlsoAllowed::Nothing, Mark::OpenParen, inner)?;
     let start = read_clause(context, Mark::Semicolon, inner, depth - 1)?;
-    let test = read_clause(context, Mark::Semicolon, start.rest, depth - 1)?;
-    let step = read_clause(context, Mark::CloseParen, test.rest, depth - 1)?;
+    let next = read_clause(context, Mark::Semicolon, start.rest, depth - 1);
+    let (test, first) = keeping(next, start.tree.value)?;
+    let next = read_clause(context, Mark::CloseParen, test.rest, depth - 1);
+    let (step, (first, second)) = keeping(next, (first, test.tree.value))?;
     Ok(Part {
-        tree: Prefix::For(start.tree.value, test.tree.value, step.tree.value),
+        tree: Prefix::For(first, second, step.tree.value),
         depth: start.depth.max(test.depth).max(step.depth),
         rest: step.rest,
     })

@@ -22,7 +22,7 @@ ghost use Rattle.sp_c_statements.specs.declared.heads.SimpleKind.TheVariants.{
 use crate::heads::SimpleKind;
 use crate::makers::{empty, expression, goto, jump, return_of};
 use crate::parts::{first_place, read_clause};
-use sp_c_reader::{COMMA, read_level, read_suffixes, read_tail};
+use sp_c_reader::{COMMA, keeping, read_level, read_suffixes, read_tail};
 use sp_c_tokens::{
     AlsoAllowed, Context, Mark, Operand, Part, ReadError, expect, fault, next_token,
 };
@@ -83,10 +83,11 @@ fn read_expression<'a>(
 {
     let value = read_level(context, tokens, COMMA, depth - 1)?;
     let end = first_place(value.rest);
-    let rest = expect(context, AlsoAllowed::Nothing, Mark::Semicolon, value.rest)?;
+    let next = expect(context, AlsoAllowed::Nothing, Mark::Semicolon, value.rest);
+    let (rest, tree) = keeping(next, value.tree.tree)?;
     let inner = value.depth;
     Ok(Part {
-        tree: expression(value.tree.tree, end),
+        tree: expression(tree, end),
         depth: 1 + inner,
         rest,
     })
@@ -122,10 +123,11 @@ fn read_named<'a>(
     };
     let value = read_tail(context, first.rest, left, first.depth, depth - 1)?;
     let end = first_place(value.rest);
-    let rest = expect(context, AlsoAllowed::Nothing, Mark::Semicolon, value.rest)?;
+    let next = expect(context, AlsoAllowed::Nothing, Mark::Semicolon, value.rest);
+    let (rest, tree) = keeping(next, value.tree.tree)?;
     let inner = value.depth;
     Ok(Part {
-        tree: expression(value.tree.tree, end),
+        tree: expression(tree, end),
         depth: 1 + inner,
         rest,
     })

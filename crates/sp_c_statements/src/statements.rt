@@ -16,6 +16,7 @@ use crate::parts::{first_place, read_condition, read_do_end};
 use crate::prefixes::read_prefix;
 use crate::simple::read_simple;
 use sp_c_declarations::read_declarations;
+use sp_c_reader::{keeping, pushed};
 use sp_c_tokens::{
     AlsoAllowed, Context, Mark, Part, ReadError, expect, is_mark, next_token, sort_at,
 };
@@ -59,10 +60,11 @@ fn read_prefixed<'a>(
     ensures { Takes (context_of context.entry) grammar.statement depth tokens.now statement_of result }
 {
     let prefix = read_prefix(context, kind, tokens, depth)?;
-    let body = read_statement(context, prefix.rest, depth - 1)?;
+    let next = read_statement(context, prefix.rest, depth - 1);
+    let (body, before) = keeping(next, prefix.tree)?;
     let reached = 1 + prefix.depth.max(body.depth);
     let rest = body.rest;
-    let tree = prefixed(context.alloc, prefix.tree, first_place(tokens), body.tree)?;
+    let tree = prefixed(context.alloc, before, first_place(tokens), body.tree)?;
     Ok(Part {
         tree,
         depth: reached,
@@ -84,17 +86,13 @@ fn read_if<'a>(
 {
     let (word, inner) = next_token(tokens);
     let condition = read_condition(context, inner, depth - 1)?;
-    let branch = read_statement(context, condition.rest, depth - 1)?;
-    let other = read_else(context, branch.rest, depth - 1)?;
+    let next = read_statement(context, condition.rest, depth - 1);
+    let (branch, tested) = keeping(next, condition.tree)?;
+    let next = read_else(context, branch.rest, depth - 1);
+    let (other, (tested, first)) = keeping(next, (tested, branch.tree))?;
     let reached = 1 + condition.depth.max(branch.depth.max(other.depth));
     let rest = other.rest;
-    let tree = if_else(
-        context.alloc,
-        word.place,
-        condition.tree,
-        branch.tree,
-        other.tree,
-    )?;
+    let tree = if_else(context.alloc, word.place, tested, first, other.tree)?;
     Ok(Part {
         tree,
         depth: reached,
@@ -143,13 +141,14 @@ fn read_do<'a>(
 {
     let (word, inner) = next_token(tokens);
     let body = read_statement(context, inner, depth - 1)?;
-    let end = read_do_end(context, body.rest, depth - 1)?;
+    let next = read_do_end(context, body.rest, depth - 1);
+    let (end, repeated) = keeping(next, body.tree)?;
     let reached = 1 + body.depth.max(end.depth);
     let rest = end.rest;
     let tree = do_while(
         context.alloc,
         word.place,
-        body.tree,
+        repeated,
         end.tree.condition,
         end.tree.end,
     )?;
@@ -192,17 +191,19 @@ pub fn read_compound<'a>(
         (IsCompoundStop (context_of context.entry) depth tokens.now) }
 {
     let declarations = read_declarations(context, tokens, depth - 1)?;
-    let statements = read_statements(context, declarations.rest, depth - 1)?;
+    let next = read_statements(context, declarations.rest, depth - 1);
+    let (statements, declared) = keeping(next, declarations.tree)?;
     let end = first_place(statements.rest);
-    let rest = expect(
+    let next = expect(
         context,
         AlsoAllowed::Name,
         Mark::CloseBrace,
         statements.rest,
-    )?;
+    );
+    let (rest, (declared, all)) = keeping(next, (declared, statements.tree))?;
     Ok(Part {
         depth: 1 + declarations.depth.max(statements.depth),
-        tree: block(declarations.tree, statements.tree, brace, end),
+        tree: block(declared, all, brace, end),
         rest,
     })
 }
@@ -226,8 +227,8 @@ fn read_statements<'a>(
         if !begins_statement(sort_at(context.types, token.kind)) {
             break;
         }
-        let next = read_statement(context, rest, depth)?;
-        all.push(next.tree)?;
+        let (next, read) = keeping(read_statement(context, rest, depth), all)?;
+        all = pushed(read, next.tree)?;
         reached = reached.max(next.depth);
         rest = next.rest;
     }

@@ -478,8 +478,8 @@ specifiers::read_items-items-preserved = read_specifiers.specifiers::read_items-
 pub specifiers::read_items-returns : goal.specifiers::read_items-returns
 specifiers::read_items-returns = read_specifiers.specifiers::read_items-returns
 
-pub specifiers::read_member-read_items-requires : goal.specifiers::read_member-read_items-requires
-specifiers::read_member-read_items-requires = read_specifiers.specifiers::read_member-read_items-requires
+pub specifiers::read_member-read_items-next-requires : goal.specifiers::read_member-read_items-next-requires
+specifiers::read_member-read_items-next-requires = read_specifiers.specifiers::read_member-read_items-next-requires
 
 pub specifiers::read_enumerators-enumerators-init : goal.specifiers::read_enumerators-enumerators-init
 specifiers::read_enumerators-enumerators-init = read_enumerations.specifiers::read_enumerators-enumerators-init

@@ -1,6 +1,6 @@
 -- The goals of the readers of declarators and type names.
 use Rattle.std.proofs.Common.{◌≡◌, ◌∷◌, false, ◌-◌, length, refl, sym, ap, ◌∙◌, subst, arith, rules}
-use Rattle.std.proofs.lemmas.Result.{err_from_is_err_and}
+use Rattle.std.proofs.lemmas.Result.{err_from_is_err_and, MatchResult-at_ok, MatchResult-at_err}
 use Rattle.sp_syntax.specs.Syntax.{declarator, pointer}
 use Rattle.sp_syntax.specs.View.{declarator_of}
 use Rattle.sp_grammar.specs.CTokens.{is_mark, view}
@@ -18,7 +18,7 @@ use Rattle.sp_c_reader.proofs.Steps.{got, last}
 use Rattle.sp_c_reader.proofs.Parts.{stop_before, stop_part, stop_mark}
 use Rattle.sp_c_reader.proofs.Marks.{opening_is, star_is}
 use Rattle.sp_c_reader.proofs.ExpressionSteps.{built, first_deep}
-use Rattle.sp_c_reader.specs.Declaring.{form_seen, declared_seen}
+use Rattle.sp_c_reader.specs.Declaring.{form_seen, declared_seen, IsFunction}
 use Rattle.sp_c_reader.proofs.DeclaratorSteps.{type_on, type_made, type_name_read, star_on, direct_on, pointer_plan, pointer_result, declared_before, behind_qualifiers, declared_same}
 use Rattle.std.specs.Prelude.{not, ◌&&◌}
 use Rattle.sp_syntax.specs.declared.tree.DeclaratorForm.TheFolds.{fold-roll-TypeName}
@@ -44,14 +44,14 @@ declarators::read_type_name-returns-in_err-part t c =
     let p = err_from_is_err_and c.from_residual-in_err-part.result c.from_residual-in_err-part.ensures.1 in
     let g = there c.args.context.types.now c.args.context.scope in
     let h = c.in_ok-specifiers.ensures in
-    rw (p.1, p.2) (stop_part g g g grammar.type_name grammar.type_name (grammar.declarator grammar.abstract) (λ a. a) (λ d. done (type_made h.all d)) c.args.depth c.args.depth c.args.tokens.now c.in_ok-specifiers.specifiers.rest.now (got (type_on g c.args.tokens.now c.requires.ended) h.read.reads) (omega arith) c.in_err-part.field-0.0 c.in_err-part.ensures)
+    rw (p.1, p.2) (stop_part g g g grammar.type_name grammar.type_name (grammar.declarator grammar.abstract) (λ a. a) (λ d. done (type_made h.all d)) c.args.depth c.args.depth c.args.tokens.now c.in_ok-specifiers.specifiers.rest.now (got (type_on g c.args.tokens.now c.requires.ended) h.read.reads) (omega arith) c.in_err-part.field-0.0 (MatchResult-at_err _ _ _ c.in_err-part.ensures c.read_declarator-next.ensures))
 
 pub declarators::read_type_name-returns : goal.declarators::read_type_name-returns
 declarators::read_type_name-returns t c =
     let g = there c.args.context.types.now c.args.context.scope in
     let ss = c.in_ok-specifiers.specifiers.tree in
     let d = c.in_ok-part.part.tree in
-    rw fold-roll-TypeName (type_name_read g c.args.depth c.in_ok-specifiers.specifiers.depth c.in_ok-part.part.depth c.max.result c.args.tokens.now c.in_ok-specifiers.specifiers.rest.now c.in_ok-part.part.rest.now ss d c.requires.ended (type_name (specifiers_of ss.all.items) (declarator_of d.tree)) c.in_ok-specifiers.ensures c.in_ok-part.ensures c.max.ensures refl)
+    rw (fold-roll-TypeName, c.in_ok-part.ensures.1) (type_name_read g c.args.depth c.in_ok-specifiers.specifiers.depth c.in_ok-part.part.depth c.max.result c.args.tokens.now c.in_ok-specifiers.specifiers.rest.now c.in_ok-part.part.rest.now ss d c.requires.ended (type_name (specifiers_of ss.all.items) (declarator_of d.tree)) c.in_ok-specifiers.ensures (MatchResult-at_ok _ _ _ c.in_ok-part.ensures.0 c.read_declarator-next.ensures) c.max.ensures refl)
 
 pub declarators::read_declarator-returns-then-depth-lt2 : goal.declarators::read_declarator-returns-then-depth-lt2
 declarators::read_declarator-returns-then-depth-lt2 t c =
@@ -96,12 +96,12 @@ declarators::read_pointer-returns-in_err-inner t c =
     let p = err_from_is_err_and c.from_residual-in_err-inner.result c.from_residual-in_err-inner.ensures.1 in
     let g = there c.args.context.types.now c.args.context.scope in
     let q = c.in_ok-qualifiers.ensures in
-    rw (p.1, p.2) (behind_qualifiers g (form_seen c.args.form) c.args.depth c.args.tokens.now c.in_ok-qualifiers.rest.now q.all q.reads c.in_err-inner.field-0.0 c.in_err-inner.ensures)
+    rw (p.1, p.2) (behind_qualifiers g (form_seen c.args.form) c.args.depth c.args.tokens.now c.in_ok-qualifiers.rest.now q.all q.reads c.in_err-inner.field-0.0 (MatchResult-at_err _ _ _ c.in_err-inner.ensures c.read_declarator-next.ensures))
 
 pub declarators::read_pointer-returns : goal.declarators::read_pointer-returns
 declarators::read_pointer-returns t c =
     let q = c.in_ok-qualifiers.ensures in
-    let h = c.in_ok-inner.ensures in
+    let h = (MatchResult-at_ok _ _ _ c.in_ok-inner.ensures.0 c.read_declarator-next.ensures) in
     let p = c.in_ok-pointed.ensures in
     let d = c.in_ok-pointed.field-0 in
     let star = c.args.star in
@@ -109,7 +109,7 @@ declarators::read_pointer-returns t c =
     let inner = declared_seen behind h.pending in
     let made = grammar.pointed (terminal star) q.all inner in
     let ks = words_of q.all in
-    let words = ap (λ v. declarator (pointer v (declarator_of behind.tree)) star.place) (sym q.same) in
+    let words = ap (λ v. declarator (pointer v.items (declarator_of behind.tree)) star.place) c.in_ok-inner.ensures.1 ∙ ap (λ v. declarator (pointer v (declarator_of behind.tree)) star.place) (sym q.same) in
     record {
       all = q.all;
       mid = c.in_ok-qualifiers.rest.now;
@@ -175,7 +175,7 @@ declarators::read_declarator_after_paren-returns-in_err-parameters t c =
     let f = form_seen c.args.form in
     let y = terminal c.args.opening in
     let stands = sym (c.begins_parameters.ensures ∙ ap (λ s. not (is_concrete f) && is_parameters s) c.sort_at.ensures) ∙ c.if-begins_parameters.true in
-    rw (p.1, p.2) (stop_part g g g (grammar.behind_group f y) (grammar.behind_group f y) grammar.parameters (λ a. a) (absent_closing g f y) c.args.depth (c.args.depth - 1) c.args.tokens.now c.args.tokens.now (absent_on g f y c.args.tokens.now c.next_token.result.1.now c.next_token.result.0 c.next_token.ensures stands) (omega arith) c.in_err-parameters.field-0.0 c.in_err-parameters.ensures)
+    rw (p.1, p.2) (stop_part g g g (grammar.behind_group f y) (grammar.behind_group f y) grammar.parameters (λ a. a) (absent_closing g f y) c.args.depth (c.args.depth - 1) c.args.tokens.now c.args.tokens.now (absent_on g f y c.args.tokens.now c.next_token.result.1.now c.next_token.result.0 c.next_token.ensures stands) (omega arith) c.in_err-parameters.field-0.0 (MatchResult-at_err _ _ _ c.in_err-parameters.ensures c.read_parameters.ensures))
 
 pub declarators::read_declarator_after_paren-returns-in_err-rest : goal.declarators::read_declarator_after_paren-returns-in_err-rest
 declarators::read_declarator_after_paren-returns-in_err-rest t c =
@@ -184,11 +184,11 @@ declarators::read_declarator_after_paren-returns-in_err-rest t c =
     let g = there types c.args.context.scope in
     let f = form_seen c.args.form in
     let y = terminal c.args.opening in
-    let h = c.in_ok-parameters.ensures in
+    let h = (MatchResult-at_ok _ _ _ c.in_ok-parameters.ensures.0 c.read_parameters.ensures) in
     let ps = c.in_ok-parameters.parameters.tree in
     let stands = sym (c.begins_parameters.ensures ∙ ap (λ s. not (is_concrete f) && is_parameters s) c.sort_at.ensures) ∙ c.if-begins_parameters.true in
     let on = absent_on g f y c.args.tokens.now c.next_token.result.1.now c.next_token.result.0 c.next_token.ensures stands in
-    rw (p.1, p.2) (stop_mark types c.args.context.scope g (grammar.behind_group f y) (grammar.behind_group f y) (λ a. a) sorts_there.closing ps.behind (absent_more g f y (parameters_seen ps h.pending)) g c.args.depth c.args.tokens.now c.in_ok-parameters.parameters.rest.now (got on h.read.reads) h.read.ended c.in_err-rest.field-0.0 c.in_err-rest.ensures)
+    rw (p.1, p.2) (stop_mark types c.args.context.scope g (grammar.behind_group f y) (grammar.behind_group f y) (λ a. a) sorts_there.closing ps.behind (absent_more g f y (parameters_seen ps h.pending)) g c.args.depth c.args.tokens.now c.in_ok-parameters.parameters.rest.now (got on h.read.reads) h.read.ended c.in_err-rest.field-0.0 (MatchResult-at_err _ _ _ c.in_err-rest.ensures c.expect-next.ensures))
 
 pub declarators::read_declarator_after_paren-returns-then-begins_parameters : goal.declarators::read_declarator_after_paren-returns-then-begins_parameters
 declarators::read_declarator_after_paren-returns-then-begins_parameters t c =
@@ -198,7 +198,7 @@ declarators::read_declarator_after_paren-returns-then-begins_parameters t c =
     let y = terminal c.args.opening in
     let stands = sym (c.begins_parameters.ensures ∙ ap (λ s. not (is_concrete f) && is_parameters s) c.sort_at.ensures) ∙ c.if-begins_parameters.true in
     let on = absent_on g f y c.args.tokens.now c.next_token.result.1.now c.next_token.result.0 c.next_token.ensures stands in
-    absent_function types c.args.context.scope f c.args.opening c.absent-head.result c.in_ok-function_of.field-0 c.in_ok-parameters.parameters.tree c.args.depth c.in_ok-parameters.parameters.depth c.max.result c.args.tokens.now c.in_ok-parameters.parameters.rest.now c.in_ok-rest.rest.now on c.absent-head.ensures c.in_ok-parameters.ensures c.in_ok-rest.ensures c.in_ok-function_of.ensures c.requires.room c.max.ensures
+    absent_function types c.args.context.scope f c.args.opening c.absent-head.result c.in_ok-function_of.field-0 c.in_ok-parameters.parameters.tree c.args.depth c.in_ok-parameters.parameters.depth c.max.result c.args.tokens.now c.in_ok-parameters.parameters.rest.now c.in_ok-rest.rest.now on c.absent-head.ensures (MatchResult-at_ok _ _ _ c.in_ok-parameters.ensures.0 c.read_parameters.ensures) (MatchResult-at_ok _ _ _ c.in_ok-rest.ensures.0 c.expect-next.ensures) (subst (λ v. IsFunction v c.in_ok-parameters.parameters.tree c.in_ok-function_of.field-0) c.in_ok-parameters.ensures.1 (subst (λ v. IsFunction v.0 v.1 c.in_ok-function_of.field-0) c.in_ok-rest.ensures.1 c.in_ok-function_of.ensures)) c.requires.room c.max.ensures
 
 pub declarators::read_declarator_after_paren-returns-in_err-inner : goal.declarators::read_declarator_after_paren-returns-in_err-inner
 declarators::read_declarator_after_paren-returns-in_err-inner t c =
@@ -220,7 +220,7 @@ declarators::read_declarator_after_paren-returns-in_err-rest-2 t c =
     let inner = c.in_ok-inner.inner.tree in
     let other = sym (c.begins_parameters.ensures ∙ ap (λ s. not (is_concrete f) && is_parameters s) c.sort_at.ensures) ∙ c.if-begins_parameters.false in
     let on = inner_on g f y c.args.tokens.now c.next_token.result.1.now c.next_token.result.0 c.next_token.ensures other in
-    rw (p.1, p.2) (stop_mark types c.args.context.scope g (grammar.behind_group f y) (grammar.behind_group f y) (λ a. a) sorts_there.closing inner.behind (inner_more g f y (declared_seen inner h.pending)) g c.args.depth c.args.tokens.now c.in_ok-inner.inner.rest.now (got on h.read.reads) h.read.ended c.in_err-rest-2.field-0.0 c.in_err-rest-2.ensures)
+    rw (p.1, p.2) (stop_mark types c.args.context.scope g (grammar.behind_group f y) (grammar.behind_group f y) (λ a. a) sorts_there.closing inner.behind (inner_more g f y (declared_seen inner h.pending)) g c.args.depth c.args.tokens.now c.in_ok-inner.inner.rest.now (got on h.read.reads) h.read.ended c.in_err-rest-2.field-0.0 (MatchResult-at_err _ _ _ c.in_err-rest-2.ensures c.expect-next-2.ensures))
 
 pub declarators::read_declarator_after_paren-returns : goal.declarators::read_declarator_after_paren-returns
 declarators::read_declarator_after_paren-returns t c =
@@ -230,7 +230,7 @@ declarators::read_declarator_after_paren-returns t c =
     let y = terminal c.args.opening in
     let other = sym (c.begins_parameters.ensures ∙ ap (λ s. not (is_concrete f) && is_parameters s) c.sort_at.ensures) ∙ c.if-begins_parameters.false in
     let on = inner_on g f y c.args.tokens.now c.next_token.result.1.now c.next_token.result.0 c.next_token.ensures other in
-    grouped_declarator types c.args.context.scope f c.args.opening c.in_ok-inner.inner.tree c.in_ok-tree.tree c.args.depth c.in_ok-inner.inner.depth c.args.tokens.now c.in_ok-inner.inner.rest.now c.in_ok-rest-2.rest.now on c.in_ok-inner.ensures c.in_ok-rest-2.ensures c.in_ok-tree.ensures c.requires.room
+    grouped_declarator types c.args.context.scope f c.args.opening c.in_ok-inner.inner.tree c.in_ok-tree.tree c.args.depth c.in_ok-inner.inner.depth c.args.tokens.now c.in_ok-inner.inner.rest.now c.in_ok-rest-2.rest.now on c.in_ok-inner.ensures (MatchResult-at_ok _ _ _ c.in_ok-rest-2.ensures.0 c.expect-next-2.ensures) (rw c.in_ok-rest-2.ensures.1 at c.in_ok-tree.ensures) c.requires.room
 
 pub declarators::read_group-returns-then-begins_deeper : goal.declarators::read_group-returns-then-begins_deeper
 declarators::read_group-returns-then-begins_deeper t c =

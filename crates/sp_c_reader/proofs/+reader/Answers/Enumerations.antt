@@ -1,6 +1,6 @@
 -- The goals of the readers of enumerations.
 use Rattle.std.proofs.Common.{◌≡◌, ◌∷◌, ◌++◌, [], map, length, Some, None, refl, sym, ap, ◌∙◌, subst, arith}
-use Rattle.std.proofs.lemmas.Result.{err_from_is_err_and}
+use Rattle.std.proofs.lemmas.Result.{err_from_is_err_and, MatchResult-at_ok, MatchResult-at_err}
 use Rattle.sp_syntax.specs.View.{tree_of}
 use Rattle.sp_syntax.specs.Depth.{enumerators_depth}
 use Rattle.sp_grammar.specs.CTokens.{is_mark, view}
@@ -40,8 +40,8 @@ pub specifiers::read_enumerators-enumerators-init : goal.specifiers::read_enumer
 specifiers::read_enumerators-enumerators-init t c =
     let g = there c.args.context.types.now c.args.context.scope in
     let first = constant_seen c.args.first ∷ [] in
-    let items = c.in_ok-push.ensures.items ∙ ap (λ v. v ++ c.args.first ∷ []) c.new-all.ensures.items in
-    let same : map constant_seen c.push.new.self.items ≡ first = ap (λ v. map constant_seen v) items in
+    let items = c.in_ok-all.ensures ∙ ap (λ v. v ++ c.args.first ∷ []) c.new.ensures.items in
+    let same : map constant_seen c.in_ok-all.all.items ≡ first = ap (λ v. map constant_seen v) items in
     record {
       step = subst (λ v. IsStep g (grammar.enumerators first) (grammar.enumerators v) (λ a. a) c.args.tokens.now c.args.tokens.now) (sym same) (begun (grammar.at g (grammar.enumerators first)) (c_tokens c.args.tokens.now));
       deep = subst (λ v. c.args.inner ≡ enumerators_depth (all_enumerators v)) (sym same) (omega (arith, c.requires.deep));
@@ -62,13 +62,13 @@ specifiers::read_enumerators-returns-in_err-next t c =
     let es = map constant_seen c.enumerators.all.items in
     let stands = sym (c.is_mark.ensures ∙ ap (λ s. is_mark sorts_there.comma s) c.sort_at.ensures) ∙ c.if-not-is_mark.false in
     let on = enumerators_on g first es c.args.tokens.now c.enumerators.rest.now c.next_token.result.1.now c.next_token.result.0 i.step c.next_token.ensures stands in
-    rw (p.1, p.2) (stop_part g g g (grammar.enumerators first) (grammar.enumerators es) grammar.enumerator (λ a. a) (enumerators_more g es) c.args.depth c.args.depth c.args.tokens.now c.next_token.result.1.now on (omega arith) c.in_err-next.field-0.0 c.in_err-next.ensures)
+    rw (p.1, p.2) (stop_part g g g (grammar.enumerators first) (grammar.enumerators es) grammar.enumerator (λ a. a) (enumerators_more g es) c.args.depth c.args.depth c.args.tokens.now c.next_token.result.1.now on (omega arith) c.in_err-next.field-0.0 (MatchResult-at_err _ _ _ c.in_err-next.ensures c.read_enumerator.ensures))
 
 pub specifiers::read_enumerators-enumerators-preserved : goal.specifiers::read_enumerators-enumerators-preserved
 specifiers::read_enumerators-enumerators-preserved t c =
     let g = there c.args.context.types.now c.args.context.scope in
     let i = c.enumerators.invariant in
-    let h = c.in_ok-next.ensures in
+    let h = (MatchResult-at_ok _ _ _ c.in_ok-next.ensures.0 c.read_enumerator.ensures) in
     let first = constant_seen c.args.first ∷ [] in
     let es = map constant_seen c.enumerators.all.items in
     let v = constant_seen c.in_ok-next.next.tree in
@@ -76,7 +76,7 @@ specifiers::read_enumerators-enumerators-preserved t c =
     let xs = c.next_token.result.1.now in
     let stands = sym (c.is_mark.ensures ∙ ap (λ s. is_mark sorts_there.comma s) c.sort_at.ensures) ∙ c.if-not-is_mark.false in
     let on = enumerators_on g first es c.args.tokens.now c.enumerators.rest.now xs x i.step c.next_token.ensures stands in
-    let same : map constant_seen c.push-in-enumerators.new.self.items ≡ es ++ v ∷ [] = ap (λ w. map constant_seen w) c.in_ok-push-2.ensures.items ∙ map_more (λ w. constant_seen w) c.enumerators.all.items c.in_ok-next.next.tree in
+    let same : map constant_seen c.in_ok-all-2.all.items ≡ es ++ v ∷ [] = ap (λ w. map constant_seen w) (c.in_ok-all-2.ensures ∙ ap (λ v. v.items ++ c.in_ok-next.next.tree ∷ []) c.in_ok-next.ensures.1) ∙ map_more (λ w. constant_seen w) c.enumerators.all.items c.in_ok-next.next.tree in
     let shorter : length c.enumerators.rest.now ≡ length (x ∷ xs) = ap length c.next_token.ensures in
     record {
       step = subst (λ w. IsStep g (grammar.enumerators first) (grammar.enumerators w) (λ a. a) c.args.tokens.now c.in_ok-next.next.rest.now) (sym same) (last (got on h.reads));
@@ -180,10 +180,10 @@ specifiers::read_constants-returns t c =
     let first = c.in_ok-first in
     let constants = c.in_ok-constants.constants in
     let h = c.in_ok-constants.ensures in
-    let closes = c.in_ok-rest.ensures in
+    let closes = (MatchResult-at_ok _ _ _ c.in_ok-rest.ensures.0 c.expect-next.ensures) in
     let items = constants.tree.items in
     let whole : specifier_of (Enum c.in_ok-new.field-0) ≡ enum_specifier (enum_view c.in_ok-new.field-0.value) = rw (sym (rolls-Enum c.in_ok-new.field-0)) (rw fold-roll-Specifier refl) in
-    let rolled = rw fold-roll-EnumSpec at (ap (λ v. enum_view v) c.in_ok-new.ensures.ok) in
+    let rolled = rw (c.in_ok-rest.ensures.1, fold-roll-EnumSpec) at (ap (λ v. enum_view v) c.in_ok-new.ensures.ok) in
     let seen = constants_seen _ items c.args.tag c.args.word.place (enum_view c.in_ok-new.field-0.value) rolled (λ n p. refl) (λ n p e. refl) in
     let less : length constants.rest.now ≡ length (closes.first ∷ c.in_ok-rest.rest.now) = ap length closes.whole in
     record {

@@ -1,6 +1,6 @@
 -- The goals of the readers of unary and primary expressions, suffixes and arguments.
 use Rattle.std.proofs.Common.{◌≡◌, ◌==◌, ◌∷◌, ◌++◌, [], map, ◌+◌, ◌-◌, length, refl, sym, ap, ◌∙◌, subst, arith}
-use Rattle.std.proofs.lemmas.Result.{err_from_is_err_and}
+use Rattle.std.proofs.lemmas.Result.{err_from_is_err_and, MatchResult-at_ok, MatchResult-at_err}
 use Rattle.sp_syntax.specs.Syntax.{expression, sizeof_type, unary, after}
 use Rattle.sp_syntax.specs.View.{tree_of, type_name_of, expressions}
 use Rattle.sp_syntax.specs.Places.{place_of}
@@ -89,7 +89,7 @@ expressions::read_sizeof_after_paren-returns-in_err-rest t c =
     let h = c.in_ok-name.ensures in
     let stands = sym (c.is_specifier.ensures ∙ ap (λ s. is_specifier s) c.sort_at.ensures) ∙ c.if-is_specifier.true in
     let on = sizeof_type_on g y z c.args.tokens.now c.next_token.result.1.now x c.next_token.ensures stands in
-    rw (p.1, p.2) (stop_mark types c.args.context.scope g (grammar.inside_sizeof y z) (grammar.inside_sizeof y z) (λ o. o) sorts_there.closing c.in_ok-name.name.tree.behind (λ w. done (syntax_trees.sizeof_type y h.pending w)) g c.args.depth c.args.tokens.now c.in_ok-name.name.rest.now (got on h.read.reads) h.read.ended c.in_err-rest.field-0.0 c.in_err-rest.ensures)
+    rw (p.1, p.2) (stop_mark types c.args.context.scope g (grammar.inside_sizeof y z) (grammar.inside_sizeof y z) (λ o. o) sorts_there.closing c.in_ok-name.name.tree.behind (λ w. done (syntax_trees.sizeof_type y h.pending w)) g c.args.depth c.args.tokens.now c.in_ok-name.name.rest.now (got on h.read.reads) h.read.ended c.in_err-rest.field-0.0 (MatchResult-at_err _ _ _ c.in_err-rest.ensures c.expect-next.ensures))
 
 pub expressions::read_sizeof_after_paren-returns-then-is_specifier : goal.expressions::read_sizeof_after_paren-returns-then-is_specifier
 expressions::read_sizeof_after_paren-returns-then-is_specifier t c =
@@ -99,13 +99,13 @@ expressions::read_sizeof_after_paren-returns-then-is_specifier t c =
     let y = terminal c.args.word in
     let z = terminal c.args.opening in
     let h = c.in_ok-name.ensures in
-    let closes = c.in_ok-rest.ensures in
+    let closes = (MatchResult-at_ok _ _ _ c.in_ok-rest.ensures.0 c.expect-next.ensures) in
     let made = syntax_trees.sizeof_type y h.pending (terminal closes.first) in
     let stands = sym (c.is_specifier.ensures ∙ ap (λ s. is_specifier s) c.sort_at.ensures) ∙ c.if-is_specifier.true in
     let on = sizeof_type_on g y z c.args.tokens.now c.next_token.result.1.now x c.next_token.ensures stands in
     let behind = on_mark types c.args.context.scope g (grammar.inside_sizeof y z) (grammar.inside_sizeof y z) (λ o. o) sorts_there.closing c.in_ok-name.name.tree.behind (λ w. done (syntax_trees.sizeof_type y h.pending w)) g c.args.tokens.now c.in_ok-name.name.rest.now c.in_ok-rest.rest.now (got on h.read.reads) closes in
     let settled = settled_at c.in_ok-name.name.rest.now c.in_ok-rest.rest.now (type_name_of c.in_ok-name.name.tree.tree) h.pending closes.first h.settled closes.whole in
-    let same : tree_of c.in_ok-tree.tree ≡ made = c.in_ok-tree.ensures ∙ ap (λ n. expression (sizeof_type n) c.args.word.place c.args.word.place) settled in
+    let same : tree_of c.in_ok-tree.tree ≡ made = c.in_ok-tree.ensures ∙ ap (λ n. expression (sizeof_type (type_name_of n)) c.args.word.place c.args.word.place) c.in_ok-rest.ensures.1 ∙ ap (λ n. expression (sizeof_type n) c.args.word.place c.args.word.place) settled in
     let less : length c.in_ok-name.name.rest.now ≡ length (closes.first ∷ c.in_ok-rest.rest.now) = ap length closes.whole in
     let deep : 1 + c.in_ok-name.name.depth ≡ depth_of made = omega (arith, h.read.deep, settle_type_depth closes.first.place h.pending) in
     built g (grammar.inside_sizeof y z) c.args.depth (1 + c.in_ok-name.name.depth) c.args.tokens.now c.in_ok-rest.rest.now made (tree_of c.in_ok-tree.tree) (finished behind) same deep (omega (arith, h.read.shallow, c.requires.room)) closes.ended (omega (arith, h.read.fewer, less))
@@ -133,7 +133,7 @@ expressions::read_sizeof_after_paren-returns-in_err-rest-2 t c =
     let e = tree_of c.in_ok-inner.inner.tree.tree in
     let other = sym (c.is_specifier.ensures ∙ ap (λ s. is_specifier s) c.sort_at.ensures) ∙ c.if-is_specifier.false in
     let on = sizeof_group_on g y z c.args.tokens.now c.next_token.result.1.now x c.next_token.ensures other in
-    rw (p.1, p.2) (stop_mark types c.args.context.scope g (grammar.inside_sizeof y z) (grammar.inside_sizeof y z) (λ o. o) sorts_there.closing purposes.Nothing (sizeof_suffixes g y z e) g c.args.depth c.args.tokens.now c.in_ok-inner.inner.rest.now (got on h.reads) h.ended c.in_err-rest-2.field-0.0 c.in_err-rest-2.ensures)
+    rw (p.1, p.2) (stop_mark types c.args.context.scope g (grammar.inside_sizeof y z) (grammar.inside_sizeof y z) (λ o. o) sorts_there.closing purposes.Nothing (sizeof_suffixes g y z e) g c.args.depth c.args.tokens.now c.in_ok-inner.inner.rest.now (got on h.reads) h.ended c.in_err-rest-2.field-0.0 (MatchResult-at_err _ _ _ c.in_err-rest-2.ensures c.expect-next-2.ensures))
 
 pub expressions::read_sizeof_after_paren-returns-in_err-operand : goal.expressions::read_sizeof_after_paren-returns-in_err-operand
 expressions::read_sizeof_after_paren-returns-in_err-operand t c =
@@ -144,12 +144,12 @@ expressions::read_sizeof_after_paren-returns-in_err-operand t c =
     let y = terminal c.args.word in
     let z = terminal c.args.opening in
     let h = c.in_ok-inner.ensures in
-    let closes = c.in_ok-rest-2.ensures in
+    let closes = (MatchResult-at_ok _ _ _ c.in_ok-rest-2.ensures.0 c.expect-next-2.ensures) in
     let e = tree_of c.in_ok-inner.inner.tree.tree in
     let other = sym (c.is_specifier.ensures ∙ ap (λ s. is_specifier s) c.sort_at.ensures) ∙ c.if-is_specifier.false in
     let on = sizeof_group_on g y z c.args.tokens.now c.next_token.result.1.now x c.next_token.ensures other in
     let behind = on_mark types c.args.context.scope g (grammar.inside_sizeof y z) (grammar.inside_sizeof y z) (λ o. o) sorts_there.closing purposes.Nothing (sizeof_suffixes g y z e) g c.args.tokens.now c.in_ok-inner.inner.rest.now c.in_ok-rest-2.rest.now (got on h.reads) closes in
-    let stop = subst (λ v. IsStop g (grammar.suffixes v) (c.args.depth - 1) c.in_ok-rest-2.rest.now c.in_err-operand.field-0.0) c.in_ok-group.ensures c.in_err-operand.ensures in
+    let stop = subst (λ v. IsStop g (grammar.suffixes v) (c.args.depth - 1) c.in_ok-rest-2.rest.now c.in_err-operand.field-0.0) (c.in_ok-group.ensures ∙ ap (λ v. syntax_trees.paren z (tree_of v)) c.in_ok-rest-2.ensures.1) c.in_err-operand.ensures in
     rw (p.1, p.2) (stop_part g g g (grammar.inside_sizeof y z) (grammar.inside_sizeof y z) (grammar.suffixes (syntax_trees.paren z e)) (λ o. o) (λ f. done (syntax_trees.sizeof_expr y f)) c.args.depth (c.args.depth - 1) c.args.tokens.now c.in_ok-rest-2.rest.now behind (omega arith) c.in_err-operand.field-0.0 stop)
 
 pub expressions::read_sizeof_after_paren-returns : goal.expressions::read_sizeof_after_paren-returns
@@ -160,13 +160,13 @@ expressions::read_sizeof_after_paren-returns t c =
     let y = terminal c.args.word in
     let z = terminal c.args.opening in
     let h = c.in_ok-inner.ensures in
-    let closes = c.in_ok-rest-2.ensures in
+    let closes = (MatchResult-at_ok _ _ _ c.in_ok-rest-2.ensures.0 c.expect-next-2.ensures) in
     let e = tree_of c.in_ok-inner.inner.tree.tree in
     let f = tree_of c.in_ok-operand.operand.tree in
     let other = sym (c.is_specifier.ensures ∙ ap (λ s. is_specifier s) c.sort_at.ensures) ∙ c.if-is_specifier.false in
     let on = sizeof_group_on g y z c.args.tokens.now c.next_token.result.1.now x c.next_token.ensures other in
     let behind = on_mark types c.args.context.scope g (grammar.inside_sizeof y z) (grammar.inside_sizeof y z) (λ o. o) sorts_there.closing purposes.Nothing (sizeof_suffixes g y z e) g c.args.tokens.now c.in_ok-inner.inner.rest.now c.in_ok-rest-2.rest.now (got on h.reads) closes in
-    let w = subst (λ v. IsRead g (grammar.suffixes v) (c.args.depth - 1) c.in_ok-rest-2.rest.now f c.in_ok-operand.operand.depth c.in_ok-operand.operand.rest.now) c.in_ok-group.ensures c.in_ok-operand.ensures in
+    let w = subst (λ v. IsRead g (grammar.suffixes v) (c.args.depth - 1) c.in_ok-rest-2.rest.now f c.in_ok-operand.operand.depth c.in_ok-operand.operand.rest.now) (c.in_ok-group.ensures ∙ ap (λ v. syntax_trees.paren z (tree_of v)) c.in_ok-rest-2.ensures.1) c.in_ok-operand.ensures in
     let less : length c.in_ok-inner.inner.rest.now ≡ length (closes.first ∷ c.in_ok-rest-2.rest.now) = ap length closes.whole in
     built g (grammar.inside_sizeof y z) c.args.depth (1 + c.in_ok-operand.operand.depth) c.args.tokens.now c.in_ok-operand.operand.rest.now (syntax_trees.sizeof_expr y f) (tree_of c.in_ok-tree-2.tree) (finished (got behind w.reads)) c.in_ok-tree-2.ensures (ap (λ n. 1 + n) w.deep) (omega (arith, w.shallow, c.requires.room)) w.ended (omega (arith, h.fewer, w.fewer, less))
 
@@ -210,7 +210,7 @@ expressions::read_primary-returns-in_err-rest t c =
     let h = c.in_ok-inner.ensures in
     let e = tree_of c.in_ok-inner.inner.tree.tree in
     let is = opening_is (view g.types (sort_of x.kind)) (sym (c.is_mark.ensures ∙ ap (λ s. is_mark sorts_there.opening s) c.sort_at-sort.ensures) ∙ c.if-is_mark.true) in
-    rw (p.1, p.2) (stop_mark types c.args.context.scope g grammar.primary grammar.primary (λ a. a) sorts_there.closing purposes.Nothing (λ z. done (syntax_trees.paren (terminal x) e)) g c.args.depth c.args.tokens.now c.in_ok-inner.inner.rest.now (got (paren_on g c.args.tokens.now xs x c.next_token.ensures (sym is)) h.reads) h.ended c.in_err-rest.field-0.0 c.in_err-rest.ensures)
+    rw (p.1, p.2) (stop_mark types c.args.context.scope g grammar.primary grammar.primary (λ a. a) sorts_there.closing purposes.Nothing (λ z. done (syntax_trees.paren (terminal x) e)) g c.args.depth c.args.tokens.now c.in_ok-inner.inner.rest.now (got (paren_on g c.args.tokens.now xs x c.next_token.ensures (sym is)) h.reads) h.ended c.in_err-rest.field-0.0 (MatchResult-at_err _ _ _ c.in_err-rest.ensures c.expect-next.ensures))
 
 pub expressions::read_primary-returns-then-is_mark : goal.expressions::read_primary-returns-then-is_mark
 expressions::read_primary-returns-then-is_mark t c =
@@ -220,12 +220,12 @@ expressions::read_primary-returns-then-is_mark t c =
     let xs = c.next_token.result.1.now in
     let h = c.in_ok-inner.ensures in
     let e = tree_of c.in_ok-inner.inner.tree.tree in
-    let closes = c.in_ok-rest.ensures in
+    let closes = (MatchResult-at_ok _ _ _ c.in_ok-rest.ensures.0 c.expect-next.ensures) in
     let is = opening_is (view g.types (sort_of x.kind)) (sym (c.is_mark.ensures ∙ ap (λ s. is_mark sorts_there.opening s) c.sort_at-sort.ensures) ∙ c.if-is_mark.true) in
     let behind = on_mark types c.args.context.scope g grammar.primary grammar.primary (λ a. a) sorts_there.closing purposes.Nothing (λ z. done (syntax_trees.paren (terminal x) e)) g c.args.tokens.now c.in_ok-inner.inner.rest.now c.in_ok-rest.rest.now (got (paren_on g c.args.tokens.now xs x c.next_token.ensures (sym is)) h.reads) closes in
     let shorter : length c.args.tokens.now ≡ length (x ∷ xs) = ap length c.next_token.ensures in
     let less : length c.in_ok-inner.inner.rest.now ≡ length (closes.first ∷ c.in_ok-rest.rest.now) = ap length closes.whole in
-    built g grammar.primary c.args.depth (1 + c.in_ok-inner.inner.depth) c.args.tokens.now c.in_ok-rest.rest.now (syntax_trees.paren (terminal x) e) (tree_of c.in_ok-tree.tree) (finished behind) c.in_ok-tree.ensures (ap (λ n. 1 + n) h.deep) (omega (arith, h.shallow, c.if-depth-lt2.false)) closes.ended (omega (arith, h.fewer, shorter, less))
+    built g grammar.primary c.args.depth (1 + c.in_ok-inner.inner.depth) c.args.tokens.now c.in_ok-rest.rest.now (syntax_trees.paren (terminal x) e) (tree_of c.in_ok-tree.tree) (finished behind) (c.in_ok-tree.ensures ∙ ap (λ v. syntax_trees.paren (terminal x) (tree_of v)) c.in_ok-rest.ensures.1) (ap (λ n. 1 + n) h.deep) (omega (arith, h.shallow, c.if-depth-lt2.false)) closes.ended (omega (arith, h.fewer, shorter, less))
 
 pub expressions::read_primary-returns-then-not-is_operand : goal.expressions::read_primary-returns-then-not-is_operand
 expressions::read_primary-returns-then-not-is_operand t c =
@@ -331,7 +331,7 @@ pub expressions::read_arguments-returns-then-not-begins_expression : goal.expres
 expressions::read_arguments-returns-then-not-begins_expression t c =
     let g = there c.args.context.types.now c.args.context.scope in
     let other = sym (c.begins_expression.ensures ∙ ap (λ s. begins_expression s) c.sort_at.ensures) ∙ c.if-not-begins_expression.true in
-    subst (λ v. IsRead g grammar.arguments c.args.depth c.args.tokens.now (map tree_of v) 0 c.args.tokens.now) (sym c.new-all.ensures.items) (no_arguments g c.args.tokens.now c.next_token.result.1.now c.next_token.result.0 c.next_token.ensures c.args.depth other c.requires)
+    subst (λ v. IsRead g grammar.arguments c.args.depth c.args.tokens.now (map tree_of v) 0 c.args.tokens.now) (sym c.new.ensures.items) (no_arguments g c.args.tokens.now c.next_token.result.1.now c.next_token.result.0 c.next_token.ensures c.args.depth other c.requires)
 
 pub expressions::read_arguments-returns-in_err-first : goal.expressions::read_arguments-returns-in_err-first
 expressions::read_arguments-returns-in_err-first t c =
@@ -348,8 +348,8 @@ expressions::read_arguments-arguments-init t c =
     let e = tree_of c.in_ok-first.first.tree.tree in
     let stands = sym (c.begins_expression.ensures ∙ ap (λ s. begins_expression s) c.sort_at.ensures) ∙ c.if-not-begins_expression.false in
     let on = arguments_on g c.args.tokens.now c.next_token.result.1.now c.next_token.result.0 c.next_token.ensures stands in
-    let items = c.in_ok-push.ensures.items ∙ ap (λ v. v ++ c.in_ok-first.first.tree.tree ∷ []) c.new-all.ensures.items in
-    let same : map tree_of c.push.new.self.items ≡ e ∷ [] = ap (λ v. map tree_of v) items in
+    let items = c.in_ok-all.ensures ∙ ap (λ v. v ++ c.in_ok-first.first.tree.tree ∷ []) c.new-2.ensures.items in
+    let same : map tree_of c.in_ok-all.all.items ≡ e ∷ [] = ap (λ v. map tree_of v) items in
     record {
       step = subst (λ v. IsStep g grammar.arguments (grammar.more_arguments v) (λ a. a) c.args.tokens.now c.in_ok-first.first.rest.now) (sym same) (last (got on h.reads));
       deep = subst (λ v. c.in_ok-first.first.depth ≡ expressions_depth (expressions v)) (sym same) (omega (arith, h.deep));
@@ -371,20 +371,20 @@ expressions::read_arguments-returns-in_err-next t c =
     let xs = c.next_token-in-arguments.result.1.now in
     let stands = sym (c.is_mark.ensures ∙ ap (λ s. is_mark sorts_there.comma s) c.sort_at-in-arguments.ensures) ∙ c.if-not-is_mark.false in
     let on = more_on g es c.args.tokens.now c.arguments.rest.now xs x i.step c.next_token-in-arguments.ensures stands in
-    rw (p.1, p.2) (stop_part g g g grammar.arguments (grammar.more_arguments es) (grammar.level 12) (λ a. a) (λ o. get g (grammar.more_arguments (es ++ o.tree ∷ [])) (λ fs. done fs)) c.args.depth c.args.depth c.args.tokens.now xs on (omega arith) c.in_err-next.field-0.0 c.in_err-next.ensures)
+    rw (p.1, p.2) (stop_part g g g grammar.arguments (grammar.more_arguments es) (grammar.level 12) (λ a. a) (λ o. get g (grammar.more_arguments (es ++ o.tree ∷ [])) (λ fs. done fs)) c.args.depth c.args.depth c.args.tokens.now xs on (omega arith) c.in_err-next.field-0.0 (MatchResult-at_err _ _ _ c.in_err-next.ensures c.read_level-in-arguments.ensures))
 
 pub expressions::read_arguments-arguments-preserved : goal.expressions::read_arguments-arguments-preserved
 expressions::read_arguments-arguments-preserved t c =
     let g = there c.args.context.types.now c.args.context.scope in
     let i = c.arguments.invariant in
-    let h = c.in_ok-next.ensures in
+    let h = (MatchResult-at_ok _ _ _ c.in_ok-next.ensures.0 c.read_level-in-arguments.ensures) in
     let es = map tree_of c.arguments.all.items in
     let e = tree_of c.in_ok-next.next.tree.tree in
     let x = c.next_token-in-arguments.result.0 in
     let xs = c.next_token-in-arguments.result.1.now in
     let stands = sym (c.is_mark.ensures ∙ ap (λ s. is_mark sorts_there.comma s) c.sort_at-in-arguments.ensures) ∙ c.if-not-is_mark.false in
     let on = more_on g es c.args.tokens.now c.arguments.rest.now xs x i.step c.next_token-in-arguments.ensures stands in
-    let same : map tree_of c.push-in-arguments.new.self.items ≡ es ++ e ∷ [] = ap (λ v. map tree_of v) c.in_ok-push-2.ensures.items ∙ trees_more c.arguments.all.items c.in_ok-next.next.tree.tree in
+    let same : map tree_of c.in_ok-all-2.all.items ≡ es ++ e ∷ [] = ap (λ v. map tree_of v) (c.in_ok-all-2.ensures ∙ ap (λ v. v.items ++ c.in_ok-next.next.tree.tree ∷ []) c.in_ok-next.ensures.1) ∙ trees_more c.arguments.all.items c.in_ok-next.next.tree.tree in
     let shorter : length c.arguments.rest.now ≡ length (x ∷ xs) = ap length c.next_token-in-arguments.ensures in
     record {
       step = subst (λ v. IsStep g grammar.arguments (grammar.more_arguments v) (λ a. a) c.args.tokens.now c.in_ok-next.next.rest.now) (sym same) (last (got on h.reads));
@@ -411,7 +411,7 @@ expressions::read_suffix-returns-in_err-index t c =
     let x = c.args.token in
     let e = tree_of c.args.inner in
     let is = bracket_is (view g.types (sort_of x.kind)) (sym (c.is_mark.ensures ∙ ap (λ s. is_mark sorts_there.bracket s) c.sort_at-sort.ensures) ∙ c.if-is_mark.true) in
-    rw (p.1, p.2) (stop_part g g g (grammar.suffixes e) (grammar.suffixes e) (grammar.level 13) (λ a. a) (index_closing g e (terminal x)) c.args.depth (c.args.depth - 1) (x ∷ c.args.tokens.now) c.args.tokens.now (index_on g e x c.args.tokens.now (sym is)) (omega arith) c.in_err-index.field-0.0 c.in_err-index.ensures)
+    rw (p.1, p.2) (stop_part g g g (grammar.suffixes e) (grammar.suffixes e) (grammar.level 13) (λ a. a) (index_closing g e (terminal x)) c.args.depth (c.args.depth - 1) (x ∷ c.args.tokens.now) c.args.tokens.now (index_on g e x c.args.tokens.now (sym is)) (omega arith) c.in_err-index.field-0.0 (MatchResult-at_err _ _ _ c.in_err-index.ensures c.read_level.ensures))
 
 pub expressions::read_suffix-returns-in_err-rest : goal.expressions::read_suffix-returns-in_err-rest
 expressions::read_suffix-returns-in_err-rest t c =
@@ -420,10 +420,10 @@ expressions::read_suffix-returns-in_err-rest t c =
     let g = there types c.args.context.scope in
     let x = c.args.token in
     let e = tree_of c.args.inner in
-    let h = c.in_ok-index.ensures in
+    let h = (MatchResult-at_ok _ _ _ c.in_ok-index.ensures.0 c.read_level.ensures) in
     let o = tree_of c.in_ok-index.index.tree.tree in
     let is = bracket_is (view g.types (sort_of x.kind)) (sym (c.is_mark.ensures ∙ ap (λ s. is_mark sorts_there.bracket s) c.sort_at-sort.ensures) ∙ c.if-is_mark.true) in
-    rw (p.1, p.2) (stop_mark types c.args.context.scope g (grammar.suffixes e) (grammar.suffixes e) (λ a. a) sorts_there.unbracket purposes.Nothing (index_more g e (terminal x) o) g c.args.depth (x ∷ c.args.tokens.now) c.in_ok-index.index.rest.now (got (index_on g e x c.args.tokens.now (sym is)) h.reads) h.ended c.in_err-rest.field-0.0 c.in_err-rest.ensures)
+    rw (p.1, p.2) (stop_mark types c.args.context.scope g (grammar.suffixes e) (grammar.suffixes e) (λ a. a) sorts_there.unbracket purposes.Nothing (index_more g e (terminal x) o) g c.args.depth (x ∷ c.args.tokens.now) c.in_ok-index.index.rest.now (got (index_on g e x c.args.tokens.now (sym is)) h.reads) h.ended c.in_err-rest.field-0.0 (MatchResult-at_err _ _ _ c.in_err-rest.ensures c.expect-next.ensures))
 
 pub expressions::read_suffix-returns-then-is_mark : goal.expressions::read_suffix-returns-then-is_mark
 expressions::read_suffix-returns-then-is_mark t c =
@@ -431,15 +431,15 @@ expressions::read_suffix-returns-then-is_mark t c =
     let g = there types c.args.context.scope in
     let x = c.args.token in
     let e = tree_of c.args.inner in
-    let h = c.in_ok-index.ensures in
+    let h = (MatchResult-at_ok _ _ _ c.in_ok-index.ensures.0 c.read_level.ensures) in
     let o = tree_of c.in_ok-index.index.tree.tree in
-    let closes = c.in_ok-rest.ensures in
+    let closes = (MatchResult-at_ok _ _ _ c.in_ok-rest.ensures.0 c.expect-next.ensures) in
     let made = syntax_trees.index e (terminal x) o in
     let is = bracket_is (view g.types (sort_of x.kind)) (sym (c.is_mark.ensures ∙ ap (λ s. is_mark sorts_there.bracket s) c.sort_at-sort.ensures) ∙ c.if-is_mark.true) in
     let behind = on_mark types c.args.context.scope g (grammar.suffixes e) (grammar.suffixes e) (λ a. a) sorts_there.unbracket purposes.Nothing (index_more g e (terminal x) o) g (x ∷ c.args.tokens.now) c.in_ok-index.index.rest.now c.in_ok-rest.rest.now (got (index_on g e x c.args.tokens.now (sym is)) h.reads) closes in
     let less : length c.in_ok-index.index.rest.now ≡ length (closes.first ∷ c.in_ok-rest.rest.now) = ap length closes.whole in
     let deep : 1 + c.max.result ≡ depth_of made = omega (arith, c.max.ensures, c.requires.deep, h.deep) in
-    suffixed g e made (tree_of c.in_ok-tree.tree) c.args.depth (1 + c.max.result) (x ∷ c.args.tokens.now) c.in_ok-rest.rest.now (last behind) c.in_ok-tree.ensures deep (omega (arith, c.max.ensures, h.shallow, c.requires.shallow)) closes.ended (omega (arith, h.fewer, less))
+    suffixed g e made (tree_of c.in_ok-tree.tree) c.args.depth (1 + c.max.result) (x ∷ c.args.tokens.now) c.in_ok-rest.rest.now (last behind) (c.in_ok-tree.ensures ∙ ap (λ v. syntax_trees.index (tree_of v.0) (terminal x) (tree_of v.1)) c.in_ok-rest.ensures.1 ∙ ap (λ v. syntax_trees.index (tree_of v) (terminal x) o) c.in_ok-index.ensures.1) deep (omega (arith, c.max.ensures, h.shallow, c.requires.shallow)) closes.ended (omega (arith, h.fewer, less))
 
 pub expressions::read_suffix-returns-then-not-is_name : goal.expressions::read_suffix-returns-then-not-is_name
 expressions::read_suffix-returns-then-not-is_name t c =
@@ -489,7 +489,7 @@ expressions::read_call-returns-in_err-arguments t c =
     let x = c.args.opening in
     let e = tree_of c.args.inner in
     let is = opening_is (view g.types (sort_of x.kind)) c.requires.opening in
-    rw (p.1, p.2) (stop_part g g g (grammar.suffixes e) (grammar.suffixes e) grammar.arguments (λ a. a) (call_closing g e (terminal x)) c.args.depth (c.args.depth - 1) (x ∷ c.args.tokens.now) c.args.tokens.now (call_on g e x c.args.tokens.now (sym is)) (omega arith) c.in_err-arguments.field-0.0 c.in_err-arguments.ensures)
+    rw (p.1, p.2) (stop_part g g g (grammar.suffixes e) (grammar.suffixes e) grammar.arguments (λ a. a) (call_closing g e (terminal x)) c.args.depth (c.args.depth - 1) (x ∷ c.args.tokens.now) c.args.tokens.now (call_on g e x c.args.tokens.now (sym is)) (omega arith) c.in_err-arguments.field-0.0 (MatchResult-at_err _ _ _ c.in_err-arguments.ensures c.read_arguments.ensures))
 
 pub expressions::read_call-returns-in_err-rest : goal.expressions::read_call-returns-in_err-rest
 expressions::read_call-returns-in_err-rest t c =
@@ -498,14 +498,14 @@ expressions::read_call-returns-in_err-rest t c =
     let g = there types c.args.context.scope in
     let x = c.args.opening in
     let e = tree_of c.args.inner in
-    let h = c.in_ok-arguments.ensures in
+    let h = (MatchResult-at_ok _ _ _ c.in_ok-arguments.ensures.0 c.read_arguments.ensures) in
     let es = map tree_of c.in_ok-arguments.arguments.tree.items in
     let is = opening_is (view g.types (sort_of x.kind)) c.requires.opening in
     let v = c.in_ok-arguments.arguments.tree in
     let count : length v.items ≡ v.len = omega (arith, v.ok.0) in
     let purpose : purpose_seen c.if-is_empty.purpose ≡ grammar.at_first es = elim c.if-is_empty.branch [ expressions::read_call-then-is_empty w ↦ (ap purpose_seen w.purpose-is ∙ none_at_first c.in_ok-arguments.arguments.tree.items ((ap (λ n. n == 0) count ∙ (sym c.is_empty.ensures ∙ w.if-is_empty.true)))) | expressions::read_call-else-is_empty w ↦ (ap purpose_seen w.purpose-is ∙ some_at_first c.in_ok-arguments.arguments.tree.items ((ap (λ n. n == 0) count ∙ (sym c.is_empty.ensures ∙ w.if-is_empty.false)))) ] in
     let on = purposed g (grammar.suffixes e) (grammar.suffixes e) (λ a. a) sorts_there.closing (call_more g e (terminal x) es) (x ∷ c.args.tokens.now) c.in_ok-arguments.arguments.rest.now (grammar.at_first es) (purpose_seen c.if-is_empty.purpose) (sym purpose) (got (call_on g e x c.args.tokens.now (sym is)) h.reads) in
-    rw (p.1, p.2) (stop_mark types c.args.context.scope g (grammar.suffixes e) (grammar.suffixes e) (λ a. a) sorts_there.closing c.if-is_empty.purpose (call_more g e (terminal x) es) g c.args.depth (x ∷ c.args.tokens.now) c.in_ok-arguments.arguments.rest.now on h.ended c.in_err-rest.field-0.0 c.in_err-rest.ensures)
+    rw (p.1, p.2) (stop_mark types c.args.context.scope g (grammar.suffixes e) (grammar.suffixes e) (λ a. a) sorts_there.closing c.if-is_empty.purpose (call_more g e (terminal x) es) g c.args.depth (x ∷ c.args.tokens.now) c.in_ok-arguments.arguments.rest.now on h.ended c.in_err-rest.field-0.0 (MatchResult-at_err _ _ _ c.in_err-rest.ensures c.expect-next.ensures))
 
 pub expressions::read_call-returns : goal.expressions::read_call-returns
 expressions::read_call-returns t c =
@@ -513,9 +513,9 @@ expressions::read_call-returns t c =
     let g = there types c.args.context.scope in
     let x = c.args.opening in
     let e = tree_of c.args.inner in
-    let h = c.in_ok-arguments.ensures in
+    let h = (MatchResult-at_ok _ _ _ c.in_ok-arguments.ensures.0 c.read_arguments.ensures) in
     let es = map tree_of c.in_ok-arguments.arguments.tree.items in
-    let closes = c.in_ok-rest.ensures in
+    let closes = (MatchResult-at_ok _ _ _ c.in_ok-rest.ensures.0 c.expect-next.ensures) in
     let made = syntax_trees.call e (terminal x) es in
     let is = opening_is (view g.types (sort_of x.kind)) c.requires.opening in
     let v = c.in_ok-arguments.arguments.tree in
@@ -525,4 +525,4 @@ expressions::read_call-returns t c =
     let behind = on_mark types c.args.context.scope g (grammar.suffixes e) (grammar.suffixes e) (λ a. a) sorts_there.closing c.if-is_empty.purpose (call_more g e (terminal x) es) g (x ∷ c.args.tokens.now) c.in_ok-arguments.arguments.rest.now c.in_ok-rest.rest.now on closes in
     let less : length c.in_ok-arguments.arguments.rest.now ≡ length (closes.first ∷ c.in_ok-rest.rest.now) = ap length closes.whole in
     let deep : 1 + c.max.result ≡ depth_of made = omega (arith, c.max.ensures, c.requires.deep, h.deep) in
-    suffixed g e made (tree_of c.in_ok-tree.tree) c.args.depth (1 + c.max.result) (x ∷ c.args.tokens.now) c.in_ok-rest.rest.now (last behind) c.in_ok-tree.ensures deep (omega (arith, c.max.ensures, h.shallow, c.requires.shallow)) closes.ended (omega (arith, h.fewer, less))
+    suffixed g e made (tree_of c.in_ok-tree.tree) c.args.depth (1 + c.max.result) (x ∷ c.args.tokens.now) c.in_ok-rest.rest.now (last behind) (c.in_ok-tree.ensures ∙ ap (λ v. syntax_trees.call (tree_of v.0) (terminal x) (map tree_of v.1.items)) c.in_ok-rest.ensures.1 ∙ ap (λ v. syntax_trees.call (tree_of v) (terminal x) es) c.in_ok-arguments.ensures.1) deep (omega (arith, c.max.ensures, h.shallow, c.requires.shallow)) closes.ended (omega (arith, h.fewer, less))

@@ -1,6 +1,6 @@
 -- The goals of the readers of levels of expressions: operators, casts and groups.
 use Rattle.std.proofs.Common.{◌≡◌, ◌∷◌, true, false, ◌+◌, ◌-◌, length, refl, sym, ap, ◌∙◌, subst, arith}
-use Rattle.std.proofs.lemmas.Result.{err_from_is_err_and}
+use Rattle.std.proofs.lemmas.Result.{err_from_is_err_and, MatchResult-at_ok, MatchResult-at_err}
 use Rattle.sp_syntax.specs.Syntax.{expression, binary, assign, cast}
 use Rattle.sp_syntax.specs.View.{tree_of, type_name_of}
 use Rattle.sp_syntax.specs.Places.{place_of}
@@ -102,7 +102,7 @@ expressions::read_operators-returns-in_err-right t c =
     let now : grammar.Operand syntax_trees = record { tree = tree_of c.operators.tree; unary = c.operators.unary } in
     let stands = sym (c.continues_level.ensures ∙ ap (λ s. stands_behind k c.operators.unary s) c.sort_at.ensures) ∙ c.if-not-continues_level.false in
     let on = after_on g k (operand_seen c.args.left) now c.args.tokens.now c.operators.rest.now xs x i.step c.next_token.ensures (binary_body g k now (terminal x)) stands (operator_binary g k now x (view g.types (sort_of x.kind)) c.requires.tightest c.requires.binary stands) in
-    rw (p.1, p.2) (stop_part g g g (grammar.after k (operand_seen c.args.left)) (grammar.after k now) (grammar.level (k - 1)) (λ o. o) (λ r. get g (grammar.after k (operand (syntax_trees.binary (terminal x) now.tree r.tree) false)) (λ o. done o)) c.args.depth (c.args.depth - 1) c.args.tokens.now xs on (omega arith) c.in_err-right.field-0.0 c.in_err-right.ensures)
+    rw (p.1, p.2) (stop_part g g g (grammar.after k (operand_seen c.args.left)) (grammar.after k now) (grammar.level (k - 1)) (λ o. o) (λ r. get g (grammar.after k (operand (syntax_trees.binary (terminal x) now.tree r.tree) false)) (λ o. done o)) c.args.depth (c.args.depth - 1) c.args.tokens.now xs on (omega arith) c.in_err-right.field-0.0 (MatchResult-at_err _ _ _ c.in_err-right.ensures c.read_level-next.ensures))
 
 pub expressions::read_operators-operators-preserved : goal.expressions::read_operators-operators-preserved
 expressions::read_operators-operators-preserved t c =
@@ -111,14 +111,14 @@ expressions::read_operators-operators-preserved t c =
     let x = c.next_token.result.0 in
     let xs = c.next_token.result.1.now in
     let k = c.args.level in
-    let h = c.in_ok-right.ensures in
+    let h = (MatchResult-at_ok _ _ _ c.in_ok-right.ensures.0 c.read_level-next.ensures) in
     let r = operand_seen c.in_ok-right.right.tree in
     let first = operand_seen c.args.left in
     let now : grammar.Operand syntax_trees = record { tree = tree_of c.operators.tree; unary = c.operators.unary } in
     let made = syntax_trees.binary (terminal x) now.tree r.tree in
     let stands = sym (c.continues_level.ensures ∙ ap (λ s. stands_behind k c.operators.unary s) c.sort_at.ensures) ∙ c.if-not-continues_level.false in
     let on = after_on g k first now c.args.tokens.now c.operators.rest.now xs x i.step c.next_token.ensures (binary_body g k now (terminal x)) stands (operator_binary g k now x (view g.types (sort_of x.kind)) c.requires.tightest c.requires.binary stands) in
-    let same : tree_of c.in_ok-tree.tree ≡ made = c.in_ok-tree.ensures ∙ ap (λ o. expression (binary o now.tree r.tree) (place_of now.tree) x.place) c.punct_of-punct.ensures in
+    let same : tree_of c.in_ok-tree.tree ≡ made = c.in_ok-tree.ensures ∙ ap (λ l. expression (binary c.punct_of-punct.result (tree_of l) r.tree) (place_of (tree_of l)) x.place) c.in_ok-right.ensures.1 ∙ ap (λ o. expression (binary o now.tree r.tree) (place_of now.tree) x.place) c.punct_of-punct.ensures in
     let shorter : length c.operators.rest.now ≡ length (x ∷ xs) = ap length c.next_token.ensures in
     record {
       step = subst (λ v. IsStep g (grammar.after k first) (grammar.after k (record { tree = v; unary = false })) (λ a. a) c.args.tokens.now c.in_ok-right.right.rest.now) (sym same) (last (got on h.reads));
@@ -160,7 +160,7 @@ expressions::read_sequence-returns-in_err-right t c =
     let now : grammar.Operand syntax_trees = record { tree = tree_of c.commas.tree; unary = c.commas.unary } in
     let stands = sym (c.continues_level.ensures ∙ ap (λ s. stands_behind 13 c.commas.unary s) c.sort_at.ensures) ∙ c.if-not-continues_level.false in
     let on = after_on g 13 (operand_seen c.args.left) now c.args.tokens.now c.commas.rest.now xs x i.step c.next_token.ensures (comma_body g now (terminal x)) stands (comma_plan g now x stands) in
-    rw (p.1, p.2) (stop_part g g g (grammar.after 13 (operand_seen c.args.left)) (grammar.after 13 now) (grammar.level 12) (λ o. o) (λ r. get g (grammar.after 13 (operand (syntax_trees.sequence (terminal x) now.tree r.tree) false)) (λ o. done o)) c.args.depth (c.args.depth - 1) c.args.tokens.now xs on (omega arith) c.in_err-right.field-0.0 c.in_err-right.ensures)
+    rw (p.1, p.2) (stop_part g g g (grammar.after 13 (operand_seen c.args.left)) (grammar.after 13 now) (grammar.level 12) (λ o. o) (λ r. get g (grammar.after 13 (operand (syntax_trees.sequence (terminal x) now.tree r.tree) false)) (λ o. done o)) c.args.depth (c.args.depth - 1) c.args.tokens.now xs on (omega arith) c.in_err-right.field-0.0 (MatchResult-at_err _ _ _ c.in_err-right.ensures c.read_level-next.ensures))
 
 pub expressions::read_sequence-commas-preserved : goal.expressions::read_sequence-commas-preserved
 expressions::read_sequence-commas-preserved t c =
@@ -168,14 +168,14 @@ expressions::read_sequence-commas-preserved t c =
     let i = c.commas.invariant in
     let x = c.next_token.result.0 in
     let xs = c.next_token.result.1.now in
-    let h = c.in_ok-right.ensures in
+    let h = (MatchResult-at_ok _ _ _ c.in_ok-right.ensures.0 c.read_level-next.ensures) in
     let r = operand_seen c.in_ok-right.right.tree in
     let first = operand_seen c.args.left in
     let now : grammar.Operand syntax_trees = record { tree = tree_of c.commas.tree; unary = c.commas.unary } in
     let made = syntax_trees.sequence (terminal x) now.tree r.tree in
     let stands = sym (c.continues_level.ensures ∙ ap (λ s. stands_behind 13 c.commas.unary s) c.sort_at.ensures) ∙ c.if-not-continues_level.false in
     let on = after_on g 13 first now c.args.tokens.now c.commas.rest.now xs x i.step c.next_token.ensures (comma_body g now (terminal x)) stands (comma_plan g now x stands) in
-    let same : tree_of c.in_ok-tree.tree ≡ made = c.in_ok-tree.ensures in
+    let same : tree_of c.in_ok-tree.tree ≡ made = c.in_ok-tree.ensures ∙ ap (λ l. syntax_trees.sequence (terminal x) (tree_of l) r.tree) c.in_ok-right.ensures.1 in
     let shorter : length c.commas.rest.now ≡ length (x ∷ xs) = ap length c.next_token.ensures in
     record {
       step = subst (λ v. IsStep g (grammar.after 13 first) (grammar.after 13 (record { tree = v; unary = false })) (λ a. a) c.args.tokens.now c.in_ok-right.right.rest.now) (sym same) (last (got on h.reads));
@@ -220,7 +220,7 @@ expressions::read_assignment-returns-in_err-assigned t c =
     let xs = c.next_token.result.1.now in
     let stands = sym (c.continues_level.ensures ∙ ap (λ s. stands_behind 12 c.args.left.unary s) c.sort_at.ensures) ∙ c.if-not-continues_level.false in
     let on = after_on g 12 l l c.args.tokens.now c.args.tokens.now xs x (begun (grammar.at g (grammar.after 12 l)) (c_tokens c.args.tokens.now)) c.next_token.ensures (assign_body g l (terminal x)) stands (assign_plan g l x stands) in
-    rw (p.1, p.2) (stop_part g g g (grammar.after 12 l) (grammar.after 12 l) (grammar.level 12) (λ o. o) (λ r. done (operand (syntax_trees.assign (terminal x) l.tree r.tree) false)) c.args.depth (c.args.depth - 1) c.args.tokens.now xs on (omega arith) c.in_err-assigned.field-0.0 c.in_err-assigned.ensures)
+    rw (p.1, p.2) (stop_part g g g (grammar.after 12 l) (grammar.after 12 l) (grammar.level 12) (λ o. o) (λ r. done (operand (syntax_trees.assign (terminal x) l.tree r.tree) false)) c.args.depth (c.args.depth - 1) c.args.tokens.now xs on (omega arith) c.in_err-assigned.field-0.0 (MatchResult-at_err _ _ _ c.in_err-assigned.ensures c.read_level-next.ensures))
 
 pub expressions::read_assignment-returns : goal.expressions::read_assignment-returns
 expressions::read_assignment-returns t c =
@@ -228,12 +228,12 @@ expressions::read_assignment-returns t c =
     let l = operand_seen c.args.left in
     let x = c.next_token.result.0 in
     let xs = c.next_token.result.1.now in
-    let h = c.in_ok-assigned.ensures in
+    let h = (MatchResult-at_ok _ _ _ c.in_ok-assigned.ensures.0 c.read_level-next.ensures) in
     let r = operand_seen c.in_ok-assigned.assigned.tree in
     let made = syntax_trees.assign (terminal x) l.tree r.tree in
     let stands = sym (c.continues_level.ensures ∙ ap (λ s. stands_behind 12 c.args.left.unary s) c.sort_at.ensures) ∙ c.if-not-continues_level.false in
     let on = after_on g 12 l l c.args.tokens.now c.args.tokens.now xs x (begun (grammar.at g (grammar.after 12 l)) (c_tokens c.args.tokens.now)) c.next_token.ensures (assign_body g l (terminal x)) stands (assign_plan g l x stands) in
-    let same : tree_of c.in_ok-tree.tree ≡ made = c.in_ok-tree.ensures ∙ ap (λ o. expression (assign o l.tree r.tree) (place_of l.tree) x.place) c.punct_of-punct.ensures in
+    let same : tree_of c.in_ok-tree.tree ≡ made = c.in_ok-tree.ensures ∙ ap (λ v. expression (assign c.punct_of-punct.result (tree_of v) r.tree) (place_of (tree_of v)) x.place) c.in_ok-assigned.ensures.1 ∙ ap (λ o. expression (assign o l.tree r.tree) (place_of l.tree) x.place) c.punct_of-punct.ensures in
     let shorter : length c.args.tokens.now ≡ length (x ∷ xs) = ap length c.next_token.ensures in
     let deep : 1 + c.max.result ≡ depth_of made = omega (arith, c.max.ensures, c.requires.deep, h.deep) in
     built g (grammar.after 12 l) c.args.depth (1 + c.max.result) c.args.tokens.now c.in_ok-assigned.assigned.rest.now (operand made false) (operand (tree_of c.in_ok-tree.tree) false) (finished (got on h.reads)) (ap (λ v. operand v false) same) deep (omega (arith, h.shallow, c.max.ensures, c.if-inner-depth.false)) h.ended (omega (arith, h.fewer, shorter))
@@ -261,7 +261,7 @@ expressions::read_conditional-returns-in_err-first t c =
     let xs = c.next_token.result.1.now in
     let stands = sym (c.continues_level.ensures ∙ ap (λ s. stands_behind 11 c.args.left.unary s) c.sort_at.ensures) ∙ c.if-not-continues_level.false in
     let on = after_on g 11 l l c.args.tokens.now c.args.tokens.now xs x (begun (grammar.at g (grammar.after 11 l)) (c_tokens c.args.tokens.now)) c.next_token.ensures (choice_body g l (terminal x)) stands (choice_plan g l x stands) in
-    rw (p.1, p.2) (stop_part g g g (grammar.after 11 l) (grammar.after 11 l) (grammar.level 13) (λ o. o) (choice_colon g l (terminal x)) c.args.depth (c.args.depth - 1) c.args.tokens.now xs on (omega arith) c.in_err-first.field-0.0 c.in_err-first.ensures)
+    rw (p.1, p.2) (stop_part g g g (grammar.after 11 l) (grammar.after 11 l) (grammar.level 13) (λ o. o) (choice_colon g l (terminal x)) c.args.depth (c.args.depth - 1) c.args.tokens.now xs on (omega arith) c.in_err-first.field-0.0 (MatchResult-at_err _ _ _ c.in_err-first.ensures c.read_level-next.ensures))
 
 pub expressions::read_conditional-returns-in_err-rest : goal.expressions::read_conditional-returns-in_err-rest
 expressions::read_conditional-returns-in_err-rest t c =
@@ -271,11 +271,11 @@ expressions::read_conditional-returns-in_err-rest t c =
     let l = operand_seen c.args.left in
     let x = c.next_token.result.0 in
     let xs = c.next_token.result.1.now in
-    let h = c.in_ok-first.ensures in
+    let h = (MatchResult-at_ok _ _ _ c.in_ok-first.ensures.0 c.read_level-next.ensures) in
     let a = operand_seen c.in_ok-first.first.tree in
     let stands = sym (c.continues_level.ensures ∙ ap (λ s. stands_behind 11 c.args.left.unary s) c.sort_at.ensures) ∙ c.if-not-continues_level.false in
     let on = after_on g 11 l l c.args.tokens.now c.args.tokens.now xs x (begun (grammar.at g (grammar.after 11 l)) (c_tokens c.args.tokens.now)) c.next_token.ensures (choice_body g l (terminal x)) stands (choice_plan g l x stands) in
-    rw (p.1, p.2) (stop_mark types c.args.context.scope g (grammar.after 11 l) (grammar.after 11 l) (λ o. o) sorts_there.colon purposes.Nothing (λ z. get g (grammar.level 11) (choice_done g l (terminal x) a)) g c.args.depth c.args.tokens.now c.in_ok-first.first.rest.now (got on h.reads) h.ended c.in_err-rest.field-0.0 c.in_err-rest.ensures)
+    rw (p.1, p.2) (stop_mark types c.args.context.scope g (grammar.after 11 l) (grammar.after 11 l) (λ o. o) sorts_there.colon purposes.Nothing (λ z. get g (grammar.level 11) (choice_done g l (terminal x) a)) g c.args.depth c.args.tokens.now c.in_ok-first.first.rest.now (got on h.reads) h.ended c.in_err-rest.field-0.0 (MatchResult-at_err _ _ _ c.in_err-rest.ensures c.expect-next.ensures))
 
 pub expressions::read_conditional-returns-in_err-second : goal.expressions::read_conditional-returns-in_err-second
 expressions::read_conditional-returns-in_err-second t c =
@@ -285,12 +285,12 @@ expressions::read_conditional-returns-in_err-second t c =
     let l = operand_seen c.args.left in
     let x = c.next_token.result.0 in
     let xs = c.next_token.result.1.now in
-    let h = c.in_ok-first.ensures in
+    let h = (MatchResult-at_ok _ _ _ c.in_ok-first.ensures.0 c.read_level-next.ensures) in
     let a = operand_seen c.in_ok-first.first.tree in
     let stands = sym (c.continues_level.ensures ∙ ap (λ s. stands_behind 11 c.args.left.unary s) c.sort_at.ensures) ∙ c.if-not-continues_level.false in
     let on = after_on g 11 l l c.args.tokens.now c.args.tokens.now xs x (begun (grammar.at g (grammar.after 11 l)) (c_tokens c.args.tokens.now)) c.next_token.ensures (choice_body g l (terminal x)) stands (choice_plan g l x stands) in
-    let behind = on_mark types c.args.context.scope g (grammar.after 11 l) (grammar.after 11 l) (λ o. o) sorts_there.colon purposes.Nothing (λ z. get g (grammar.level 11) (choice_done g l (terminal x) a)) g c.args.tokens.now c.in_ok-first.first.rest.now c.in_ok-rest.rest.now (got on h.reads) c.in_ok-rest.ensures in
-    rw (p.1, p.2) (stop_part g g g (grammar.after 11 l) (grammar.after 11 l) (grammar.level 11) (λ o. o) (choice_done g l (terminal x) a) c.args.depth (c.args.depth - 1) c.args.tokens.now c.in_ok-rest.rest.now behind (omega arith) c.in_err-second.field-0.0 c.in_err-second.ensures)
+    let behind = on_mark types c.args.context.scope g (grammar.after 11 l) (grammar.after 11 l) (λ o. o) sorts_there.colon purposes.Nothing (λ z. get g (grammar.level 11) (choice_done g l (terminal x) a)) g c.args.tokens.now c.in_ok-first.first.rest.now c.in_ok-rest.rest.now (got on h.reads) (MatchResult-at_ok _ _ _ c.in_ok-rest.ensures.0 c.expect-next.ensures) in
+    rw (p.1, p.2) (stop_part g g g (grammar.after 11 l) (grammar.after 11 l) (grammar.level 11) (λ o. o) (choice_done g l (terminal x) a) c.args.depth (c.args.depth - 1) c.args.tokens.now c.in_ok-rest.rest.now behind (omega arith) c.in_err-second.field-0.0 (MatchResult-at_err _ _ _ c.in_err-second.ensures c.read_level-next-2.ensures))
 
 pub expressions::read_conditional-returns : goal.expressions::read_conditional-returns
 expressions::read_conditional-returns t c =
@@ -299,16 +299,16 @@ expressions::read_conditional-returns t c =
     let l = operand_seen c.args.left in
     let x = c.next_token.result.0 in
     let xs = c.next_token.result.1.now in
-    let h = c.in_ok-first.ensures in
-    let w = c.in_ok-second.ensures in
+    let h = (MatchResult-at_ok _ _ _ c.in_ok-first.ensures.0 c.read_level-next.ensures) in
+    let w = (MatchResult-at_ok _ _ _ c.in_ok-second.ensures.0 c.read_level-next-2.ensures) in
     let a = operand_seen c.in_ok-first.first.tree in
     let b = operand_seen c.in_ok-second.second.tree in
     let made = syntax_trees.choice (terminal x) l.tree a.tree b.tree in
     let stands = sym (c.continues_level.ensures ∙ ap (λ s. stands_behind 11 c.args.left.unary s) c.sort_at.ensures) ∙ c.if-not-continues_level.false in
     let on = after_on g 11 l l c.args.tokens.now c.args.tokens.now xs x (begun (grammar.at g (grammar.after 11 l)) (c_tokens c.args.tokens.now)) c.next_token.ensures (choice_body g l (terminal x)) stands (choice_plan g l x stands) in
-    let colon = c.in_ok-rest.ensures in
+    let colon = (MatchResult-at_ok _ _ _ c.in_ok-rest.ensures.0 c.expect-next.ensures) in
     let behind = on_mark types c.args.context.scope g (grammar.after 11 l) (grammar.after 11 l) (λ o. o) sorts_there.colon purposes.Nothing (λ z. get g (grammar.level 11) (choice_done g l (terminal x) a)) g c.args.tokens.now c.in_ok-first.first.rest.now c.in_ok-rest.rest.now (got on h.reads) colon in
-    let same : tree_of c.in_ok-tree.tree ≡ made = c.in_ok-tree.ensures in
+    let same : tree_of c.in_ok-tree.tree ≡ made = c.in_ok-tree.ensures ∙ ap (λ v. syntax_trees.choice (terminal x) (tree_of v.0) (tree_of v.1) b.tree) (c.in_ok-second.ensures.1 ∙ c.in_ok-rest.ensures.1) ∙ ap (λ v. syntax_trees.choice (terminal x) (tree_of v) a.tree b.tree) c.in_ok-first.ensures.1 in
     let shorter : length c.args.tokens.now ≡ length (x ∷ xs) = ap length c.next_token.ensures in
     let less : length c.in_ok-first.first.rest.now ≡ length (colon.first ∷ c.in_ok-rest.rest.now) = ap length colon.whole in
     let deep : 1 + c.max-2.result ≡ depth_of made = omega (arith, c.max-2.ensures, c.max.ensures, c.requires.deep, h.deep, w.deep) in
@@ -333,7 +333,7 @@ expressions::read_after_paren-returns-in_err-rest t c =
     let h = c.in_ok-name.ensures in
     let stands = sym (c.is_specifier.ensures ∙ ap (λ s. is_specifier s) c.sort_at.ensures) ∙ c.if-is_specifier.true in
     let on = cast_on g y c.args.tokens.now c.next_token.result.1.now x c.next_token.ensures stands in
-    rw (p.1, p.2) (stop_mark types c.args.context.scope g (grammar.behind_open y) (grammar.behind_open y) (λ o. o) sorts_there.closing c.in_ok-name.name.tree.behind (cast_operand g y h.pending) g c.args.depth c.args.tokens.now c.in_ok-name.name.rest.now (got on h.read.reads) h.read.ended c.in_err-rest.field-0.0 c.in_err-rest.ensures)
+    rw (p.1, p.2) (stop_mark types c.args.context.scope g (grammar.behind_open y) (grammar.behind_open y) (λ o. o) sorts_there.closing c.in_ok-name.name.tree.behind (cast_operand g y h.pending) g c.args.depth c.args.tokens.now c.in_ok-name.name.rest.now (got on h.read.reads) h.read.ended c.in_err-rest.field-0.0 (MatchResult-at_err _ _ _ c.in_err-rest.ensures c.expect-next.ensures))
 
 pub expressions::read_after_paren-returns-in_err-operand : goal.expressions::read_after_paren-returns-in_err-operand
 expressions::read_after_paren-returns-in_err-operand t c =
@@ -343,11 +343,11 @@ expressions::read_after_paren-returns-in_err-operand t c =
     let x = c.next_token.result.0 in
     let y = terminal c.args.opening in
     let h = c.in_ok-name.ensures in
-    let closes = c.in_ok-rest.ensures in
+    let closes = (MatchResult-at_ok _ _ _ c.in_ok-rest.ensures.0 c.expect-next.ensures) in
     let stands = sym (c.is_specifier.ensures ∙ ap (λ s. is_specifier s) c.sort_at.ensures) ∙ c.if-is_specifier.true in
     let on = cast_on g y c.args.tokens.now c.next_token.result.1.now x c.next_token.ensures stands in
     let behind = on_mark types c.args.context.scope g (grammar.behind_open y) (grammar.behind_open y) (λ o. o) sorts_there.closing c.in_ok-name.name.tree.behind (cast_operand g y h.pending) g c.args.tokens.now c.in_ok-name.name.rest.now c.in_ok-rest.rest.now (got on h.read.reads) closes in
-    rw (p.1, p.2) (stop_part g g g (grammar.behind_open y) (grammar.behind_open y) (grammar.level 0) (λ o. o) (λ o. done (operand (syntax_trees.cast y h.pending (terminal closes.first) o.tree) false)) c.args.depth (c.args.depth - 1) c.args.tokens.now c.in_ok-rest.rest.now behind (omega arith) c.in_err-operand.field-0.0 c.in_err-operand.ensures)
+    rw (p.1, p.2) (stop_part g g g (grammar.behind_open y) (grammar.behind_open y) (grammar.level 0) (λ o. o) (λ o. done (operand (syntax_trees.cast y h.pending (terminal closes.first) o.tree) false)) c.args.depth (c.args.depth - 1) c.args.tokens.now c.in_ok-rest.rest.now behind (omega arith) c.in_err-operand.field-0.0 (MatchResult-at_err _ _ _ c.in_err-operand.ensures c.read_cast.ensures))
 
 pub expressions::read_after_paren-returns-then-is_specifier : goal.expressions::read_after_paren-returns-then-is_specifier
 expressions::read_after_paren-returns-then-is_specifier t c =
@@ -356,15 +356,15 @@ expressions::read_after_paren-returns-then-is_specifier t c =
     let x = c.next_token.result.0 in
     let y = terminal c.args.opening in
     let h = c.in_ok-name.ensures in
-    let w = c.in_ok-operand.ensures in
-    let closes = c.in_ok-rest.ensures in
+    let w = (MatchResult-at_ok _ _ _ c.in_ok-operand.ensures.0 c.read_cast.ensures) in
+    let closes = (MatchResult-at_ok _ _ _ c.in_ok-rest.ensures.0 c.expect-next.ensures) in
     let e = tree_of c.in_ok-operand.operand.tree.tree in
     let made = syntax_trees.cast y h.pending (terminal closes.first) e in
     let stands = sym (c.is_specifier.ensures ∙ ap (λ s. is_specifier s) c.sort_at.ensures) ∙ c.if-is_specifier.true in
     let on = cast_on g y c.args.tokens.now c.next_token.result.1.now x c.next_token.ensures stands in
     let behind = on_mark types c.args.context.scope g (grammar.behind_open y) (grammar.behind_open y) (λ o. o) sorts_there.closing c.in_ok-name.name.tree.behind (cast_operand g y h.pending) g c.args.tokens.now c.in_ok-name.name.rest.now c.in_ok-rest.rest.now (got on h.read.reads) closes in
     let settled = settled_at c.in_ok-name.name.rest.now c.in_ok-rest.rest.now (type_name_of c.in_ok-name.name.tree.tree) h.pending closes.first h.settled closes.whole in
-    let same : tree_of c.in_ok-tree.tree ≡ made = c.in_ok-tree.ensures ∙ ap (λ n. expression (cast n e) c.args.opening.place c.args.opening.place) settled in
+    let same : tree_of c.in_ok-tree.tree ≡ made = c.in_ok-tree.ensures ∙ ap (λ n. expression (cast (type_name_of n) e) c.args.opening.place c.args.opening.place) (c.in_ok-operand.ensures.1 ∙ c.in_ok-rest.ensures.1) ∙ ap (λ n. expression (cast n e) c.args.opening.place c.args.opening.place) settled in
     let less : length c.in_ok-name.name.rest.now ≡ length (closes.first ∷ c.in_ok-rest.rest.now) = ap length closes.whole in
     let deep : 1 + c.max.result ≡ depth_of made = omega (arith, c.max.ensures, h.read.deep, w.deep, settle_type_depth closes.first.place h.pending) in
     built g (grammar.behind_open y) c.args.depth (1 + c.max.result) c.args.tokens.now c.in_ok-operand.operand.rest.now (operand made false) (operand (tree_of c.in_ok-tree.tree) false) (finished (got behind w.reads)) (ap (λ v. operand v false) same) deep (omega (arith, h.read.shallow, w.shallow, c.max.ensures, c.requires.room)) w.ended (omega (arith, h.read.fewer, w.fewer, less))
@@ -389,7 +389,7 @@ expressions::read_after_paren-returns-in_err-rest-2 t c =
     let e = tree_of c.in_ok-inner.inner.tree.tree in
     let other = sym (c.is_specifier.ensures ∙ ap (λ s. is_specifier s) c.sort_at.ensures) ∙ c.if-is_specifier.false in
     let on = group_on g y c.args.tokens.now c.next_token.result.1.now x c.next_token.ensures other in
-    rw (p.1, p.2) (stop_mark types c.args.context.scope g (grammar.behind_open y) (grammar.behind_open y) (λ o. o) sorts_there.closing purposes.Nothing (group_suffixes g y e) g c.args.depth c.args.tokens.now c.in_ok-inner.inner.rest.now (got on h.reads) h.ended c.in_err-rest-2.field-0.0 c.in_err-rest-2.ensures)
+    rw (p.1, p.2) (stop_mark types c.args.context.scope g (grammar.behind_open y) (grammar.behind_open y) (λ o. o) sorts_there.closing purposes.Nothing (group_suffixes g y e) g c.args.depth c.args.tokens.now c.in_ok-inner.inner.rest.now (got on h.reads) h.ended c.in_err-rest-2.field-0.0 (MatchResult-at_err _ _ _ c.in_err-rest-2.ensures c.expect-next-2.ensures))
 
 pub expressions::read_after_paren-returns-in_err-part : goal.expressions::read_after_paren-returns-in_err-part
 expressions::read_after_paren-returns-in_err-part t c =
@@ -399,12 +399,12 @@ expressions::read_after_paren-returns-in_err-part t c =
     let x = c.next_token.result.0 in
     let y = terminal c.args.opening in
     let h = c.in_ok-inner.ensures in
-    let closes = c.in_ok-rest-2.ensures in
+    let closes = (MatchResult-at_ok _ _ _ c.in_ok-rest-2.ensures.0 c.expect-next-2.ensures) in
     let e = tree_of c.in_ok-inner.inner.tree.tree in
     let other = sym (c.is_specifier.ensures ∙ ap (λ s. is_specifier s) c.sort_at.ensures) ∙ c.if-is_specifier.false in
     let on = group_on g y c.args.tokens.now c.next_token.result.1.now x c.next_token.ensures other in
     let behind = on_mark types c.args.context.scope g (grammar.behind_open y) (grammar.behind_open y) (λ o. o) sorts_there.closing purposes.Nothing (group_suffixes g y e) g c.args.tokens.now c.in_ok-inner.inner.rest.now c.in_ok-rest-2.rest.now (got on h.reads) closes in
-    let stop = subst (λ v. IsStop g (grammar.suffixes v) c.args.depth c.in_ok-rest-2.rest.now c.in_err-part.field-0.0) c.in_ok-group.ensures c.in_err-part.ensures in
+    let stop = subst (λ v. IsStop g (grammar.suffixes v) c.args.depth c.in_ok-rest-2.rest.now c.in_err-part.field-0.0) (c.in_ok-group.ensures ∙ ap (λ v. syntax_trees.paren y (tree_of v)) c.in_ok-rest-2.ensures.1) c.in_err-part.ensures in
     rw (p.1, p.2) (stop_part g g g (grammar.behind_open y) (grammar.behind_open y) (grammar.suffixes (syntax_trees.paren y e)) (λ o. o) (λ f. done (operand f true)) c.args.depth c.args.depth c.args.tokens.now c.in_ok-rest-2.rest.now behind (omega arith) c.in_err-part.field-0.0 stop)
 
 pub expressions::read_after_paren-returns : goal.expressions::read_after_paren-returns
@@ -414,12 +414,12 @@ expressions::read_after_paren-returns t c =
     let x = c.next_token.result.0 in
     let y = terminal c.args.opening in
     let h = c.in_ok-inner.ensures in
-    let closes = c.in_ok-rest-2.ensures in
+    let closes = (MatchResult-at_ok _ _ _ c.in_ok-rest-2.ensures.0 c.expect-next-2.ensures) in
     let e = tree_of c.in_ok-inner.inner.tree.tree in
     let f = tree_of c.in_ok-part.part.tree in
     let other = sym (c.is_specifier.ensures ∙ ap (λ s. is_specifier s) c.sort_at.ensures) ∙ c.if-is_specifier.false in
     let on = group_on g y c.args.tokens.now c.next_token.result.1.now x c.next_token.ensures other in
     let behind = on_mark types c.args.context.scope g (grammar.behind_open y) (grammar.behind_open y) (λ o. o) sorts_there.closing purposes.Nothing (group_suffixes g y e) g c.args.tokens.now c.in_ok-inner.inner.rest.now c.in_ok-rest-2.rest.now (got on h.reads) closes in
-    let w = subst (λ v. IsRead g (grammar.suffixes v) c.args.depth c.in_ok-rest-2.rest.now f c.in_ok-part.part.depth c.in_ok-part.part.rest.now) c.in_ok-group.ensures c.in_ok-part.ensures in
+    let w = subst (λ v. IsRead g (grammar.suffixes v) c.args.depth c.in_ok-rest-2.rest.now f c.in_ok-part.part.depth c.in_ok-part.part.rest.now) (c.in_ok-group.ensures ∙ ap (λ v. syntax_trees.paren y (tree_of v)) c.in_ok-rest-2.ensures.1) c.in_ok-part.ensures in
     let less : length c.in_ok-inner.inner.rest.now ≡ length (closes.first ∷ c.in_ok-rest-2.rest.now) = ap length closes.whole in
     built g (grammar.behind_open y) c.args.depth c.in_ok-part.part.depth c.args.tokens.now c.in_ok-part.part.rest.now (operand f true) (operand f true) (finished (got behind w.reads)) refl w.deep w.shallow w.ended (omega (arith, h.fewer, w.fewer, less))

@@ -1,6 +1,6 @@
 -- The goals of the readers of lengths, parameters and functions.
 use Rattle.std.proofs.Common.{◌≡◌, ◌∷◌, ◌++◌, [], true, ◌-◌, length, Some, refl, sym, ap, ◌∙◌, subst, arith}
-use Rattle.std.proofs.lemmas.Result.{err_from_is_err_and}
+use Rattle.std.proofs.lemmas.Result.{err_from_is_err_and, MatchResult-at_ok, MatchResult-at_err}
 use Rattle.sp_syntax.specs.View.{tree_of}
 use Rattle.sp_grammar.specs.CTokens.{is_mark, view}
 use Rattle.sp_grammar.specs.CTokens as sorts_there
@@ -14,7 +14,7 @@ use Rattle.sp_c_reader.proofs.Steps.{got, finished}
 use Rattle.sp_c_reader.proofs.Parts.{stop_part, stop_mark}
 use Rattle.sp_c_reader.proofs.Marks.{bracket_is}
 use Rattle.sp_c_reader.proofs.ExpressionSteps.{built}
-use Rattle.sp_c_reader.specs.Declaring.{declared_seen}
+use Rattle.sp_c_reader.specs.Declaring.{declared_seen, IsFunction}
 use Rattle.sp_c_reader.proofs.DeclaratorSteps.{parameter_on, given_made, given_read, no_length, length_on}
 use Rattle.std.specs.Prelude.{option_map}
 use Rattle.sp_syntax.specs.declared.tree.DeclaratorForm.TheFolds.{fold-roll-Param}
@@ -37,18 +37,18 @@ declarators::read_parameter-returns-in_err-part t c =
     let p = err_from_is_err_and c.from_residual-in_err-part.result c.from_residual-in_err-part.ensures.1 in
     let g = there c.args.context.types.now c.args.context.scope in
     let h = c.in_ok-specifiers.ensures in
-    rw (p.1, p.2) (stop_part g g g grammar.parameter grammar.parameter (grammar.declarator grammar.either) (λ a. a) (λ d. done (given_made h.all d)) c.args.depth c.args.depth c.args.tokens.now c.in_ok-specifiers.specifiers.rest.now (got (parameter_on g c.args.tokens.now c.requires.ended) h.read.reads) (omega arith) c.in_err-part.field-0.0 c.in_err-part.ensures)
+    rw (p.1, p.2) (stop_part g g g grammar.parameter grammar.parameter (grammar.declarator grammar.either) (λ a. a) (λ d. done (given_made h.all d)) c.args.depth c.args.depth c.args.tokens.now c.in_ok-specifiers.specifiers.rest.now (got (parameter_on g c.args.tokens.now c.requires.ended) h.read.reads) (omega arith) c.in_err-part.field-0.0 (MatchResult-at_err _ _ _ c.in_err-part.ensures c.read_declarator-next.ensures))
 
 pub declarators::read_parameter-returns : goal.declarators::read_parameter-returns
 declarators::read_parameter-returns t c =
     let g = there c.args.context.types.now c.args.context.scope in
     let h = c.in_ok-specifiers.ensures in
-    let w = c.in_ok-part.ensures in
+    let w = (MatchResult-at_ok _ _ _ c.in_ok-part.ensures.0 c.read_declarator-next.ensures) in
     let ss = c.in_ok-specifiers.specifiers.tree in
     let d = c.in_ok-part.part.tree in
     record {
       pending = param (all_specifiers h.all) w.pending;
-      settled = rw fold-roll-Param (given_settled g c.args.depth c.in_ok-specifiers.specifiers.depth c.in_ok-part.part.depth c.max.result c.args.tokens.now c.in_ok-specifiers.specifiers.rest.now c.in_ok-part.part.rest.now ss d c.requires.ended h w);
+      settled = rw (fold-roll-Param, c.in_ok-part.ensures.1) (given_settled g c.args.depth c.in_ok-specifiers.specifiers.depth c.in_ok-part.part.depth c.max.result c.args.tokens.now c.in_ok-specifiers.specifiers.rest.now c.in_ok-part.part.rest.now ss d c.requires.ended h w);
       read = given_read g c.args.depth c.in_ok-specifiers.specifiers.depth c.in_ok-part.part.depth c.max.result c.args.tokens.now c.in_ok-specifiers.specifiers.rest.now c.in_ok-part.part.rest.now ss d c.requires.ended h w c.max.ensures;
     }
 
@@ -88,10 +88,10 @@ declarators::read_array-returns-in_err-rest t c =
       size = option_map tree_of c.in_ok-length.length.tree;
       size_depth = c.in_ok-length.length.depth;
       mid = c.in_ok-length.length.rest.now;
-      read = c.in_ok-length.ensures;
+      read = (MatchResult-at_ok _ _ _ c.in_ok-length.ensures.0 c.read_length.ensures);
       purpose = c.purpose_of-purpose.result;
       wanted = c.purpose_of-purpose.ensures;
-      why = c.in_err-rest.ensures;
+      why = (MatchResult-at_err _ _ _ c.in_err-rest.ensures c.expect-next.ensures);
     }))
 
 pub declarators::read_function-returns-in_err-parameters : goal.declarators::read_function-returns-in_err-parameters
@@ -101,7 +101,7 @@ declarators::read_function-returns-in_err-parameters t c =
     let x = c.args.opening in
     λ pending settled.
     let h = declared_seen c.args.head pending in
-    rw (p.1, p.2) (stop_part g g g (grammar.declarator_suffixes h) (grammar.declarator_suffixes h) grammar.parameters (λ a. a) (function_closing g h (terminal x)) c.args.depth (c.args.depth - 1) (x ∷ c.args.tokens.now) c.args.tokens.now (function_on g h x c.args.tokens.now (sym c.requires.opening)) (omega arith) c.in_err-parameters.field-0.0 c.in_err-parameters.ensures)
+    rw (p.1, p.2) (stop_part g g g (grammar.declarator_suffixes h) (grammar.declarator_suffixes h) grammar.parameters (λ a. a) (function_closing g h (terminal x)) c.args.depth (c.args.depth - 1) (x ∷ c.args.tokens.now) c.args.tokens.now (function_on g h x c.args.tokens.now (sym c.requires.opening)) (omega arith) c.in_err-parameters.field-0.0 (MatchResult-at_err _ _ _ c.in_err-parameters.ensures c.read_parameters.ensures))
 
 pub declarators::read_function-returns-in_err-rest : goal.declarators::read_function-returns-in_err-rest
 declarators::read_function-returns-in_err-rest t c =
@@ -109,15 +109,15 @@ declarators::read_function-returns-in_err-rest t c =
     let types = c.args.context.types.now in
     let g = there types c.args.context.scope in
     let x = c.args.opening in
-    let w = c.in_ok-parameters.ensures in
+    let w = (MatchResult-at_ok _ _ _ c.in_ok-parameters.ensures.0 c.read_parameters.ensures) in
     let ps = c.in_ok-parameters.parameters.tree in
     λ pending settled.
     let h = declared_seen c.args.head pending in
-    rw (p.1, p.2) (stop_mark types c.args.context.scope g (grammar.declarator_suffixes h) (grammar.declarator_suffixes h) (λ a. a) sorts_there.closing ps.behind (function_more g h (terminal x) (parameters_seen ps w.pending)) g c.args.depth (x ∷ c.args.tokens.now) c.in_ok-parameters.parameters.rest.now (got (function_on g h x c.args.tokens.now (sym c.requires.opening)) w.read.reads) w.read.ended c.in_err-rest.field-0.0 c.in_err-rest.ensures)
+    rw (p.1, p.2) (stop_mark types c.args.context.scope g (grammar.declarator_suffixes h) (grammar.declarator_suffixes h) (λ a. a) sorts_there.closing ps.behind (function_more g h (terminal x) (parameters_seen ps w.pending)) g c.args.depth (x ∷ c.args.tokens.now) c.in_ok-parameters.parameters.rest.now (got (function_on g h x c.args.tokens.now (sym c.requires.opening)) w.read.reads) w.read.ended c.in_err-rest.field-0.0 (MatchResult-at_err _ _ _ c.in_err-rest.ensures c.expect-next.ensures))
 
 pub declarators::read_function-returns : goal.declarators::read_function-returns
 declarators::read_function-returns t c =
-    λ pending settled. function_lengthened c.args.context.types.now c.args.context.scope c.args.head c.in_ok-function_of.field-0 pending c.args.opening c.args.tokens.now c.in_ok-parameters.parameters.rest.now c.in_ok-rest.rest.now c.args.depth c.args.reached c.in_ok-parameters.parameters.depth c.max.result c.in_ok-parameters.parameters.tree settled (sym c.requires.opening) c.in_ok-parameters.ensures c.in_ok-rest.ensures c.in_ok-function_of.ensures c.requires.deep c.requires.shallow c.max.ensures
+    λ pending settled. function_lengthened c.args.context.types.now c.args.context.scope c.args.head c.in_ok-function_of.field-0 pending c.args.opening c.args.tokens.now c.in_ok-parameters.parameters.rest.now c.in_ok-rest.rest.now c.args.depth c.args.reached c.in_ok-parameters.parameters.depth c.max.result c.in_ok-parameters.parameters.tree settled (sym c.requires.opening) (MatchResult-at_ok _ _ _ c.in_ok-parameters.ensures.0 c.read_parameters.ensures) (MatchResult-at_ok _ _ _ c.in_ok-rest.ensures.0 c.expect-next.ensures) (subst (λ v. IsFunction v c.in_ok-parameters.parameters.tree c.in_ok-function_of.field-0) c.in_ok-parameters.ensures.1 (subst (λ v. IsFunction v.0 v.1 c.in_ok-function_of.field-0) c.in_ok-rest.ensures.1 c.in_ok-function_of.ensures)) c.requires.deep c.requires.shallow c.max.ensures
 
 pub declarators::read_parameters-returns-then-not-begins_specifiers : goal.declarators::read_parameters-returns-then-not-begins_specifiers
 declarators::read_parameters-returns-then-not-begins_specifiers t c =
@@ -138,10 +138,10 @@ declarators::read_parameters-parameters-init t c =
     let first = c.in_ok-first.first in
     let h = c.in_ok-first.ensures in
     let stands = sym (c.begins_specifiers.ensures ∙ ap (λ s. begins_specifiers true c.args.context.scope.in_function s) c.sort_at.ensures) ∙ c.if-not-begins_specifiers.false in
-    let items = c.in_ok-push.ensures.items ∙ ap (λ v. v ++ first.tree.tree ∷ []) c.new-all.ensures.items in
+    let items = c.in_ok-all.ensures ∙ ap (λ v. v ++ first.tree.tree ∷ []) c.new.ensures.items in
     record {
-      so_far = first_given g c.args.depth first.depth c.args.tokens.now first.rest.now first.tree.tree first.tree.behind c.push.new.self.items (parameters_on g c.args.tokens.now c.next_token.result.1.now c.next_token.result.0 c.next_token.ensures stands) h items;
-      deep = one_given_deep first.tree.tree c.push.new.self.items first.depth items (given_depth (first_place first.rest.now) (param_of first.tree.tree) h.pending first.depth h.settled h.read.deep);
+      so_far = first_given g c.args.depth first.depth c.args.tokens.now first.rest.now first.tree.tree first.tree.behind c.in_ok-all.all.items (parameters_on g c.args.tokens.now c.next_token.result.1.now c.next_token.result.0 c.next_token.ensures stands) h items;
+      deep = one_given_deep first.tree.tree c.in_ok-all.all.items first.depth items (given_depth (first_place first.rest.now) (param_of first.tree.tree) h.pending first.depth h.settled h.read.deep);
       shallow = h.read.shallow;
       ended = h.read.ended;
       fewer = omega (arith, h.read.fewer);
@@ -174,7 +174,7 @@ declarators::read_parameters-returns-in_err-next t c =
     let stands = sym (c.is_mark.ensures ∙ ap (λ s. is_mark sorts_there.comma s) c.sort_at-in-parameters.ensures) ∙ c.if-not-is_mark.false in
     let other = sym (c.is_mark-in-parameters.ensures ∙ ap (λ s. is_mark sorts_there.ellipsis s) c.sort_at-in-parameters-2.ensures) ∙ c.if-is_mark.false in
     let on = parameter_next g c.args.tokens.now c.parameters.rest.now more comma c.parameters.all.items c.parameters.behind i.so_far c.next_token-in-parameters.ensures xs x c.next_token-in-parameters-2.ensures stands other in
-    rw (p.1, p.2) (stop_part g g g grammar.parameters (grammar.behind_comma (terminal comma) (given_list i.so_far.pending c.parameters.behind)) grammar.parameter (λ a. a) (comma_more g c.args.tokens.now c.parameters.rest.now more comma c.parameters.all.items c.parameters.behind i.so_far c.next_token-in-parameters.ensures) c.args.depth c.args.depth c.args.tokens.now more on (omega arith) c.in_err-next.field-0.0 c.in_err-next.ensures)
+    rw (p.1, p.2) (stop_part g g g grammar.parameters (grammar.behind_comma (terminal comma) (given_list i.so_far.pending c.parameters.behind)) grammar.parameter (λ a. a) (comma_more g c.args.tokens.now c.parameters.rest.now more comma c.parameters.all.items c.parameters.behind i.so_far c.next_token-in-parameters.ensures) c.args.depth c.args.depth c.args.tokens.now more on (omega arith) c.in_err-next.field-0.0 (MatchResult-at_err _ _ _ c.in_err-next.ensures c.read_parameter-in-parameters.ensures))
 
 pub declarators::read_parameters-parameters-preserved : goal.declarators::read_parameters-parameters-preserved
 declarators::read_parameters-parameters-preserved t c =
@@ -185,13 +185,13 @@ declarators::read_parameters-parameters-preserved t c =
     let x = c.next_token-in-parameters-2.result.0 in
     let xs = c.next_token-in-parameters-2.result.1.now in
     let next = c.in_ok-next.next in
-    let h = c.in_ok-next.ensures in
+    let h = (MatchResult-at_ok _ _ _ c.in_ok-next.ensures.0 c.read_parameter-in-parameters.ensures) in
     let stands = sym (c.is_mark.ensures ∙ ap (λ s. is_mark sorts_there.comma s) c.sort_at-in-parameters.ensures) ∙ c.if-not-is_mark.false in
     let other = sym (c.is_mark-in-parameters.ensures ∙ ap (λ s. is_mark sorts_there.ellipsis s) c.sort_at-in-parameters-2.ensures) ∙ c.if-is_mark.false in
     let shorter : length c.parameters.rest.now ≡ length (comma ∷ more) = ap length c.next_token-in-parameters.ensures in
     record {
-      so_far = next_given g c.args.tokens.now c.parameters.rest.now more comma c.parameters.all.items c.parameters.behind i.so_far c.next_token-in-parameters.ensures xs x c.next_token-in-parameters-2.ensures stands c.args.depth next.depth next.rest.now next.tree.tree c.push-in-parameters.new.self.items next.tree.behind other h c.in_ok-push-2.ensures.items;
-      deep = more_given_deep c.parameters.all.items c.push-in-parameters.new.self.items next.tree.tree c.parameters.reached next.depth c.max-reached.result c.in_ok-push-2.ensures.items i.deep (given_depth (first_place next.rest.now) (param_of next.tree.tree) h.pending next.depth h.settled h.read.deep) c.max-reached.ensures;
+      so_far = next_given g c.args.tokens.now c.parameters.rest.now more comma c.parameters.all.items c.parameters.behind i.so_far c.next_token-in-parameters.ensures xs x c.next_token-in-parameters-2.ensures stands c.args.depth next.depth next.rest.now next.tree.tree c.in_ok-all-2.all.items next.tree.behind other h (c.in_ok-all-2.ensures ∙ ap (λ v. v.items ++ next.tree.tree ∷ []) c.in_ok-next.ensures.1);
+      deep = more_given_deep c.parameters.all.items c.in_ok-all-2.all.items next.tree.tree c.parameters.reached next.depth c.max-reached.result (c.in_ok-all-2.ensures ∙ ap (λ v. v.items ++ next.tree.tree ∷ []) c.in_ok-next.ensures.1) i.deep (given_depth (first_place next.rest.now) (param_of next.tree.tree) h.pending next.depth h.settled h.read.deep) c.max-reached.ensures;
       shallow = omega (arith, c.max-reached.ensures, i.shallow, h.read.shallow);
       ended = h.read.ended;
       fewer = omega (arith, h.read.fewer, i.fewer, shorter);

@@ -1,6 +1,6 @@
 -- The goals of the readers of specifiers, structures and members.
 use Rattle.std.proofs.Common.{◌≡◌, ◌==◌, ◌≤◌, ◌∷◌, ◌++◌, [], map, false, length, Some, None, refl, sym, ap, ◌∙◌, subst, arith, rules}
-use Rattle.std.proofs.lemmas.Result.{err_from_is_err_and}
+use Rattle.std.proofs.lemmas.Result.{err_from_is_err_and, MatchResult-at_ok, MatchResult-at_err}
 use Rattle.sp_syntax.specs.View.{declaration_of, declarations, declarator_of}
 use Rattle.sp_syntax.specs.Depth.{declarations_depth}
 use Rattle.sp_grammar.specs.CTokens.{is_mark, view}
@@ -42,8 +42,8 @@ pub specifiers::read_members-members-init : goal.specifiers::read_members-member
 specifiers::read_members-members-init t c =
     let g = there c.args.context.types.now c.args.context.scope in
     let first = declaration_of c.args.first ∷ [] in
-    let items = c.in_ok-push.ensures.items ∙ ap (λ v. v ++ c.args.first ∷ []) c.new-all.ensures.items in
-    let same : map declaration_of c.push.new.self.items ≡ first = ap (λ v. map declaration_of v) items in
+    let items = c.in_ok-all.ensures ∙ ap (λ v. v ++ c.args.first ∷ []) c.new.ensures.items in
+    let same : map declaration_of c.in_ok-all.all.items ≡ first = ap (λ v. map declaration_of v) items in
     record {
       step = subst (λ v. IsStep g (grammar.members first) (grammar.members v) (λ a. a) c.args.tokens.now c.args.tokens.now) (sym same) (begun (grammar.at g (grammar.members first)) (c_tokens c.args.tokens.now));
       deep = subst (λ v. c.args.inner ≡ declarations_depth (declarations v)) (sym same) (omega (arith, c.requires.deep));
@@ -64,19 +64,19 @@ specifiers::read_members-returns-in_err-next t c =
     let ds = map declaration_of c.members.all.items in
     let stands = sym (c.begins_specifiers.ensures ∙ ap (λ s. begins_specifiers false c.args.context.scope.in_function s) c.sort_at.ensures) ∙ c.if-not-begins_specifiers.false in
     let on = members_on g first ds c.args.tokens.now c.members.rest.now c.next_token.result.1.now c.next_token.result.0 i.step c.next_token.ensures stands in
-    rw (p.1, p.2) (stop_part g g g (grammar.members first) (grammar.members ds) grammar.member (λ a. a) (members_more g ds) c.args.depth c.args.depth c.args.tokens.now c.members.rest.now on (omega arith) c.in_err-next.field-0.0 c.in_err-next.ensures)
+    rw (p.1, p.2) (stop_part g g g (grammar.members first) (grammar.members ds) grammar.member (λ a. a) (members_more g ds) c.args.depth c.args.depth c.args.tokens.now c.members.rest.now on (omega arith) c.in_err-next.field-0.0 (MatchResult-at_err _ _ _ c.in_err-next.ensures c.read_member.ensures))
 
 pub specifiers::read_members-members-preserved : goal.specifiers::read_members-members-preserved
 specifiers::read_members-members-preserved t c =
     let g = there c.args.context.types.now c.args.context.scope in
     let i = c.members.invariant in
-    let h = c.in_ok-next.ensures in
+    let h = (MatchResult-at_ok _ _ _ c.in_ok-next.ensures.0 c.read_member.ensures) in
     let first = declaration_of c.args.first ∷ [] in
     let ds = map declaration_of c.members.all.items in
     let d = declaration_of c.in_ok-next.next.tree in
     let stands = sym (c.begins_specifiers.ensures ∙ ap (λ s. begins_specifiers false c.args.context.scope.in_function s) c.sort_at.ensures) ∙ c.if-not-begins_specifiers.false in
     let on = members_on g first ds c.args.tokens.now c.members.rest.now c.next_token.result.1.now c.next_token.result.0 i.step c.next_token.ensures stands in
-    let same : map declaration_of c.push-in-members.new.self.items ≡ ds ++ d ∷ [] = ap (λ v. map declaration_of v) c.in_ok-push-2.ensures.items ∙ map_more (λ v. declaration_of v) c.members.all.items c.in_ok-next.next.tree in
+    let same : map declaration_of c.in_ok-all-2.all.items ≡ ds ++ d ∷ [] = ap (λ v. map declaration_of v) (c.in_ok-all-2.ensures ∙ ap (λ v. v.items ++ c.in_ok-next.next.tree ∷ []) c.in_ok-next.ensures.1) ∙ map_more (λ v. declaration_of v) c.members.all.items c.in_ok-next.next.tree in
     record {
       step = subst (λ v. IsStep g (grammar.members first) (grammar.members v) (λ a. a) c.args.tokens.now c.in_ok-next.next.rest.now) (sym same) (last (got on h.reads));
       deep = subst (λ v. c.max-reached.result ≡ declarations_depth (declarations v)) (sym same) (omega (arith, c.max-reached.ensures, i.deep, h.deep, declarations_snoc ds d));
@@ -117,7 +117,7 @@ specifiers::read_specifiers-returns-in_err-next t c =
     let more = c.in-Some.more in
     let seen = seen_by c.specifiers.seen.0 in
     let adds = added c.add_specifier.result more (add c.args.stores g.inside seen s) c.in-Some.is (c.add_specifier.ensures ∙ ap (λ v. add c.args.stores g.inside seen v) c.sort_at-sort.ensures) in
-    rw (p.1, p.2) (specifier_stop g c.args.stores c.args.tokens.now c.specifiers.rest.now xs x i.so_far.all c.specifiers.typedefs seen (seen_by more.0) (Named 0) c.args.depth 0 xs i.so_far.step c.next_token.ensures i.ended s refl adds c.in_err-next.field-0.0 c.in_err-next.ensures)
+    rw (p.1, p.2) (specifier_stop g c.args.stores c.args.tokens.now c.specifiers.rest.now xs x i.so_far.all c.specifiers.typedefs seen (seen_by more.0) (Named 0) c.args.depth 0 xs i.so_far.step c.next_token.ensures i.ended s refl adds c.in_err-next.field-0.0 (MatchResult-at_err _ _ _ c.in_err-next.ensures c.read_specifier.ensures))
 
 pub specifiers::read_specifiers-specifiers-preserved : goal.specifiers::read_specifiers-specifiers-preserved
 specifiers::read_specifiers-specifiers-preserved t c =
@@ -129,10 +129,10 @@ specifiers::read_specifiers-specifiers-preserved t c =
     let more = c.in-Some.more in
     let seen = seen_by c.specifiers.seen.0 in
     let next = c.in_ok-next.next in
-    let now = c.push.new.self.items in
-    let items = c.in_ok-push.ensures.items in
+    let now = c.in_ok-all.all.items in
+    let items = c.in_ok-all.ensures ∙ ap (λ v. v.items ++ next.tree ∷ []) c.in_ok-next.ensures.1 in
     let adds = added c.add_specifier.result more (add c.args.stores g.inside seen s) c.in-Some.is (c.add_specifier.ensures ∙ ap (λ v. add c.args.stores g.inside seen v) c.sort_at-sort.ensures) in
-    let one = one_more g c.args.stores c.args.tokens.now c.specifiers.rest.now xs x i.so_far.all c.specifiers.typedefs seen (seen_by more.0) next.tree c.args.depth next.depth next.rest.now i.so_far.step c.next_token.ensures i.ended s refl adds c.in_ok-next.ensures in
+    let one = one_more g c.args.stores c.args.tokens.now c.specifiers.rest.now xs x i.so_far.all c.specifiers.typedefs seen (seen_by more.0) next.tree c.args.depth next.depth next.rest.now i.so_far.step c.next_token.ensures i.ended s refl adds (MatchResult-at_ok _ _ _ c.in_ok-next.ensures.0 c.read_specifier.ensures) in
     let typedefs = c.is_either-typedefs.ensures ∙ ap (λ v. c.specifiers.typedefs || v) (c.is_mark.ensures ∙ ap (λ v. is_mark sorts_there.typedef v) c.sort_at-sort.ensures) in
     let shorter : length c.specifiers.rest.now ≡ length (x ∷ xs) = ap length c.next_token.ensures in
     let fewer : length next.rest.now ≤ length xs = one.fewer in
@@ -160,7 +160,7 @@ specifiers::read_specifiers-returns-then-not-is_typed t c =
     let s = view types (sort_of x.kind) in
     let seen = seen_by c.specifiers.seen.0 in
     let none = not_added c.add_specifier.result (add c.args.stores g.inside seen s) c.in_default.not-Some (c.add_specifier.ensures ∙ ap (λ v. add c.args.stores g.inside seen v) c.sort_at-sort.ensures) in
-    specifiers_refused types c.args.context.scope c.args.stores c.specifiers.seen.0 c.args.tokens.now c.specifiers.rest.now c.next_token.result.1.now x c.specifiers.all.items c.specifiers.all.items c.specifiers.typedefs c.args.depth i.so_far c.next_token.ensures none (sym c.is_typed.ensures ∙ c.if-not-is_typed.true) refl i.ended c.fault.result (subst (λ v. IsFaultFor types c.args.context.scope v c.specifiers.rest.now c.fault.result) c.purpose_of.ensures c.fault.ensures)
+    specifiers_refused types c.args.context.scope c.args.stores c.specifiers.seen.0 c.args.tokens.now c.specifiers.rest.now c.next_token.result.1.now x c.specifiers.all.items c.specifiers.all.items c.specifiers.typedefs c.args.depth i.so_far c.next_token.ensures none (sym c.is_typed.ensures ∙ c.if-not-is_typed.true) refl i.ended c.fault.result (subst (λ v. IsFaultFor types c.args.context.scope v c.specifiers.rest.now c.fault.result) c.purpose_of-purpose.ensures c.fault.ensures)
 
 pub specifiers::read_specifiers-returns : goal.specifiers::read_specifiers-returns
 specifiers::read_specifiers-returns t c =
@@ -256,7 +256,7 @@ specifiers::read_member-returns-in_err-first t c =
     let p = err_from_is_err_and c.from_residual-in_err-first.result c.from_residual-in_err-first.ensures.1 in
     let g = there c.args.context.types.now c.args.context.scope in
     let h = c.in_ok-specifiers.ensures in
-    rw (p.1, p.2) (stop_part g g g grammar.member grammar.member (grammar.declarator grammar.concrete) (λ a. a) (member_more g h.all) c.args.depth c.args.depth c.args.tokens.now c.in_ok-specifiers.specifiers.rest.now (got (member_begun g c.args.tokens.now c.requires.ended) h.read.reads) (omega arith) c.in_err-first.field-0.0 c.in_err-first.ensures)
+    rw (p.1, p.2) (stop_part g g g grammar.member grammar.member (grammar.declarator grammar.concrete) (λ a. a) (member_more g h.all) c.args.depth c.args.depth c.args.tokens.now c.in_ok-specifiers.specifiers.rest.now (got (member_begun g c.args.tokens.now c.requires.ended) h.read.reads) (omega arith) c.in_err-first.field-0.0 (MatchResult-at_err _ _ _ c.in_err-first.ensures c.read_declarator-next.ensures))
 
 pub specifiers::read_member-returns-in_err-items : goal.specifiers::read_member-returns-in_err-items
 specifiers::read_member-returns-in_err-items t c =
@@ -264,8 +264,8 @@ specifiers::read_member-returns-in_err-items t c =
     let g = there c.args.context.types.now c.args.context.scope in
     let h = c.in_ok-specifiers.ensures in
     let first = c.in_ok-first.first in
-    let one = concrete_read g c.args.depth first.depth c.in_ok-specifiers.specifiers.rest.now first.rest.now first.tree c.in_ok-first.ensures in
-    rw (p.1, p.2) (stop_part g g g grammar.member grammar.member (grammar.member_items (first_items first.tree)) (λ a. a) (member_closing g h.all) c.args.depth c.args.depth c.args.tokens.now first.rest.now (got (got (member_begun g c.args.tokens.now c.requires.ended) h.read.reads) one.reads) (omega arith) c.in_err-items.field-0.0 c.in_err-items.ensures)
+    let one = concrete_read g c.args.depth first.depth c.in_ok-specifiers.specifiers.rest.now first.rest.now first.tree (MatchResult-at_ok _ _ _ c.in_ok-first.ensures.0 c.read_declarator-next.ensures) in
+    rw (p.1, p.2) (stop_part g g g grammar.member grammar.member (grammar.member_items (first_items first.tree)) (λ a. a) (member_closing g h.all) c.args.depth c.args.depth c.args.tokens.now first.rest.now (got (got (member_begun g c.args.tokens.now c.requires.ended) h.read.reads) one.reads) (omega arith) c.in_err-items.field-0.0 (MatchResult-at_err _ _ _ c.in_err-items.ensures c.read_items-next.ensures))
 
 pub specifiers::read_member-returns-in_err-rest : goal.specifiers::read_member-returns-in_err-rest
 specifiers::read_member-returns-in_err-rest t c =
@@ -274,10 +274,10 @@ specifiers::read_member-returns-in_err-rest t c =
     let g = there types c.args.context.scope in
     let h = c.in_ok-specifiers.ensures in
     let first = c.in_ok-first.first in
-    let w = c.in_ok-items.ensures in
+    let w = (MatchResult-at_ok _ _ _ c.in_ok-items.ensures.0 c.read_items-next.ensures) in
     let is = c.in_ok-items.items.tree in
-    let one = concrete_read g c.args.depth first.depth c.in_ok-specifiers.specifiers.rest.now first.rest.now first.tree c.in_ok-first.ensures in
-    rw (p.1, p.2) (stop_mark types c.args.context.scope g grammar.member grammar.member (λ a. a) sorts_there.semicolon is.behind (member_done g h.all (map item_seen is.all.items)) g c.args.depth c.args.tokens.now c.in_ok-items.items.rest.now (got (got (got (member_begun g c.args.tokens.now c.requires.ended) h.read.reads) one.reads) w.read.reads) w.read.ended c.in_err-rest.field-0.0 c.in_err-rest.ensures)
+    let one = concrete_read g c.args.depth first.depth c.in_ok-specifiers.specifiers.rest.now first.rest.now first.tree (MatchResult-at_ok _ _ _ c.in_ok-first.ensures.0 c.read_declarator-next.ensures) in
+    rw (p.1, p.2) (stop_mark types c.args.context.scope g grammar.member grammar.member (λ a. a) sorts_there.semicolon is.behind (member_done g h.all (map item_seen is.all.items)) g c.args.depth c.args.tokens.now c.in_ok-items.items.rest.now (got (got (got (member_begun g c.args.tokens.now c.requires.ended) h.read.reads) one.reads) w.read.reads) w.read.ended c.in_err-rest.field-0.0 (MatchResult-at_err _ _ _ c.in_err-rest.ensures c.expect-next.ensures))
 
 pub specifiers::read_member-returns : goal.specifiers::read_member-returns
 specifiers::read_member-returns t c =
@@ -287,16 +287,16 @@ specifiers::read_member-returns t c =
     let first = c.in_ok-first.first in
     let items = c.in_ok-items.items in
     let place = c.next_token.result.0.place in
-    let one = concrete_read g c.args.depth first.depth ss.rest.now first.rest.now first.tree c.in_ok-first.ensures in
-    rw fold-roll-Declaration (member_read types c.args.context.scope c.args.depth ss.depth items.depth c.max.result c.args.tokens.now ss.rest.now first.rest.now items.rest.now c.in_ok-rest.rest.now ss.tree first.tree items.tree first.depth place (declaration (specifiers_of ss.tree.all.items) (init_declarators (map item_seen items.tree.all.items)) place) c.requires.ended c.in_ok-specifiers.ensures one c.in_ok-items.ensures c.in_ok-rest.ensures c.max.ensures (ap (λ v. first_place v) (sym c.next_token.ensures)) refl)
+    let one = concrete_read g c.args.depth first.depth ss.rest.now first.rest.now first.tree (MatchResult-at_ok _ _ _ c.in_ok-first.ensures.0 c.read_declarator-next.ensures) in
+    rw (fold-roll-Declaration, ap (λ v. v.0) c.in_ok-rest.ensures.1, ap (λ v. v.1) c.in_ok-rest.ensures.1, c.in_ok-items.ensures.1, c.in_ok-first.ensures.1) (member_read types c.args.context.scope c.args.depth ss.depth items.depth c.max.result c.args.tokens.now ss.rest.now first.rest.now items.rest.now c.in_ok-rest.rest.now ss.tree first.tree items.tree first.depth place (declaration (specifiers_of ss.tree.all.items) (init_declarators (map item_seen items.tree.all.items)) place) c.requires.ended c.in_ok-specifiers.ensures one (MatchResult-at_ok _ _ _ c.in_ok-items.ensures.0 c.read_items-next.ensures) (MatchResult-at_ok _ _ _ c.in_ok-rest.ensures.0 c.expect-next.ensures) c.max.ensures (ap (λ v. first_place v) (sym c.next_token.ensures)) refl)
 
 pub specifiers::read_items-items-init : goal.specifiers::read_items-items-init
 specifiers::read_items-items-init t c =
     let g = there c.args.context.types.now c.args.context.scope in
-    let items = c.in_ok-push.ensures.items ∙ ap (λ v. v ++ c.item_of.result ∷ []) c.new-all.ensures.items in
+    let items = c.in_ok-all.ensures ∙ ap (λ v. v ++ c.item_of.result ∷ []) c.new.ensures.items in
     record {
-      so_far = first_item g c.args.first c.args.tokens.now c.push.new.self.items c.item_of.result c.closed-purpose.result items c.item_of.ensures c.closed-purpose.ensures;
-      deep = first_item_deep c.args.first c.push.new.self.items c.item_of.result c.args.inner items c.item_of.ensures c.requires.deep;
+      so_far = first_item g c.args.first c.args.tokens.now c.in_ok-all.all.items c.item_of.result c.closed-purpose.result items c.item_of.ensures c.closed-purpose.ensures;
+      deep = first_item_deep c.args.first c.in_ok-all.all.items c.item_of.result c.args.inner items c.item_of.ensures c.requires.deep;
       shallow = c.requires.shallow;
       ended = c.requires.ended;
       fewer = omega arith;
@@ -313,7 +313,7 @@ specifiers::read_items-returns-in_err-next t c =
     let x = c.next_token.result.0 in
     let xs = c.next_token.result.1.now in
     let stands = sym (c.is_mark.ensures ∙ ap (λ s. is_mark sorts_there.comma s) c.sort_at.ensures) ∙ c.if-not-is_mark.false in
-    rw (p.1, p.2) (stop_part g g g (grammar.member_items (first_items c.args.first)) (grammar.member_items (items_seen c.items.all.items i.so_far.names c.items.purpose)) (grammar.declarator grammar.concrete) (λ a. a) (items_more g c.args.first c.args.tokens.now c.items.rest.now xs x c.items.all.items c.items.purpose i.so_far c.next_token.ensures) c.args.depth c.args.depth c.args.tokens.now xs (items_on g c.args.first c.args.tokens.now c.items.rest.now xs x c.items.all.items c.items.purpose i.so_far c.next_token.ensures stands) (omega arith) c.in_err-next.field-0.0 c.in_err-next.ensures)
+    rw (p.1, p.2) (stop_part g g g (grammar.member_items (first_items c.args.first)) (grammar.member_items (items_seen c.items.all.items i.so_far.names c.items.purpose)) (grammar.declarator grammar.concrete) (λ a. a) (items_more g c.args.first c.args.tokens.now c.items.rest.now xs x c.items.all.items c.items.purpose i.so_far c.next_token.ensures) c.args.depth c.args.depth c.args.tokens.now xs (items_on g c.args.first c.args.tokens.now c.items.rest.now xs x c.items.all.items c.items.purpose i.so_far c.next_token.ensures stands) (omega arith) c.in_err-next.field-0.0 (MatchResult-at_err _ _ _ c.in_err-next.ensures c.read_declarator-next.ensures))
 
 pub specifiers::read_items-items-preserved : goal.specifiers::read_items-items-preserved
 specifiers::read_items-items-preserved t c =
@@ -322,15 +322,15 @@ specifiers::read_items-items-preserved t c =
     let x = c.next_token.result.0 in
     let xs = c.next_token.result.1.now in
     let next = c.in_ok-next.next in
-    let h = c.in_ok-next.ensures in
+    let h = (MatchResult-at_ok _ _ _ c.in_ok-next.ensures.0 c.read_declarator-next.ensures) in
     let new = c.item_of-in-items.result in
-    let now = c.push-in-items.new.self.items in
+    let now = c.in_ok-all-2.all.items in
     let stands = sym (c.is_mark.ensures ∙ ap (λ s. is_mark sorts_there.comma s) c.sort_at.ensures) ∙ c.if-not-is_mark.false in
     let one = concrete_read g c.args.depth next.depth xs next.rest.now next.tree h in
     let shorter : length c.items.rest.now ≡ length (x ∷ xs) = ap length c.next_token.ensures in
     record {
-      so_far = next_item g c.args.first c.args.tokens.now c.items.rest.now xs x c.items.all.items c.items.purpose i.so_far c.next_token.ensures c.args.depth next.depth next.rest.now next.tree now new c.closed-purpose-in-items.result stands one c.in_ok-push-2.ensures.items c.item_of-in-items.ensures c.closed-purpose-in-items.ensures;
-      deep = more_item_deep next.tree c.items.all.items now new c.items.reached next.depth c.max-reached.result c.in_ok-push-2.ensures.items c.item_of-in-items.ensures i.deep (declared_deep (first_place next.rest.now) (declarator_of next.tree.tree) h.pending next.depth h.settled h.read.deep) c.max-reached.ensures;
+      so_far = next_item g c.args.first c.args.tokens.now c.items.rest.now xs x c.items.all.items c.items.purpose i.so_far c.next_token.ensures c.args.depth next.depth next.rest.now next.tree now new c.closed-purpose-in-items.result stands one (c.in_ok-all-2.ensures ∙ ap (λ v. v.items ++ new ∷ []) c.in_ok-next.ensures.1) c.item_of-in-items.ensures c.closed-purpose-in-items.ensures;
+      deep = more_item_deep next.tree c.items.all.items now new c.items.reached next.depth c.max-reached.result (c.in_ok-all-2.ensures ∙ ap (λ v. v.items ++ new ∷ []) c.in_ok-next.ensures.1) c.item_of-in-items.ensures i.deep (declared_deep (first_place next.rest.now) (declarator_of next.tree.tree) h.pending next.depth h.settled h.read.deep) c.max-reached.ensures;
       shallow = omega (arith, c.max-reached.ensures, i.shallow, h.read.shallow);
       ended = h.read.ended;
       fewer = omega (arith, h.read.fewer, i.fewer, shorter);
@@ -348,8 +348,8 @@ specifiers::read_items-returns t c =
     let other = sym (c.is_mark.ensures ∙ ap (λ s. is_mark sorts_there.comma s) c.sort_at.ensures) ∙ c.if-not-is_mark.true in
     items_end g c.args.first c.args.tokens.now c.items.rest.now xs x c.items.all.items c.items.purpose i.so_far c.next_token.ensures c.args.depth c.items.reached _ other refl refl i.deep i.shallow i.ended i.fewer
 
-pub specifiers::read_member-read_items-requires : goal.specifiers::read_member-read_items-requires
-specifiers::read_member-read_items-requires t c =
-    let h = c.in_ok-first.ensures in
+pub specifiers::read_member-read_items-next-requires : goal.specifiers::read_member-read_items-next-requires
+specifiers::read_member-read_items-next-requires t c =
+    let h = (MatchResult-at_ok _ _ _ c.in_ok-first.ensures.0 c.read_declarator-next.ensures) in
     let deep = declared_deep (first_place c.in_ok-first.first.rest.now) (declarator_of c.in_ok-first.first.tree.tree) h.pending c.in_ok-first.first.depth h.settled h.read.deep in
     (first_of (omega (arith, h.read.fewer, c.in_ok-specifiers.ensures.fewer), search rules), (h.read.ended, (deep, h.read.shallow)))

@@ -3,7 +3,7 @@ use Rattle.std.specs.Prelude.{max}
 use Rattle.sp_c_statements.proofs.HeadLaws.{ended_behind_head}
 use Rattle.sp_c_statements.specs.declared.heads.Head.TheVariants as heads
 use Rattle.sp_c_statements.specs.declared.heads.PrefixKind.TheVariants as kinds
-use Rattle.std.proofs.lemmas.Result.{err_from_is_err_and}
+use Rattle.std.proofs.lemmas.Result.{err_from_is_err_and, MatchResult-at_ok, MatchResult-at_err}
 use Rattle.sp_c_statements.proofs.PrefixSteps as steps
 use Rattle.sp_c_statements.proofs.prefixes.read_for.Goals as goal
 
@@ -21,18 +21,18 @@ pub returns-in_err-test : goal.returns-in_err-test
 returns-in_err-test c =
     let p = err_from_is_err_and c.from_residual-in_err-test.result c.from_residual-in_err-test.ensures.1 in
     let a = c.in_ok-start.start in
-    rw (p.1, p.2) (steps.for_test c.args.context.types.now c.args.context.scope c.args.depth c.args.tokens.now c.next_token.result.1.now c.next_token.result.0 c.next_token.ensures c.requires.room c.requires.head c.in_ok-inner.inner.now c.in_ok-inner.ensures a.depth a.tree.value a.rest.now a.tree.end c.in_ok-start.ensures c.in_err-test.field-0.0 c.in_err-test.ensures)
+    rw (p.1, p.2) (steps.for_test c.args.context.types.now c.args.context.scope c.args.depth c.args.tokens.now c.next_token.result.1.now c.next_token.result.0 c.next_token.ensures c.requires.room c.requires.head c.in_ok-inner.inner.now c.in_ok-inner.ensures a.depth a.tree.value a.rest.now a.tree.end c.in_ok-start.ensures c.in_err-test.field-0.0 (MatchResult-at_err _ _ _ c.in_err-test.ensures c.read_clause-next.ensures))
 
 pub returns-in_err-step : goal.returns-in_err-step
 returns-in_err-step c =
     let p = err_from_is_err_and c.from_residual-in_err-step.result c.from_residual-in_err-step.ensures.1 in
     let a = c.in_ok-start.start in
     let b = c.in_ok-test.test in
-    rw (p.1, p.2) (steps.for_step c.args.context.types.now c.args.context.scope c.args.depth c.args.tokens.now c.next_token.result.1.now c.next_token.result.0 c.next_token.ensures c.requires.room c.requires.head c.in_ok-inner.inner.now c.in_ok-inner.ensures a.depth a.tree.value a.rest.now a.tree.end c.in_ok-start.ensures b.depth b.tree.value b.rest.now b.tree.end c.in_ok-test.ensures c.in_err-step.field-0.0 c.in_err-step.ensures)
+    rw (p.1, p.2) (steps.for_step c.args.context.types.now c.args.context.scope c.args.depth c.args.tokens.now c.next_token.result.1.now c.next_token.result.0 c.next_token.ensures c.requires.room c.requires.head c.in_ok-inner.inner.now c.in_ok-inner.ensures a.depth a.tree.value a.rest.now a.tree.end c.in_ok-start.ensures b.depth b.tree.value b.rest.now b.tree.end (MatchResult-at_ok _ _ _ c.in_ok-test.ensures.0 c.read_clause-next.ensures) c.in_err-step.field-0.0 (MatchResult-at_err _ _ _ c.in_err-step.ensures c.read_clause-next-2.ensures))
 
 pub returns : goal.returns
 returns c =
     let a = c.in_ok-start.start in
     let b = c.in_ok-test.test in
     let w = c.in_ok-step.step in
-    steps.for_read c.args.context.types.now c.args.context.scope c.args.depth c.args.tokens.now c.next_token.result.1.now c.next_token.result.0 c.next_token.ensures c.requires.room c.requires.head c.in_ok-inner.inner.now c.in_ok-inner.ensures a.depth a.tree.value a.rest.now a.tree.end c.in_ok-start.ensures b.depth b.tree.value b.rest.now b.tree.end c.in_ok-test.ensures w.depth c.max-2.result w.tree.value w.rest.now w.tree.end c.in_ok-step.ensures (c.max-2.ensures ∙ ap (λ v. max v w.depth) c.max.ensures)
+    rw (ap (λ b. b.0) c.in_ok-step.ensures.1, ap (λ b. b.1) c.in_ok-step.ensures.1, c.in_ok-test.ensures.1) (steps.for_read c.args.context.types.now c.args.context.scope c.args.depth c.args.tokens.now c.next_token.result.1.now c.next_token.result.0 c.next_token.ensures c.requires.room c.requires.head c.in_ok-inner.inner.now c.in_ok-inner.ensures a.depth a.tree.value a.rest.now a.tree.end c.in_ok-start.ensures b.depth b.tree.value b.rest.now b.tree.end (MatchResult-at_ok _ _ _ c.in_ok-test.ensures.0 c.read_clause-next.ensures) w.depth c.max-2.result w.tree.value w.rest.now w.tree.end (MatchResult-at_ok _ _ _ c.in_ok-step.ensures.0 c.read_clause-next-2.ensures) (c.max-2.ensures ∙ ap (λ v. max v w.depth) c.max.ensures))
