@@ -8,7 +8,7 @@ use Rattle.sp_ir.specs.Commands.{Expression}
 use Rattle.sp_ir.specs.Formed.{is_struct, is_integer, is_pointer, is_array, is_floating, is_scalar}
 use Rattle.sp_ir.specs.Terrain.{size_of}
 use Rattle.sp_draft.specs.Context.{Context, is_void}
-use Rattle.sp_typing.specs.Refines.{Tells, of_void, of_integer, of_floating, of_pointer, of_array, of_struct, of_function}
+use Rattle.sp_typing.specs.Refines.{Tells, lays_void, lays_integer, lays_floating, lays_pointer, lays_array, lays_struct, lays_function}
 use Rattle.sp_typing.specs.Sorts.{agrees, same_value, IsStored, IsStepped}
 use Rattle.sp_draft_laws.specs.Uses.{Yields}
 
@@ -98,13 +98,13 @@ agrees_self (function s) h = refl
 
 -- what tells at least as much agrees
 pub tells_agree : (u t : CType) → Tells u t → is_floating t ≡ false → agrees u t ≡ true
-tells_agree u t of_void h = refl
-tells_agree u t (of_integer k) h = refl
-tells_agree u t (of_floating k) h = sym h
-tells_agree u t (of_pointer a b x) h = refl
-tells_agree u t (of_array a b n m x k) h = refl
-tells_agree u t (of_struct k) h = eq-eqb k k refl
-tells_agree u t (of_function a b) h = refl
+tells_agree u t lays_void h = refl
+tells_agree u t (lays_integer k) h = refl
+tells_agree u t (lays_floating k) h = sym h
+tells_agree u t (lays_pointer a b) h = refl
+tells_agree u t (lays_array a b n m x k) h = refl
+tells_agree u t (lays_struct k) h = eq-eqb k k refl
+tells_agree u t (lays_function a b) h = refl
 
 -- ---- sizes
 

@@ -1,5 +1,5 @@
 -- What several units have together: the objects and functions of their program (C90 6.1.2.2).
-use Rattle.std.specs.Prelude.{◌≡◌, ℕ, ℤ, List, [], ◌∷◌, ◌++◌, Option, map, nat_eq, slice_set, slice_index_or, Result, Ok, Err, ⊤}
+use Rattle.std.specs.Prelude.{◌≡◌, ℕ, ℤ, Bool, List, [], ◌∷◌, ◌++◌, Option, map, nat_eq, slice_set, slice_index_or, Result, Ok, Err, ⊤}
 use Rattle.indexmap.specs.IndexMap.{insert_entry}
 use Rattle.sp_types.specs.Types.{CType, Signature}
 use Rattle.sp_types.specs.Programs.{Object, Function}
@@ -7,9 +7,11 @@ use Rattle.sp_scopes.specs.Scopes.{entry}
 use Rattle.sp_env.specs.declared.env.Entity.{Entity}
 
 -- an object of the program: its type there, and of its declarations the one that tells all else,
--- with the number of that one's unit, whose structs, objects and functions its trees name
+-- with the number of that one's unit, whose structs, objects and functions its trees name; it is
+-- incomplete where that unit doesn't tell the members of its struct (6.1.2.5)
 pub record ObjectEntry : Type 0 where
   pub of : CType
+  pub incomplete : Bool
   pub source : Object
   pub unit : ℕ
 

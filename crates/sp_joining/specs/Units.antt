@@ -2,7 +2,7 @@
 use Rattle.std.specs.Prelude.{ℕ, List, [], ◌∷◌, length, slice_index_or}
 use Rattle.sp_units.specs.Units.{CheckedUnit}
 use Rattle.sp_joining.specs.Entries.{Joined, Numbers, renumbered, with_texts, one_more}
-use Rattle.sp_joining.specs.Objects.{formals_of, objects_joined}
+use Rattle.sp_joining.specs.Objects.{owned_by, objects_joined}
 use Rattle.sp_joining.specs.Functions.{functions_joined}
 
 abbrev pub numbers : List ℕ → List ℕ → List ℕ → Numbers
@@ -19,7 +19,7 @@ with_objects ss u x y = with_functions ss x y.0 (functions_joined ss u ([], y.1)
 -- the unit of the number `u`: first its objects, then its functions; `ss` has the program's number
 -- of each of its structs
 abbrev pub unit_joined : List ℕ → ℕ → Joined → CheckedUnit → Numbers × Joined
-unit_joined ss u j x = with_objects ss u x (objects_joined ss (formals_of x.functions) u ([], j) x.objects)
+unit_joined ss u j x = with_objects ss u x (objects_joined x.structs ss (owned_by x.functions x.definitions) u ([], j) x.objects)
 
 -- the next unit, behind the numbers of those before it; `sss` has for each unit the program's
 -- number of each of its structs

@@ -9,7 +9,7 @@ use Rattle.sp_joining.specs.declared.entries.UnitNumbers.{UnitNumbers}
 use Rattle.sp_joining.specs.declared.joined.Joined.{Joined as CodeJoined}
 
 abbrev pub object_entry_of : CodeObject → ObjectEntry
-object_entry_of e = record { of = type_of e.of; source = object_of e.source.now; unit = e.unit }
+object_entry_of e = record { of = type_of e.of; incomplete = e.incomplete; source = object_of e.source.now; unit = e.unit }
 
 abbrev pub function_entry_of : CodeFunction → FunctionEntry
 function_entry_of e = record { of = signature_of e.of; source = function_of e.source.now; unit = e.unit }

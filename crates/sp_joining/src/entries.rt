@@ -2,10 +2,11 @@
 use sp_types::{CType, FunctionDef, ObjectDef, Signature};
 
 /// An object of the program: its type there, and the declaration that tells all else, with the
-/// number of its unit.
+/// number of its unit, and whether its struct is incomplete in that unit.
 #[derive(Drop)]
 pub struct ObjectEntry<'a> {
     pub of: CType,
+    pub incomplete: bool,
     pub source: &'a ObjectDef,
     pub unit: u32,
 }

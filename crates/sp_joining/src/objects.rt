@@ -1,7 +1,9 @@
 //! Objects of units as those of their program.
-ghost use Rattle.std.specs.Prelude.{◌≡◌, ℕ, [], IfOk, map, nat_eq};
+ghost use Rattle.std.specs.Prelude.{◌≡◌, ℕ, [], ◌++◌, IfOk, map, nat_eq, slice_get};
 ghost use Rattle.std.specs.List.{list_any};
 ghost use Rattle.sp_types.specs.Programs.{object_of, function_of};
+ghost use Rattle.sp_types.specs.View.{type_of, struct_of};
+ghost use Rattle.sp_operands.specs.Conversions.{is_open_struct};
 ghost use Rattle.sp_joining.specs.Entries.{GivesIn};
 ghost use Rattle.sp_joining.specs.Views.{joined_of, object_entry_of};
 ghost use Rattle.sp_joining.specs.Objects as rules;
@@ -12,8 +14,9 @@ use indexmap::IndexSet;
 use sp_conflicts::{defines_object, is_external};
 use sp_env::Entity;
 use sp_names::composite;
+use sp_operands::is_complete;
 use sp_renaming::renamed_type;
-use sp_types::{FunctionDef, ObjectDef, Storage};
+use sp_types::{CType, FunctionDef, ObjectDef, Storage, StructType};
 use std::alloc::{AllocError, Global};
 
 /// An entry that one declaration tells, with the composite type of it and another.
@@ -28,9 +31,17 @@ fn told<'a>(
     let of = composite(alloc, &told.of, &other.of)?;
     Ok(ObjectEntry {
         of,
+        incomplete: told.incomplete,
         source: told.source,
         unit: told.unit,
     })
+}
+
+/// Whether the later of two declarations of one object tells what the composite type doesn't.
+fn tells_more(new: &ObjectEntry<'_>, old: &ObjectEntry<'_>) -> bool
+    ensures { result ≡ rules.tells_more (object_entry_of new.now) (object_entry_of old.now) }
+{
+    defines_object(new.source.storage) || old.incomplete && !new.incomplete
 }
 
 /// Two declarations of one object.
@@ -42,7 +53,7 @@ fn composed<'a>(
     ensures { IfOk result (λ e. object_entry_of e ≡
         rules.object_composed (object_entry_of old.now) (object_entry_of new.now)) }
 {
-    if defines_object(new.source.storage) {
+    if tells_more(new, old) {
         told(alloc, new, old)
     } else {
         told(alloc, old, new)
@@ -100,15 +111,32 @@ fn object_joined<'a>(
     }
 }
 
-/// The objects of the parameters of functions.
-fn formals_of(alloc: Global, functions: &[FunctionDef]) -> Result<Vec<u32>, AllocError>
-    ensures { IfOk result (λ ks. ks.items ≡ rules.formals_of (map function_of functions.now)) }
+/// Adds the parameters and locals of a function, where it is there.
+fn add_own(owned: &mut Vec<u32>, functions: &[FunctionDef], number: u32) -> Result<(), AllocError>
+    ensures { IfOk result (λ u. owned.new.items ≡
+        owned.old.items ++ rules.own_objects (slice_get (map function_of functions.now) number)) }
 {
-    let mut formals = Vec::new(alloc);
-    for function in functions {
-        formals.extend_from_slice(&function.formals)?;
+    let Some(function) = functions.get(number as usize) else {
+        return Ok(());
+    };
+    owned.extend_from_slice(&function.formals)?;
+    owned.extend_from_slice(&function.locals)
+}
+
+/// The parameters and locals of the functions of these numbers.
+fn owned_by(
+    alloc: Global,
+    functions: &[FunctionDef],
+    definitions: &[u32],
+) -> Result<Vec<u32>, AllocError>
+    ensures { IfOk result (λ ks.
+        ks.items ≡ rules.owned_by (map function_of functions.now) definitions.now) }
+{
+    let mut owned = Vec::new(alloc);
+    for number in definitions {
+        add_own(&mut owned, functions, *number)?;
     }
-    Ok(formals)
+    Ok(owned)
 }
 
 /// The set of these numbers.
@@ -123,26 +151,38 @@ fn set_of(alloc: Global, numbers: &[u32]) -> Result<IndexSet<usize>, AllocError>
     Ok(set)
 }
 
-/// Whether an object is a parameter of a prototype (C90 6.5.4.3).
-fn is_dropped(formals: &IndexSet<usize>, number: usize, storage: Storage) -> bool
-    ensures { result ≡ rules.is_dropped formals.now.keys number storage }
+/// Whether an object passes and is of no function that the unit defines (C90 6.5.4.3).
+fn is_dropped(owned: &IndexSet<usize>, number: usize, storage: Storage) -> bool
+    ensures { result ≡ rules.is_dropped owned.now.keys number storage }
 {
-    matches!(storage, Storage::Formal) && !formals.contains(&number)
+    matches!(storage, Storage::Auto | Storage::Formal) && !owned.contains(&number)
+}
+
+/// Whether a struct has no members in its unit (C90 6.1.2.5).
+fn is_incomplete(of: &CType, table: &[StructType]) -> bool
+    ensures { result ≡ is_open_struct (map struct_of table.now) (type_of of.now) }
+{
+    match of {
+        CType::Struct(_) => !is_complete(of, table),
+        _ => false,
+    }
 }
 
 /// An object of a unit as an entry of the program.
 fn object_entry<'a>(
     alloc: Global,
+    table: &[StructType],
     structs: &[u32],
     unit: u32,
     object: &'a ObjectDef,
 ) -> Result<ObjectEntry<'a>, AllocError>
     ensures { IfOk result (λ e. object_entry_of e ≡
-        rules.object_entry structs.now unit (object_of object.now)) }
+        rules.object_entry (map struct_of table.now) structs.now unit (object_of object.now)) }
 {
     let of = renamed_type(alloc, &object.of, structs)?;
     Ok(ObjectEntry {
         of,
+        incomplete: is_incomplete(&object.of, table),
         source: object,
         unit,
     })
@@ -152,6 +192,7 @@ fn object_entry<'a>(
 fn next_object<'a>(
     alloc: Global,
     joined: &mut Joined<'a>,
+    table: &[StructType],
     structs: &[u32],
     unit: u32,
     mut numbers: Vec<u32>,
@@ -159,7 +200,7 @@ fn next_object<'a>(
     object: &'a ObjectDef,
 ) -> Result<Vec<u32>, AllocError>
     ensures { GivesIn (λ ns. ns.items)
-        (rules.next_object structs.now unit (numbers.items, joined_of joined.old) dropped
+        (rules.next_object (map struct_of table.now) structs.now unit (numbers.items, joined_of joined.old) dropped
         (object_of object.now))
         (joined_of joined.new) result }
 {
@@ -167,30 +208,33 @@ fn next_object<'a>(
         numbers.push(0)?;
         return Ok(numbers);
     }
-    let entry = object_entry(alloc, structs, unit, object)?;
+    let entry = object_entry(alloc, table, structs, unit, object)?;
     let number = object_joined(alloc, joined, entry)?;
     numbers.push(number)?;
     Ok(numbers)
 }
 
-/// The objects of a unit, whose functions have these formals: their numbers in the program.
+/// The objects of a unit, whose functions own these: their numbers in the program.
 fn all_joined<'a>(
     alloc: Global,
     joined: &mut Joined<'a>,
+    table: &[StructType],
     structs: &[u32],
     unit: u32,
-    formals: &IndexSet<usize>,
+    owned: &IndexSet<usize>,
     objects: &'a [ObjectDef],
 ) -> Result<Vec<u32>, AllocError>
     ensures { GivesIn (λ ns. ns.items)
-        (rules.objects_joined structs.now formals.now.keys unit ([], joined_of joined.old)
+        (rules.objects_joined (map struct_of table.now) structs.now owned.now.keys unit ([], joined_of joined.old)
         (map object_of objects.now))
         (joined_of joined.new) result }
 {
     let mut numbers = Vec::new(alloc);
     'objects: for object in objects {
-        let dropped = is_dropped(formals, numbers.len(), object.storage);
-        numbers = next_object(alloc, joined, structs, unit, numbers, dropped, object)?;
+        let dropped = is_dropped(owned, numbers.len(), object.storage);
+        numbers = next_object(
+            alloc, joined, table, structs, unit, numbers, dropped, object,
+        )?;
     }
     Ok(numbers)
 }
@@ -199,16 +243,18 @@ fn all_joined<'a>(
 pub(crate) fn objects_joined<'a>(
     alloc: Global,
     joined: &mut Joined<'a>,
+    table: &[StructType],
     structs: &[u32],
     unit: u32,
     objects: &'a [ObjectDef],
     functions: &[FunctionDef],
+    definitions: &[u32],
 ) -> Result<Vec<u32>, AllocError>
     ensures { GivesIn (λ ns. ns.items)
-        (rules.objects_joined structs.now (rules.formals_of (map function_of functions.now)) unit
-        ([], joined_of joined.old) (map object_of objects.now))
+        (rules.objects_joined (map struct_of table.now) structs.now
+        (rules.owned_by (map function_of functions.now) definitions.now) unit ([], joined_of joined.old) (map object_of objects.now))
         (joined_of joined.new) result }
 {
-    let formals = set_of(alloc, &formals_of(alloc, functions)?)?;
-    all_joined(alloc, joined, structs, unit, &formals, objects)
+    let owned = set_of(alloc, &owned_by(alloc, functions, definitions)?)?;
+    all_joined(alloc, joined, table, structs, unit, &owned, objects)
 }

@@ -39,10 +39,12 @@ fn unit_joined<'a>(
     let objects = objects_joined(
         alloc,
         joined,
+        &unit.structs,
         structs,
         number,
         &unit.objects,
         &unit.functions,
+        &unit.definitions,
     )?;
     let functions = functions_joined(alloc, joined, structs, number, &unit.functions)?;
     let definitions = renumbered(alloc, &functions, &unit.definitions)?;

@@ -1,11 +1,12 @@
 -- The numbers that units have in their program are those of the links.
 use Rattle.std.proofs.Common.{◌≡◌, ℕ, zero, suc, ◌+◌, Bool, true, false, length, List, [], ◌∷◌, ◌++◌, Some, refl, sym, subst, ◌∙◌, true≢false, arith}
 use Rattle.std.specs.Prelude.{slice_get, slice_index_or, ⊤}
+use Rattle.sp_types.specs.Types.{Struct}
 use Rattle.sp_types.specs.Programs.{Object, Function}
 use Rattle.sp_units.specs.Units.{CheckedUnit}
 use Rattle.sp_conflicts.specs.Declarations.{is_external}
 use Rattle.sp_joining.specs.Entries.{Joined, Numbers, nothing_joined}
-use Rattle.sp_joining.specs.Objects.{formals_of, is_dropped, object_entry, object_joined, next_object, objects_joined}
+use Rattle.sp_joining.specs.Objects.{owned_by, is_dropped, object_entry, object_joined, next_object, objects_joined}
 use Rattle.sp_joining.specs.Functions.{function_entry, function_joined, next_function, functions_joined}
 use Rattle.sp_joining.specs.Units.{unit_joined, next_unit, units_joined}
 use Rattle.sp_link_laws.specs.Names.{all_joined}
@@ -31,54 +32,54 @@ some_is p q e = cc
 
 -- ---- the objects of a unit
 
-module _ (ss fs : List ℕ) (u : ℕ) where
-  next_extends : (y : List ℕ × Joined) (b : Bool) (o : Object) → Extends y.1 (next_object ss u y b o).1
+module _ (ts : List Struct) (ss fs : List ℕ) (u : ℕ) where
+  next_extends : (y : List ℕ × Joined) (b : Bool) (o : Object) → Extends y.1 (next_object ts ss u y b o).1
   next_extends y true o n r h = h
-  next_extends y false o n r h = object_extends y.1 (object_entry ss u o) n r h
+  next_extends y false o n r h = object_extends y.1 (object_entry ts ss u o) n r h
 
-  pub objects_extend : (os : List Object) (y : List ℕ × Joined) → Extends y.1 (objects_joined ss fs u y os).1
+  pub objects_extend : (os : List Object) (y : List ℕ × Joined) → Extends y.1 (objects_joined ts ss fs u y os).1
   objects_extend [] y n r h = h
   objects_extend (o ∷ os) y n r h =
-      objects_extend os (next_object ss u y (is_dropped fs (length y.0) o.storage) o) n r (next_extends y (is_dropped fs (length y.0) o.storage) o n r h)
+      objects_extend os (next_object ts ss u y (is_dropped fs (length y.0) o.storage) o) n r (next_extends y (is_dropped fs (length y.0) o.storage) o n r h)
 
-  next_keeps : (y : List ℕ × Joined) (b : Bool) (o : Object) (i k : ℕ) → slice_get y.0 i ≡ Some k → slice_get (next_object ss u y b o).0 i ≡ Some k
+  next_keeps : (y : List ℕ × Joined) (b : Bool) (o : Object) (i k : ℕ) → slice_get y.0 i ≡ Some k → slice_get (next_object ts ss u y b o).0 i ≡ Some k
   next_keeps y true o i k h = pushed_before y.0 0 k i h
-  next_keeps y false o i k h = pushed_before y.0 (object_joined y.1 (object_entry ss u o)).0 k i h
+  next_keeps y false o i k h = pushed_before y.0 (object_joined y.1 (object_entry ts ss u o)).0 k i h
 
-  pub next_longer : (y : List ℕ × Joined) (b : Bool) (o : Object) → length (next_object ss u y b o).0 ≡ length y.0 + 1
+  pub next_longer : (y : List ℕ × Joined) (b : Bool) (o : Object) → length (next_object ts ss u y b o).0 ≡ length y.0 + 1
   next_longer y true o = pushed_length y.0 0
-  next_longer y false o = pushed_length y.0 (object_joined y.1 (object_entry ss u o)).0
+  next_longer y false o = pushed_length y.0 (object_joined y.1 (object_entry ts ss u o)).0
 
-  pub objects_keep : (os : List Object) (y : List ℕ × Joined) (i k : ℕ) → slice_get y.0 i ≡ Some k → slice_get (objects_joined ss fs u y os).0 i ≡ Some k
+  pub objects_keep : (os : List Object) (y : List ℕ × Joined) (i k : ℕ) → slice_get y.0 i ≡ Some k → slice_get (objects_joined ts ss fs u y os).0 i ≡ Some k
   objects_keep [] y i k h = h
   objects_keep (o ∷ os) y i k h =
-      objects_keep os (next_object ss u y (is_dropped fs (length y.0) o.storage) o) i k (next_keeps y (is_dropped fs (length y.0) o.storage) o i k h)
+      objects_keep os (next_object ts ss u y (is_dropped fs (length y.0) o.storage) o) i k (next_keeps y (is_dropped fs (length y.0) o.storage) o i k h)
 
   -- the object that is next
   here : (o : Object) (os : List Object) (y : List ℕ × Joined) (k : ℕ) (b : Bool) → b ≡ false → is_external o.linkage ≡ true
-      → slice_get (objects_joined ss fs u (next_object ss u y b o) os).0 (length y.0) ≡ Some k → IsObjectOf (objects_joined ss fs u (next_object ss u y b o) os).1 o.name k
+      → slice_get (objects_joined ts ss fs u (next_object ts ss u y b o) os).0 (length y.0) ≡ Some k → IsObjectOf (objects_joined ts ss fs u (next_object ts ss u y b o) os).1 o.name k
   here o os y k true f t e = absurd (true≢false f)
   here o os y k false f t e =
-      let z : ℕ × Joined = object_joined y.1 (object_entry ss u o) in
-      let now : slice_get (objects_joined ss fs u (next_object ss u y false o) os).0 (length y.0) ≡ Some z.0 =
-      objects_keep os (next_object ss u y false o) (length y.0) z.0 (pushed_last y.0 z.0) in
+      let z : ℕ × Joined = object_joined y.1 (object_entry ts ss u o) in
+      let now : slice_get (objects_joined ts ss fs u (next_object ts ss u y false o) os).0 (length y.0) ≡ Some z.0 =
+      objects_keep os (next_object ts ss u y false o) (length y.0) z.0 (pushed_last y.0 z.0) in
       let same : z.0 ≡ k = some_is z.0 k (sym now ∙ e) in
-      object_later z.1 (objects_joined ss fs u (next_object ss u y false o) os).1 o.name k (objects_extend os (next_object ss u y false o))
-      (subst (IsObjectOf z.1 o.name) same (object_named y.1 (object_entry ss u o) t))
+      object_later z.1 (objects_joined ts ss fs u (next_object ts ss u y false o) os).1 o.name k (objects_extend os (next_object ts ss u y false o))
+      (subst (IsObjectOf z.1 o.name) same (object_named y.1 (object_entry ts ss u o) t))
 
   pub objects_numbered : (os : List Object) (y : List ℕ × Joined) (i : ℕ) (o : Object) (k at : ℕ) → at ≡ length y.0 + i → slice_get os i ≡ Some o → is_external o.linkage ≡ true → is_dropped fs at o.storage ≡ false
-      → slice_get (objects_joined ss fs u y os).0 at ≡ Some k → IsObjectOf (objects_joined ss fs u y os).1 o.name k
+      → slice_get (objects_joined ts ss fs u y os).0 at ≡ Some k → IsObjectOf (objects_joined ts ss fs u y os).1 o.name k
   objects_numbered [] y i o k at p e t d n = absurd (cc)
   objects_numbered (x ∷ xs) y zero o k at p e t d n =
       let same : x ≡ o = some_is x o e in
       let place : at ≡ length y.0 = omega arith in
       let dropped : is_dropped fs (length y.0) x.storage ≡ false = subst (λ z. is_dropped fs z x.storage ≡ false) place (subst (λ z. is_dropped fs at z.storage ≡ false) (sym same) d) in
-      let number : slice_get (objects_joined ss fs u y (x ∷ xs)).0 (length y.0) ≡ Some k = subst (λ z. slice_get (objects_joined ss fs u y (x ∷ xs)).0 z ≡ Some k) place n in
-      subst (λ z. IsObjectOf (objects_joined ss fs u y (x ∷ xs)).1 z.name k) same
+      let number : slice_get (objects_joined ts ss fs u y (x ∷ xs)).0 (length y.0) ≡ Some k = subst (λ z. slice_get (objects_joined ts ss fs u y (x ∷ xs)).0 z ≡ Some k) place n in
+      subst (λ z. IsObjectOf (objects_joined ts ss fs u y (x ∷ xs)).1 z.name k) same
       (here x xs y k (is_dropped fs (length y.0) x.storage) dropped (subst (λ z. is_external z.linkage ≡ true) (sym same) t) number)
   objects_numbered (x ∷ xs) y (suc i) o k at p e t d n =
-      let longer : length (next_object ss u y (is_dropped fs (length y.0) x.storage) x).0 ≡ length y.0 + 1 = next_longer y (is_dropped fs (length y.0) x.storage) x in
-      objects_numbered xs (next_object ss u y (is_dropped fs (length y.0) x.storage) x) i o k at (omega (arith, longer, p)) e t d n
+      let longer : length (next_object ts ss u y (is_dropped fs (length y.0) x.storage) x).0 ≡ length y.0 + 1 = next_longer y (is_dropped fs (length y.0) x.storage) x in
+      objects_numbered xs (next_object ts ss u y (is_dropped fs (length y.0) x.storage) x) i o k at (omega (arith, longer, p)) e t d n
 
 -- ---- its functions
 
@@ -111,20 +112,20 @@ module _ (ss : List ℕ) (u : ℕ) where
 -- ---- units
 
 abbrev pub behind_objects : List ℕ → ℕ → Joined → CheckedUnit → List ℕ × Joined
-behind_objects ss u j x = objects_joined ss (formals_of x.functions) u ([], j) x.objects
+behind_objects ss u j x = objects_joined x.structs ss (owned_by x.functions x.definitions) u ([], j) x.objects
 
 module _ (ss : List ℕ) (u : ℕ) (j : Joined) (x : CheckedUnit) where
   functions_behind : Extends (behind_objects ss u j x).1 (unit_joined ss u j x).1
   functions_behind n r h = functions_extend ss u x.functions ([], (behind_objects ss u j x).1) n r h
 
   pub unit_extends : Extends j (unit_joined ss u j x).1
-  unit_extends n r h = functions_behind n r (objects_extend ss (formals_of x.functions) u x.objects ([], j) n r h)
+  unit_extends n r h = functions_behind n r (objects_extend x.structs ss (owned_by x.functions x.definitions) u x.objects ([], j) n r h)
 
-  unit_objects : (k : ℕ) (o : Object) (n : ℕ) → slice_get x.objects k ≡ Some o → slice_get (unit_joined ss u j x).0.objects k ≡ Some n → is_external o.linkage ≡ true → is_dropped (formals_of x.functions) k o.storage ≡ false
+  unit_objects : (k : ℕ) (o : Object) (n : ℕ) → slice_get x.objects k ≡ Some o → slice_get (unit_joined ss u j x).0.objects k ≡ Some n → is_external o.linkage ≡ true → is_dropped (owned_by x.functions x.definitions) k o.storage ≡ false
       → IsObjectOf (unit_joined ss u j x).1 o.name n
   unit_objects k o n e number t d =
       object_later (behind_objects ss u j x).1 (unit_joined ss u j x).1 o.name n functions_behind
-      (objects_numbered ss (formals_of x.functions) u x.objects ([], j) k o n k (omega arith) e t d number)
+      (objects_numbered x.structs ss (owned_by x.functions x.definitions) u x.objects ([], j) k o n k (omega arith) e t d number)
 
   unit_functions : (k : ℕ) (f : Function) (n : ℕ) → slice_get x.functions k ≡ Some f → slice_get (unit_joined ss u j x).0.functions k ≡ Some n → is_external f.linkage ≡ true
       → IsFunctionOf (unit_joined ss u j x).1 f.name n
@@ -166,14 +167,14 @@ module _ (sss : List (List ℕ)) where
         at_each ws (next_unit sss y w) (goes (slice_index_or sss (length y.0) []) (length y.0) y.1 w good) i x m at (omega (arith, longer, p)) e n
 
 abbrev ObjectsNumbered : ℕ → CheckedUnit → Numbers → Joined → Type 0
-ObjectsNumbered u x m j = (k : ℕ) (o : Object) (n : ℕ) → slice_get x.objects k ≡ Some o → slice_get m.objects k ≡ Some n → is_external o.linkage ≡ true → is_dropped (formals_of x.functions) k o.storage ≡ false → IsObjectOf j o.name n
+ObjectsNumbered u x m j = (k : ℕ) (o : Object) (n : ℕ) → slice_get x.objects k ≡ Some o → slice_get m.objects k ≡ Some n → is_external o.linkage ≡ true → is_dropped (owned_by x.functions x.definitions) k o.storage ≡ false → IsObjectOf j o.name n
 
 abbrev FunctionsNumbered : ℕ → CheckedUnit → Numbers → Joined → Type 0
 FunctionsNumbered u x m j = (k : ℕ) (f : Function) (n : ℕ) → slice_get x.functions k ≡ Some f → slice_get m.functions k ≡ Some n → is_external f.linkage ≡ true → IsFunctionOf j f.name n
 
 pub object_or_function : (sss : List (List ℕ)) (xs : List CheckedUnit) (u : ℕ) (x : CheckedUnit) (m : Numbers) (k : ℕ) (o : Object) (n : ℕ)
     → slice_get xs u ≡ Some x → slice_get (all_joined sss xs).0 u ≡ Some m → slice_get x.objects k ≡ Some o → slice_get m.objects k ≡ Some n
-    → is_external o.linkage ≡ true → is_dropped (formals_of x.functions) k o.storage ≡ false → IsObjectOf (all_joined sss xs).1 o.name n
+    → is_external o.linkage ≡ true → is_dropped (owned_by x.functions x.definitions) k o.storage ≡ false → IsObjectOf (all_joined sss xs).1 o.name n
 object_or_function sss xs u x m k o n at numbers e number t d =
     at_each sss ObjectsNumbered Extends (λ j. ⊤) (λ ss u j x g. tt) (λ ss u j x g. unit_objects ss u j x) (λ u x m j i y p. λ k o n e v t d. object_later j i o.name n y (p k o n e v t d)) (units_extend sss)
     xs ([], nothing_joined) tt u x m u (omega arith) at numbers k o n e number t d

@@ -2,6 +2,7 @@
 use Rattle.std.proofs.Common.{◌≡◌, ◌≢◌, ℕ, zero, suc, ◌+◌, ◌<◌, Bool, true, false, cond, if◌then◌else◌, nat_eq, length, List, [], ◌∷◌, ◌++◌, Option, Some, None, ◌⊎◌, inl, inr, refl, ap, sym, subst, ◌∙◌, true≢false, arith}
 use Rattle.std.specs.Prelude.{slice_get, slice_set, slice_index_or}
 use Rattle.indexmap.specs.IndexMap.{insert_entry}
+use Rattle.sp_types.specs.Types.{Struct}
 use Rattle.sp_types.specs.Programs.{Object as TypedObject, Function as TypedFunction}
 use Rattle.sp_scopes.specs.Scopes.{entry}
 use Rattle.sp_env.specs.declared.env.Entity.{Entity}
@@ -9,7 +10,7 @@ use Rattle.sp_env.specs.declared.env.Entity.TheVariants.{Object, Function}
 use Rattle.sp_units.specs.Units.{CheckedUnit}
 use Rattle.sp_conflicts.specs.Declarations.{is_external}
 use Rattle.sp_joining.specs.Entries.{ObjectEntry, FunctionEntry, Joined, Numbers, nothing_joined, linked}
-use Rattle.sp_joining.specs.Objects.{formals_of, is_dropped, object_entry, object_composed, object_met, object_apart, object_linked, object_joined, next_object, objects_joined}
+use Rattle.sp_joining.specs.Objects.{owned_by, is_dropped, object_entry, object_composed, object_met, object_apart, object_linked, object_joined, next_object, objects_joined}
 use Rattle.sp_joining.specs.Functions.{function_entry, function_met, function_apart, function_linked, function_joined, next_function, functions_joined}
 use Rattle.sp_joining.specs.Units.{unit_joined, next_unit, units_joined}
 use Rattle.sp_link_laws.specs.Names.{HasOwnEntry, OthersStayApart}
@@ -126,15 +127,15 @@ module _ (j : Joined) (e : FunctionEntry) where
 
 -- ---- the objects of a unit
 
-module _ (ss fs : List ℕ) (u : ℕ) where
-  next_keeps_own : (y : List ℕ × Joined) (b : Bool) (o : TypedObject) → Keeps y.1 (next_object ss u y b o).1
+module _ (ts : List Struct) (ss fs : List ℕ) (u : ℕ) where
+  next_keeps_own : (y : List ℕ × Joined) (b : Bool) (o : TypedObject) → Keeps y.1 (next_object ts ss u y b o).1
   next_keeps_own y true o n v x h = h
-  next_keeps_own y false o n v x h = object_keeps y.1 (object_entry ss u o) n v x h
+  next_keeps_own y false o n v x h = object_keeps y.1 (object_entry ts ss u o) n v x h
 
-  objects_keep_own : (os : List TypedObject) (y : List ℕ × Joined) → Keeps y.1 (objects_joined ss fs u y os).1
+  objects_keep_own : (os : List TypedObject) (y : List ℕ × Joined) → Keeps y.1 (objects_joined ts ss fs u y os).1
   objects_keep_own [] y n v x h = h
   objects_keep_own (o ∷ os) y n v x h =
-      objects_keep_own os (next_object ss u y (is_dropped fs (length y.0) o.storage) o) n v x (next_keeps_own y (is_dropped fs (length y.0) o.storage) o n v x h)
+      objects_keep_own os (next_object ts ss u y (is_dropped fs (length y.0) o.storage) o) n v x (next_keeps_own y (is_dropped fs (length y.0) o.storage) o n v x h)
 
 -- ---- links lead to entries that are there
 
@@ -221,39 +222,39 @@ module _ (j : Joined) (e : FunctionEntry) (b : AreBounded j) where
 
 -- ---- the objects of a unit
 
-module _ (ss fs : List ℕ) (u : ℕ) where
-  next_bounded : (y : List ℕ × Joined) (b : Bool) (o : TypedObject) → AreBounded y.1 → AreBounded (next_object ss u y b o).1
+module _ (ts : List Struct) (ss fs : List ℕ) (u : ℕ) where
+  next_bounded : (y : List ℕ × Joined) (b : Bool) (o : TypedObject) → AreBounded y.1 → AreBounded (next_object ts ss u y b o).1
   next_bounded y true o h = h
-  next_bounded y false o h = object_bounded y.1 (object_entry ss u o) h
+  next_bounded y false o h = object_bounded y.1 (object_entry ts ss u o) h
 
-  objects_bounded : (os : List TypedObject) (y : List ℕ × Joined) → AreBounded y.1 → AreBounded (objects_joined ss fs u y os).1
+  objects_bounded : (os : List TypedObject) (y : List ℕ × Joined) → AreBounded y.1 → AreBounded (objects_joined ts ss fs u y os).1
   objects_bounded [] y h = h
-  objects_bounded (o ∷ os) y h = objects_bounded os (next_object ss u y (is_dropped fs (length y.0) o.storage) o) (next_bounded y (is_dropped fs (length y.0) o.storage) o h)
+  objects_bounded (o ∷ os) y h = objects_bounded os (next_object ts ss u y (is_dropped fs (length y.0) o.storage) o) (next_bounded y (is_dropped fs (length y.0) o.storage) o h)
 
   own_here : (o : TypedObject) (os : List TypedObject) (y : List ℕ × Joined) (k : ℕ) (b : Bool) → AreBounded y.1 → b ≡ false → is_external o.linkage ≡ false
-      → slice_get (objects_joined ss fs u (next_object ss u y b o) os).0 (length y.0) ≡ Some k → HasOwnEntry (objects_joined ss fs u (next_object ss u y b o) os).1 k u o
+      → slice_get (objects_joined ts ss fs u (next_object ts ss u y b o) os).0 (length y.0) ≡ Some k → HasOwnEntry (objects_joined ts ss fs u (next_object ts ss u y b o) os).1 k u o
   own_here o os y k true h f t e = absurd (true≢false f)
   own_here o os y k false h f t e =
-      let z : ℕ × Joined = object_joined y.1 (object_entry ss u o) in
-      let now : slice_get (objects_joined ss fs u (next_object ss u y false o) os).0 (length y.0) ≡ Some z.0 =
-      objects_keep ss fs u os (next_object ss u y false o) (length y.0) z.0 (pushed_last y.0 z.0) in
+      let z : ℕ × Joined = object_joined y.1 (object_entry ts ss u o) in
+      let now : slice_get (objects_joined ts ss fs u (next_object ts ss u y false o) os).0 (length y.0) ≡ Some z.0 =
+      objects_keep ts ss fs u os (next_object ts ss u y false o) (length y.0) z.0 (pushed_last y.0 z.0) in
       let same : z.0 ≡ k = some_is z.0 k (sym now ∙ e) in
-      objects_keep_own ss fs u os (next_object ss u y false o) k u o
-      (subst (λ n. HasOwnEntry z.1 n u o) same (object_own y.1 (object_entry ss u o) h t))
+      objects_keep_own ts ss fs u os (next_object ts ss u y false o) k u o
+      (subst (λ n. HasOwnEntry z.1 n u o) same (object_own y.1 (object_entry ts ss u o) h t))
 
   objects_own : (os : List TypedObject) (y : List ℕ × Joined) (i : ℕ) (o : TypedObject) (k at : ℕ) → AreBounded y.1 → at ≡ length y.0 + i → slice_get os i ≡ Some o → is_external o.linkage ≡ false → is_dropped fs at o.storage ≡ false
-      → slice_get (objects_joined ss fs u y os).0 at ≡ Some k → HasOwnEntry (objects_joined ss fs u y os).1 k u o
+      → slice_get (objects_joined ts ss fs u y os).0 at ≡ Some k → HasOwnEntry (objects_joined ts ss fs u y os).1 k u o
   objects_own [] y i o k at h p e t d n = absurd (cc)
   objects_own (x ∷ xs) y zero o k at h p e t d n =
       let same : x ≡ o = some_is x o e in
       let place : at ≡ length y.0 = omega arith in
       let dropped : is_dropped fs (length y.0) x.storage ≡ false = subst (λ z. is_dropped fs z x.storage ≡ false) place (subst (λ z. is_dropped fs at z.storage ≡ false) (sym same) d) in
-      let number : slice_get (objects_joined ss fs u y (x ∷ xs)).0 (length y.0) ≡ Some k = subst (λ z. slice_get (objects_joined ss fs u y (x ∷ xs)).0 z ≡ Some k) place n in
-      subst (λ z. HasOwnEntry (objects_joined ss fs u y (x ∷ xs)).1 k u z) same
+      let number : slice_get (objects_joined ts ss fs u y (x ∷ xs)).0 (length y.0) ≡ Some k = subst (λ z. slice_get (objects_joined ts ss fs u y (x ∷ xs)).0 z ≡ Some k) place n in
+      subst (λ z. HasOwnEntry (objects_joined ts ss fs u y (x ∷ xs)).1 k u z) same
       (own_here x xs y k (is_dropped fs (length y.0) x.storage) h dropped (subst (λ z. is_external z.linkage ≡ false) (sym same) t) number)
   objects_own (x ∷ xs) y (suc i) o k at h p e t d n =
-      let longer : length (next_object ss u y (is_dropped fs (length y.0) x.storage) x).0 ≡ length y.0 + 1 = next_longer ss fs u y (is_dropped fs (length y.0) x.storage) x in
-      objects_own xs (next_object ss u y (is_dropped fs (length y.0) x.storage) x) i o k at
+      let longer : length (next_object ts ss u y (is_dropped fs (length y.0) x.storage) x).0 ≡ length y.0 + 1 = next_longer ts ss fs u y (is_dropped fs (length y.0) x.storage) x in
+      objects_own xs (next_object ts ss u y (is_dropped fs (length y.0) x.storage) x) i o k at
       (next_bounded y (is_dropped fs (length y.0) x.storage) x h) (omega (arith, longer, p)) e t d n
 
 -- ---- its functions, and units
@@ -275,19 +276,19 @@ module _ (ss : List ℕ) (u : ℕ) (j : Joined) (x : CheckedUnit) where
       texts w = record { there = w.there; at = w.at; source = w.source; unit = w.unit; unlinked = w.unlinked }
 
   unit_keeps_own : Keeps j (unit_joined ss u j x).1
-  unit_keeps_own n v o h = functions_behind_keep n v o (objects_keep_own ss (formals_of x.functions) u x.objects ([], j) n v o h)
+  unit_keeps_own n v o h = functions_behind_keep n v o (objects_keep_own x.structs ss (owned_by x.functions x.definitions) u x.objects ([], j) n v o h)
 
   unit_bounded : AreBounded j → AreBounded (unit_joined ss u j x).1
   unit_bounded b m k g =
       functions_bounded ss u x.functions ([], (behind_objects ss u j x).1)
-      (objects_bounded ss (formals_of x.functions) u x.objects ([], j) b) m k g
+      (objects_bounded x.structs ss (owned_by x.functions x.definitions) u x.objects ([], j) b) m k g
 
 abbrev HaveOwn : ℕ → CheckedUnit → Numbers → Joined → Type 0
-HaveOwn u x m j = (k : ℕ) (o : TypedObject) (n : ℕ) → slice_get x.objects k ≡ Some o → slice_get m.objects k ≡ Some n → is_external o.linkage ≡ false → is_dropped (formals_of x.functions) k o.storage ≡ false → HasOwnEntry j n u o
+HaveOwn u x m j = (k : ℕ) (o : TypedObject) (n : ℕ) → slice_get x.objects k ≡ Some o → slice_get m.objects k ≡ Some n → is_external o.linkage ≡ false → is_dropped (owned_by x.functions x.definitions) k o.storage ≡ false → HasOwnEntry j n u o
 
 unit_own : (ss : List ℕ) (u : ℕ) (j : Joined) (x : CheckedUnit) → AreBounded j → HaveOwn u x (unit_joined ss u j x).0 (unit_joined ss u j x).1
 unit_own ss u j x b k o n e number t d =
-    functions_behind_keep ss u j x n u o (objects_own ss (formals_of x.functions) u x.objects ([], j) k o n k b (omega arith) e t d number)
+    functions_behind_keep ss u j x n u o (objects_own x.structs ss (owned_by x.functions x.definitions) u x.objects ([], j) k o n k b (omega arith) e t d number)
 
 units_keep_own : (sss : List (List ℕ)) (xs : List CheckedUnit) (y : List Numbers × Joined) → Keeps y.1 (units_joined sss y xs).1
 units_keep_own sss [] y n v o h = h

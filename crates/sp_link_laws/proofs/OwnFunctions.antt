@@ -2,6 +2,7 @@
 use Rattle.std.proofs.Common.{◌≡◌, ◌≢◌, ℕ, zero, suc, ◌+◌, ◌<◌, Bool, true, false, if◌then◌else◌, nat_eq, length, List, [], ◌∷◌, ◌++◌, Option, Some, None, ◌⊎◌, inl, inr, refl, ap, sym, subst, ◌∙◌, true≢false, arith}
 use Rattle.std.specs.Prelude.{slice_get, slice_index_or}
 use Rattle.indexmap.specs.IndexMap.{insert_entry}
+use Rattle.sp_types.specs.Types.{Struct}
 use Rattle.sp_types.specs.Programs.{Object as TypedObject, Function as TypedFunction}
 use Rattle.sp_scopes.specs.Scopes.{entry}
 use Rattle.sp_env.specs.declared.env.Entity.{Entity}
@@ -9,7 +10,7 @@ use Rattle.sp_env.specs.declared.env.Entity.TheVariants.{Object, Function}
 use Rattle.sp_units.specs.Units.{CheckedUnit}
 use Rattle.sp_conflicts.specs.Declarations.{is_external}
 use Rattle.sp_joining.specs.Entries.{ObjectEntry, FunctionEntry, Joined, Numbers, nothing_joined, linked}
-use Rattle.sp_joining.specs.Objects.{formals_of, is_dropped, object_entry, object_met, object_apart, object_linked, object_joined, next_object, objects_joined}
+use Rattle.sp_joining.specs.Objects.{owned_by, is_dropped, object_entry, object_met, object_apart, object_linked, object_joined, next_object, objects_joined}
 use Rattle.sp_joining.specs.Functions.{function_entry, function_composed, function_met, function_apart, function_linked, function_joined, next_function, functions_joined}
 use Rattle.sp_joining.specs.Units.{unit_joined, next_unit, units_joined}
 use Rattle.sp_link_laws.specs.Names.{HasOwnFunction, StaticFunctionsStayApart}
@@ -93,15 +94,15 @@ module _ (j : Joined) (e : ObjectEntry) where
 
 -- ---- the objects of a unit
 
-module _ (ss fs : List ℕ) (u : ℕ) where
-  next_keeps_own : (y : List ℕ × Joined) (b : Bool) (o : TypedObject) → Keeps y.1 (next_object ss u y b o).1
+module _ (ts : List Struct) (ss fs : List ℕ) (u : ℕ) where
+  next_keeps_own : (y : List ℕ × Joined) (b : Bool) (o : TypedObject) → Keeps y.1 (next_object ts ss u y b o).1
   next_keeps_own y true o n v f h = h
-  next_keeps_own y false o n v f h = object_keeps y.1 (object_entry ss u o) n v f h
+  next_keeps_own y false o n v f h = object_keeps y.1 (object_entry ts ss u o) n v f h
 
-  objects_keep_own : (os : List TypedObject) (y : List ℕ × Joined) → Keeps y.1 (objects_joined ss fs u y os).1
+  objects_keep_own : (os : List TypedObject) (y : List ℕ × Joined) → Keeps y.1 (objects_joined ts ss fs u y os).1
   objects_keep_own [] y n v f h = h
   objects_keep_own (o ∷ os) y n v f h =
-      objects_keep_own os (next_object ss u y (is_dropped fs (length y.0) o.storage) o) n v f (next_keeps_own y (is_dropped fs (length y.0) o.storage) o n v f h)
+      objects_keep_own os (next_object ts ss u y (is_dropped fs (length y.0) o.storage) o) n v f (next_keeps_own y (is_dropped fs (length y.0) o.storage) o n v f h)
 
 -- ---- links lead to entries that are there
 
@@ -177,14 +178,14 @@ module _ (j : Joined) (e : ObjectEntry) (b : AreBounded j) where
   object_bounded : AreBounded (object_joined j e).1
   object_bounded = object_choice_bounded (is_external e.source.linkage)
 
-module _ (ss fs : List ℕ) (u : ℕ) where
-  next_bounded : (y : List ℕ × Joined) (b : Bool) (o : TypedObject) → AreBounded y.1 → AreBounded (next_object ss u y b o).1
+module _ (ts : List Struct) (ss fs : List ℕ) (u : ℕ) where
+  next_bounded : (y : List ℕ × Joined) (b : Bool) (o : TypedObject) → AreBounded y.1 → AreBounded (next_object ts ss u y b o).1
   next_bounded y true o h = h
-  next_bounded y false o h = object_bounded y.1 (object_entry ss u o) h
+  next_bounded y false o h = object_bounded y.1 (object_entry ts ss u o) h
 
-  objects_bounded : (os : List TypedObject) (y : List ℕ × Joined) → AreBounded y.1 → AreBounded (objects_joined ss fs u y os).1
+  objects_bounded : (os : List TypedObject) (y : List ℕ × Joined) → AreBounded y.1 → AreBounded (objects_joined ts ss fs u y os).1
   objects_bounded [] y h = h
-  objects_bounded (o ∷ os) y h = objects_bounded os (next_object ss u y (is_dropped fs (length y.0) o.storage) o) (next_bounded y (is_dropped fs (length y.0) o.storage) o h)
+  objects_bounded (o ∷ os) y h = objects_bounded os (next_object ts ss u y (is_dropped fs (length y.0) o.storage) o) (next_bounded y (is_dropped fs (length y.0) o.storage) o h)
 
 -- ---- the functions of a unit
 
@@ -223,12 +224,12 @@ module _ (ss : List ℕ) (u : ℕ) (j : Joined) (x : CheckedUnit) where
   unit_keeps_own : Keeps j (unit_joined ss u j x).1
   unit_keeps_own n v f h =
       texts n v f (functions_keep_own ss u x.functions ([], (behind_objects ss u j x).1) n v f
-      (objects_keep_own ss (formals_of x.functions) u x.objects ([], j) n v f h))
+      (objects_keep_own x.structs ss (owned_by x.functions x.definitions) u x.objects ([], j) n v f h))
 
   unit_bounded : AreBounded j → AreBounded (unit_joined ss u j x).1
   unit_bounded b m k g =
       functions_bounded ss u x.functions ([], (behind_objects ss u j x).1)
-      (objects_bounded ss (formals_of x.functions) u x.objects ([], j) b) m k g
+      (objects_bounded x.structs ss (owned_by x.functions x.definitions) u x.objects ([], j) b) m k g
 
 abbrev HaveOwn : ℕ → CheckedUnit → Numbers → Joined → Type 0
 HaveOwn u x m j = (k : ℕ) (f : TypedFunction) (n : ℕ) → slice_get x.functions k ≡ Some f → slice_get m.functions k ≡ Some n → is_external f.linkage ≡ false → HasOwnFunction j n u f
@@ -236,7 +237,7 @@ HaveOwn u x m j = (k : ℕ) (f : TypedFunction) (n : ℕ) → slice_get x.functi
 unit_own : (ss : List ℕ) (u : ℕ) (j : Joined) (x : CheckedUnit) → AreBounded j → HaveOwn u x (unit_joined ss u j x).0 (unit_joined ss u j x).1
 unit_own ss u j x b k f n e number t =
     texts ss u j x n u f (functions_own ss u x.functions ([], (behind_objects ss u j x).1) k f n k
-    (objects_bounded ss (formals_of x.functions) u x.objects ([], j) b) (omega arith) e t number)
+    (objects_bounded x.structs ss (owned_by x.functions x.definitions) u x.objects ([], j) b) (omega arith) e t number)
 
 units_keep_own : (sss : List (List ℕ)) (xs : List CheckedUnit) (y : List Numbers × Joined) → Keeps y.1 (units_joined sss y xs).1
 units_keep_own sss [] y n v f h = h

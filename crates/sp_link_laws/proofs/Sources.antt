@@ -3,7 +3,7 @@
 use Rattle.std.proofs.Common.{◌≡◌, ℕ, zero, suc, ◌+◌, ◌<◌, Bool, true, false, cond, if◌then◌else◌, nat_eq, length, map, filter, List, [], ◌∷◌, ◌++◌, Option, Some, None, ◌⊎◌, inl, inr, refl, ap, sym, subst, ◌∙◌, true≢false, eqb-true, arith}
 use Rattle.std.specs.Prelude.{slice_get, slice_index_or}
 use Rattle.indexmap.specs.IndexMap.{insert_entry}
-use Rattle.sp_types.specs.Types.{CType, void, integer, floating, pointer, array, structure, function, Signature}
+use Rattle.sp_types.specs.Types.{Struct, CType, void, integer, floating, pointer, array, structure, function, Signature}
 use Rattle.sp_types.specs.Programs.{Object as TypedObject, Function as TypedFunction}
 use Rattle.sp_operands.specs.Conversions.{is_function}
 use Rattle.sp_scopes.specs.Scopes.{entry}
@@ -17,7 +17,7 @@ use Rattle.sp_conflicts.specs.Conflicts.{tables_of}
 use Rattle.sp_conflicts.specs.Laws.{AreInHarmony}
 use Rattle.sp_conflicts.proofs.Pairs.{agreement_is_harmony}
 use Rattle.sp_joining.specs.Entries.{ObjectEntry, FunctionEntry, Joined, Numbers, nothing_joined, linked}
-use Rattle.sp_joining.specs.Objects.{formals_of, is_dropped, object_entry, object_met, object_apart, object_linked, object_joined, next_object, objects_joined}
+use Rattle.sp_joining.specs.Objects.{owned_by, is_dropped, object_entry, object_met, object_apart, object_linked, object_joined, next_object, objects_joined}
 use Rattle.sp_joining.specs.Functions.{function_entry, function_met, function_apart, function_linked, function_joined, next_function, functions_joined}
 use Rattle.sp_joining.specs.Units.{unit_joined, next_unit, units_joined}
 use Rattle.sp_link_laws.specs.Names.{all_joined, NamesHaveOneObject, NamesHaveOneFunction}
@@ -103,15 +103,15 @@ module _ (P Q : ℕ → Type 0) where
   abbrev pub Functions : List TypedFunction → Type 0
   Functions fs = (k : ℕ) (f : TypedFunction) → slice_get fs k ≡ Some f → is_external f.linkage ≡ true → Q f.name
 
-  module _ (ss fs : List ℕ) (u : ℕ) where
-    next_sourced : (y : List ℕ × Joined) (b : Bool) (o : TypedObject) → (is_external o.linkage ≡ true → P o.name) → AreSourced y.1 → AreSourced (next_object ss u y b o).1
+  module _ (ts : List Struct) (ss fs : List ℕ) (u : ℕ) where
+    next_sourced : (y : List ℕ × Joined) (b : Bool) (o : TypedObject) → (is_external o.linkage ≡ true → P o.name) → AreSourced y.1 → AreSourced (next_object ts ss u y b o).1
     next_sourced y true o p h = h
-    next_sourced y false o p h = object_sourced y.1 h (object_entry ss u o) p
+    next_sourced y false o p h = object_sourced y.1 h (object_entry ts ss u o) p
 
-    objects_sourced : (os : List TypedObject) (y : List ℕ × Joined) → Objects os → AreSourced y.1 → AreSourced (objects_joined ss fs u y os).1
+    objects_sourced : (os : List TypedObject) (y : List ℕ × Joined) → Objects os → AreSourced y.1 → AreSourced (objects_joined ts ss fs u y os).1
     objects_sourced [] y p h = h
     objects_sourced (o ∷ os) y p h =
-        objects_sourced os (next_object ss u y (is_dropped fs (length y.0) o.storage) o) (λ k q. p (suc k) q)
+        objects_sourced os (next_object ts ss u y (is_dropped fs (length y.0) o.storage) o) (λ k q. p (suc k) q)
         (next_sourced y (is_dropped fs (length y.0) o.storage) o (p zero o refl) h)
 
   module _ (ss : List ℕ) (u : ℕ) where
@@ -123,7 +123,7 @@ module _ (P Q : ℕ → Type 0) where
   unit_sourced : (ss : List ℕ) (u : ℕ) (j : Joined) (x : CheckedUnit) → Objects x.objects → Functions x.functions → AreSourced j → AreSourced (unit_joined ss u j x).1
   unit_sourced ss u j x os fs h m r g =
       functions_sourced ss u x.functions ([], (behind_objects ss u j x).1) fs
-      (objects_sourced ss (formals_of x.functions) u x.objects ([], j) os h) m r g
+      (objects_sourced x.structs ss (owned_by x.functions x.definitions) u x.objects ([], j) os h) m r g
 
   pub units_sourced : (sss : List (List ℕ)) (xs : List CheckedUnit) (y : List Numbers × Joined)
       → ((i : ℕ) (x : CheckedUnit) → slice_get xs i ≡ Some x → Objects x.objects)

@@ -8,7 +8,7 @@ use Rattle.sp_units.specs.Units.{CheckedUnit}
 use Rattle.sp_conflicts.specs.Declarations.{is_external}
 use Rattle.sp_conflicts.specs.Conflicts.{AgreeOnNames}
 use Rattle.sp_joining.specs.Entries.{ObjectEntry, FunctionEntry, Joined, Numbers, nothing_joined}
-use Rattle.sp_joining.specs.Objects.{formals_of, is_dropped}
+use Rattle.sp_joining.specs.Objects.{owned_by, is_dropped}
 use Rattle.sp_joining.specs.Units.{units_joined}
 
 -- the units joined, with these numbers of their structs in the program
@@ -28,7 +28,7 @@ NamesHaveOneObject =
     → (u : ℕ) (x : CheckedUnit) (m : Numbers) (k : ℕ) (o : Object) (n : ℕ)
     → slice_get xs u ≡ Some x → slice_get (all_joined sss xs).0 u ≡ Some m
     → slice_get x.objects k ≡ Some o → slice_get m.objects k ≡ Some n
-    → is_external o.linkage ≡ true → is_dropped (formals_of x.functions) k o.storage ≡ false
+    → is_external o.linkage ≡ true → is_dropped (owned_by x.functions x.definitions) k o.storage ≡ false
     → entry (all_joined sss xs).1.links o.name ≡ Some (entities.Object n)
 
 -- the same of functions
@@ -57,7 +57,7 @@ OthersStayApart =
     (sss : List (List ℕ)) (xs : List CheckedUnit) (u : ℕ) (x : CheckedUnit) (m : Numbers) (k : ℕ) (o : Object) (n : ℕ)
     → slice_get xs u ≡ Some x → slice_get (all_joined sss xs).0 u ≡ Some m
     → slice_get x.objects k ≡ Some o → slice_get m.objects k ≡ Some n
-    → is_external o.linkage ≡ false → is_dropped (formals_of x.functions) k o.storage ≡ false
+    → is_external o.linkage ≡ false → is_dropped (owned_by x.functions x.definitions) k o.storage ≡ false
     → HasOwnEntry (all_joined sss xs).1 n u o
 
 -- the same of functions: the program's entry of this number is told by this function of the unit of

@@ -1,28 +1,24 @@
 -- Well-typed expressions of a unit are well typed in its program.
-use Rattle.std.proofs.Common.{◌≡◌, ℕ, true, false, unwrap_or, refl, sym, ap, subst, pos}
+use Rattle.std.proofs.Common.{◌≡◌, ℕ, List, Option, Some, None, true, false, refl, sym, ap, subst, pos}
 use Rattle.sp_tree.specs.declared.token.Punct.TheVariants.{Star}
 use Rattle.sp_tree.specs.declared.fault.Place.{Place}
-use Rattle.sp_types.specs.Types.{CType, void, integer, floating, pointer, array, structure, function}
+use Rattle.sp_types.specs.Types.{Struct, CType, pointer, array, function}
+use Rattle.sp_types.specs.Layout.{layout}
 use Rattle.sp_types.specs.Structs.{IsFormed}
 use Rattle.sp_types.specs.Typed.{Typed, typed, TypedForm, TypedList, no_typed, next_typed, of}
 use Rattle.sp_types.specs.Typed as tree
 use Rattle.sp_ir.specs.Formed.{is_floating}
-use Rattle.sp_renaming.specs.Renaming.{Renaming, number_in, renamed_type, type_in, renamed, renamed_form, all_renamed}
+use Rattle.sp_renaming.specs.Renaming.{Renaming, number_in, renamed_type, told_by, type_in, renamed, renamed_form, all_renamed}
 use Rattle.sp_typing.specs.Trees.{Scene, Names, has_place, IsTyped, IsForm, AreArguments}
-use Rattle.sp_typing.specs.Refines.{Tells, of_void, of_integer, of_floating, of_pointer, of_array, of_struct, of_function, Refines}
+use Rattle.sp_typing.specs.Refines.{LaysOut, lays_void, lays_integer, lays_floating, lays_pointer, lays_array, lays_struct, lays_function, Refines}
 use Rattle.sp_renamed_laws.specs.Follows.{IsObjectIn, Follows}
 use Rattle.sp_renamed_laws.specs.Laws.{IsRenamed, ExpressionsAreRenamed}
-use Rattle.sp_renamed_laws.proofs.Types.{keeps_self, refines_self, refines_through, floating_kept, function_kept, decayed_kept, pointer_kept, scalar_kept, struct_kept, agrees_kept, value_kept, formed_kept, some_size, stored_kept}
+use Rattle.sp_renamed_laws.proofs.Types.{refines_self, lays_through, told_refines, told_lays, floating_kept, function_kept, decayed_kept, pointer_kept, scalar_kept, struct_kept, agrees_kept, value_kept, formed_kept, some_size, stored_kept, repeated_small}
 use Rattle.sp_renamed_laws.proofs.Operators.{member_kept, pointed_kept, index_kept, binary_kept, step_kept, unary_kept, converts_kept, choice_kept, assigned_kept, called_kept, number_kept}
 
-tells_self : (t : CType) → Tells t t
-tells_self void = of_void
-tells_self (integer k) = of_integer k
-tells_self (floating k) = of_floating k
-tells_self (pointer t) = of_pointer t t (tells_self t)
-tells_self (array t n) = of_array t t n n (tells_self t) (keeps_self n)
-tells_self (structure k) = of_struct k
-tells_self (function s) = of_function s s
+element_formed : (ss : List Struct) (t : CType) (n : Option ℕ) → IsFormed ss (array t n) → IsFormed ss t
+element_formed ss t None h = h
+element_formed ss t (Some n) h = h.0
 
 module _ (r : Renaming) where
   placed : (e : Typed) → has_place e ≡ true → has_place (renamed r e) ≡ true
@@ -62,23 +58,40 @@ module _ (r : Renaming) (s p : Scene) (w : Follows r s p) where
     refines = subst (λ u. Refines (number_in r.structs) t u) (sym is) (self t);
   }
 
-  object_of : (t : CType) (n : ℕ) (q m : Place) → is_floating t ≡ false → Names s n t
+  -- a type that names an object is formed
+  told_formed : (t u : CType) → LaysOut (number_in r.structs) t u → IsFormed p.structs u → IsFormed s.structs t
+      → IsFormed p.structs (told_by (Some u) (here t))
+  told_formed t u lays_void h formed = tt
+  told_formed t u (lays_integer k) h formed = tt
+  told_formed t u (lays_floating k) h formed = tt
+  told_formed t u (lays_pointer a b) h formed = formed_kept r s p w (pointer a) formed
+  told_formed t u (lays_array a b n None x k) h formed = formed_kept r s p w a (element_formed s.structs a n formed)
+  told_formed t u (lays_array a b n (Some m) x k) h formed =
+      (formed_kept r s p w a (element_formed s.structs a n formed), h.1, repeated_small m (layout p.structs (here a)))
+  told_formed t u (lays_struct k) h formed = h
+  told_formed t u (lays_function a b) h formed = formed_kept r s p w (function a) formed
+
+  object_of : (t : CType) (n : ℕ) (q m : Place) → is_floating t ≡ false → IsFormed s.structs t → Names s n t
       → IsRenamed r p (typed (tree.object n) t q m)
-  object_of t n q m fixed h =
+  object_of t n q m fixed formed h =
       let o : IsObjectIn r p n h.object.of = w.objects n h.object h.there h.visible in
-      let is : type_in r (tree.object n) t ≡ o.object.of = ap (λ x. unwrap_or x (here t)) o.told in
-      let x : Refines (number_in r.structs) t o.object.of =
-      refines_through (number_in r.structs) t h.object.of o.object.of h.told o.refines in
-      let apart : is_floating o.object.of ≡ false = floating_kept (number_in r.structs) t o.object.of x fixed in
+      let is : type_in r (tree.object n) t ≡ told_by (Some o.object.of) (here t) = ap (λ x. told_by x (here t)) o.told in
+      let lays : LaysOut (number_in r.structs) t o.object.of =
+      lays_through (number_in r.structs) t h.object.of o.object.of h.told o.laid_out in
+      let x : Refines (number_in r.structs) t (told_by (Some o.object.of) (here t)) = told_refines r.structs t o.object.of lays in
+      let apart : is_floating (told_by (Some o.object.of) (here t)) ≡ false = floating_kept (number_in r.structs) t _ x fixed in
       record {
-        typed = subst (λ u. (is_floating u ≡ false) × IsFormed p.structs u × Names p (number_in r.objects n) u) (sym is)
-            (apart, o.formed, record { object = o.object; there = o.there; visible = o.visible; told = tells_self o.object.of });
+        typed = subst (λ u. (is_floating u ≡ false) × IsFormed p.structs u × Names p (number_in r.objects n) u) (sym is) (
+          apart,
+          told_formed t o.object.of lays o.formed formed,
+          record { object = o.object; there = o.there; visible = o.visible; told = told_lays r.structs t o.object.of lays },
+        );
         refines = subst (λ u. Refines (number_in r.structs) t u) (sym is) x;
       }
 
   mutual
     pub renamed_tree : (e : Typed) → IsTyped s e → IsRenamed r p e
-    renamed_tree (typed (tree.object n) t q m) h = object_of t n q m h.0 h.2
+    renamed_tree (typed (tree.object n) t q m) h = object_of t n q m h.0 h.1 h.2
     renamed_tree (typed (tree.number n) t q m) h =
         tree_of t (tree.number n) q m refl h.0 h.1 (number_kept r s p w (pos n.value) t (here t) (self t) h.2)
     renamed_tree (typed (tree.character z) t q m) h =

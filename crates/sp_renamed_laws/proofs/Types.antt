@@ -9,10 +9,10 @@ use Rattle.sp_types.specs.Structs.{IsSmall, IsFormed, IsFormedSignature, AreForm
 use Rattle.sp_types.specs.Compatible.{convertible}
 use Rattle.sp_ir.specs.Terrain.{size_in, size_of}
 use Rattle.sp_ir.specs.Formed.{is_integer, is_pointer, is_struct, is_array, is_floating, is_scalar}
-use Rattle.sp_renaming.specs.Renaming.{Renaming, number_in, renamed_type, renamed_signature, renamed_parameters, renamed_types}
+use Rattle.sp_renaming.specs.Renaming.{Renaming, number_in, told_by, renamed_type, renamed_signature, renamed_parameters, renamed_types}
 use Rattle.sp_typing.specs.Sorts.{is_function, agrees, same_value, IsExact, IsSized, IsStored, IsStepped}
 use Rattle.sp_typing.specs.Trees.{Scene}
-use Rattle.sp_typing.specs.Refines.{KeepsLength, Refines, of_void, of_integer, of_floating, of_pointer, of_array, of_struct, of_function}
+use Rattle.sp_typing.specs.Refines.{KeepsLength, LaysOut, lays_void, lays_integer, lays_floating, lays_pointer, lays_array, lays_struct, lays_function, Refines, of_void, of_integer, of_floating, of_pointer, of_array, of_struct, of_function}
 use Rattle.sp_renamed_laws.specs.Follows.{Follows}
 
 none_some : {A : Type 0} (x : A) → None ≡ Some x → ⊥
@@ -50,15 +50,45 @@ refines_self ns (array t n) = of_array t (renamed_type ns t) n n (refines_self n
 refines_self ns (structure k) = of_struct k
 refines_self ns (function s) = of_function s (renamed_signature ns s)
 
-pub refines_through : (f : ℕ → ℕ) (t u v : CType) → Refines (λ k. k) t u → Refines f u v → Refines f t v
-refines_through f t u v of_void of_void = of_void
-refines_through f t u v (of_integer k) (of_integer _) = of_integer k
-refines_through f t u v (of_floating k) (of_floating _) = of_floating k
-refines_through f t u v (of_pointer a b x) (of_pointer _ c y) = of_pointer a c (refines_through f a b c x y)
-refines_through f t u v (of_array a b n m x k) (of_array _ c _ o y l) =
-    of_array a c n o (refines_through f a b c x y) (keeps_through n m o k l)
-refines_through f t u v (of_struct k) (of_struct _) = of_struct k
-refines_through f t u v (of_function a b) (of_function _ c) = of_function a c
+-- an object is laid out as a further type tells
+pub lays_through : (f : ℕ → ℕ) (t u v : CType) → LaysOut (λ k. k) t u → LaysOut f u v → LaysOut f t v
+lays_through f t u v lays_void lays_void = lays_void
+lays_through f t u v (lays_integer k) (lays_integer _) = lays_integer k
+lays_through f t u v (lays_floating k) (lays_floating _) = lays_floating k
+lays_through f t u v (lays_pointer a b) (lays_pointer _ c) = lays_pointer a c
+lays_through f t u v (lays_array a b n m x k) (lays_array _ c _ o y l) =
+    lays_array a c n o (lays_through f a b c x y) (keeps_through n m o k l)
+lays_through f t u v (lays_struct k) (lays_struct _) = lays_struct k
+lays_through f t u v (lays_function a b) (lays_function _ c) = lays_function a c
+
+-- as the unit's type does in the program
+pub lays_here : (ns : List ℕ) (t u : CType) → LaysOut (number_in ns) t u → LaysOut (λ k. k) (renamed_type ns t) u
+lays_here ns t u lays_void = lays_void
+lays_here ns t u (lays_integer k) = lays_integer k
+lays_here ns t u (lays_floating k) = lays_floating k
+lays_here ns t u (lays_pointer a b) = lays_pointer (renamed_type ns a) b
+lays_here ns t u (lays_array a b n m x k) = lays_array (renamed_type ns a) b n m (lays_here ns a b x) k
+lays_here ns t u (lays_struct k) = lays_struct (number_in ns k)
+lays_here ns t u (lays_function a b) = lays_function (renamed_signature ns a) b
+
+-- what names an object stands for its type in the unit
+pub told_refines : (ns : List ℕ) (t u : CType) → LaysOut (number_in ns) t u → Refines (number_in ns) t (told_by (Some u) (renamed_type ns t))
+told_refines ns t u lays_void = of_void
+told_refines ns t u (lays_integer k) = of_integer k
+told_refines ns t u (lays_floating k) = of_floating k
+told_refines ns t u (lays_pointer a b) = refines_self ns (pointer a)
+told_refines ns t u (lays_array a b n m x k) = of_array a (renamed_type ns a) n m (refines_self ns a) k
+told_refines ns t u (lays_struct k) = of_struct k
+told_refines ns t u (lays_function a b) = of_function a (renamed_signature ns a)
+
+pub told_lays : (ns : List ℕ) (t u : CType) → LaysOut (number_in ns) t u → LaysOut (λ k. k) (told_by (Some u) (renamed_type ns t)) u
+told_lays ns t u lays_void = lays_void
+told_lays ns t u (lays_integer k) = lays_integer k
+told_lays ns t u (lays_floating k) = lays_floating k
+told_lays ns t u (lays_pointer a b) = lays_pointer (renamed_type ns a) b
+told_lays ns t u (lays_array a b n m x k) = lays_array (renamed_type ns a) b m m (lays_here ns a b x) (keeps_self m)
+told_lays ns t u (lays_struct k) = lays_struct (number_in ns k)
+told_lays ns t u (lays_function a b) = lays_function (renamed_signature ns a) b
 
 -- ---- sorts
 
@@ -163,7 +193,7 @@ small_by : (b : Bool) (e : Extent) (n : ℕ) → nat_le (e.size * n) (2 ^ 40) �
 small_by true e n h = leb-true (e.size * n) (2 ^ 40) h
 small_by false e n h = tt
 
-repeated_small : (n : ℕ) (o : Option Extent) → IsSmall (repeated n o)
+pub repeated_small : (n : ℕ) (o : Option Extent) → IsSmall (repeated n o)
 repeated_small n None = tt
 repeated_small n (Some e) = small_by (nat_le (e.size * n) (2 ^ 40)) e n refl
 

@@ -9,7 +9,7 @@ use Rattle.sp_ir.specs.Formed.{is_floating}
 use Rattle.sp_renaming.specs.Renaming.{Renaming, number_in, renamed_type}
 use Rattle.sp_typing.specs.Sorts.{agrees}
 use Rattle.sp_typing.specs.Trees.{Scene}
-use Rattle.sp_typing.specs.Refines.{Refines}
+use Rattle.sp_typing.specs.Refines.{LaysOut}
 
 -- the same names in the same order, with types of the sorts that those of the unit have
 abbrev pub AreMembers : List ℕ → List (ℕ × CType) → List (ℕ × CType) → Type 0
@@ -33,7 +33,7 @@ pub record IsObjectIn (r : Renaming) (p : Scene) (n : ℕ) (t : CType) : Type 0 
   pub there : slice_get p.objects (number_in r.objects n) ≡ Some object
   pub visible : p.is_visible (number_in r.objects n) ≡ true
   pub told : slice_get r.types n ≡ Some object.of
-  pub refines : Refines (number_in r.structs) t object.of
+  pub laid_out : LaysOut (number_in r.structs) t object.of
   pub formed : IsFormed p.structs object.of
 
 -- the program `p` has what may be named in the unit's scene `s`

@@ -1,6 +1,6 @@
 -- The types and trees of a unit, as a program of several units has them: structs, objects and
 -- functions have other numbers there (C90 6.1.2.6, 6.7).
-use Rattle.std.specs.Prelude.{ℕ, List, map, option_map, slice_get, slice_index_or, unwrap_or}
+use Rattle.std.specs.Prelude.{ℕ, List, map, Option, Some, option_map, slice_get, slice_index_or}
 use Rattle.sp_types.specs.Types.{CType, void, integer, floating, pointer, array, structure, function, Signature, signature, Parameters, untold, listed, CTypes, no_types, next_type}
 use Rattle.sp_types.specs.Typed.{Typed, typed, TypedForm, TypedList, no_typed, next_typed}
 use Rattle.sp_types.specs.Typed as tree
@@ -44,9 +44,15 @@ abbrev mutual
 
 -- ---- expressions
 
--- An object has its type in the program, of which another unit may give the length (6.1.2.6).
+-- An array has its length, and a struct its members, as the program tells them, since another unit
+-- may (6.1.2.5, 6.1.2.6). What a pointer points to is as the unit tells it.
+abbrev pub told_by : Option CType → CType → CType
+told_by (Some (array u m)) (array t n) = array t m
+told_by (Some (structure j)) (structure k) = structure j
+told_by _ t = t
+
 abbrev pub type_in : Renaming → TypedForm → CType → CType
-type_in r (tree.object k) t = unwrap_or (slice_get r.types k) (renamed_type r.structs t)
+type_in r (tree.object k) t = told_by (slice_get r.types k) (renamed_type r.structs t)
 type_in r f t = renamed_type r.structs t
 
 abbrev mutual

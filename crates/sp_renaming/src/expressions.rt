@@ -1,24 +1,35 @@
 //! Expressions under a renaming.
 ghost use Rattle.std.specs.Prelude.{◌≡◌, IfOk, map, option_map};
+ghost use Rattle.std.specs.Option.{option_copied};
 ghost use Rattle.sp_types.specs.View.{type_of};
 ghost use Rattle.sp_types.specs.Typed as tree;
 ghost use Rattle.sp_types.specs.TypedView.{typed_of, typed_form_of, typed_list};
-ghost use Rattle.sp_renaming.specs.Renaming.{type_in, renamed, renamed_form, all_renamed};
+ghost use Rattle.sp_renaming.specs.Renaming.{told_by, type_in, renamed, renamed_form, all_renamed};
 ghost use Rattle.sp_renaming.specs.View.{renaming_of};
 
 use crate::types::{Renaming, number_in, renamed_type};
 use sp_types::{CType, TypedExpr, TypedForm};
 use std::alloc::{AllocError, Global};
 
-/// The type that an object of the unit has in the program, else its type here.
+/// The type of an object, with the length or the members that the program tells.
+fn told_by(there: Option<&CType>, of: CType) -> CType
+    ensures { type_of result ≡
+        told_by (option_map type_of (option_copied there.entry)) (type_of of) }
+{
+    match (there, of) {
+        (Some(CType::Array(_, length)), CType::Array(element, _)) => CType::Array(element, *length),
+        (Some(CType::Struct(number)), CType::Struct(_)) => CType::Struct(*number),
+        (_, of) => of,
+    }
+}
+
+/// The type with which the program names an object of the unit.
 fn object_type(alloc: Global, object: u32, of: &CType, to: &Renaming) -> Result<CType, AllocError>
     ensures { IfOk result (λ t. type_of t ≡
         type_in (renaming_of to.now) (tree.object object) (type_of of.now)) }
 {
-    match to.types.get(object as usize) {
-        Some(there) => there.copy(alloc),
-        None => renamed_type(alloc, of, &to.structs),
-    }
+    let here = renamed_type(alloc, of, &to.structs)?;
+    Ok(told_by(to.types.get(object as usize), here))
 }
 
 /// The type of an expression of this form.

@@ -9,7 +9,7 @@ use Rattle.sp_scopes.specs.Meanings.{Meaning}
 use Rattle.sp_scopes.specs.Meanings as means
 use Rattle.sp_env.specs.Env.{Env, set_object}
 use Rattle.sp_names.specs.Composite.{composite, composite_signature, told_length}
-use Rattle.sp_typing.specs.Refines.{Tells, of_void, of_integer, of_floating, of_pointer, of_array, of_struct, of_function, KeepsLength}
+use Rattle.sp_typing.specs.Refines.{Tells, lays_void, lays_integer, lays_floating, lays_pointer, lays_array, lays_struct, lays_function, KeepsLength}
 use Rattle.sp_typing.specs.Sorts.{agrees}
 use Rattle.sp_unit_laws.proofs.Lists.{none_some, some_is, each_set, get_below, set_there, set_other}
 use Rattle.sp_unit_laws.proofs.Envs.{Goes, keeps_on}
@@ -121,14 +121,14 @@ length_kept (Some n) (Some m) o h = h
 
 -- so it tells at least what the type does
 pub composite_tells : (a b t : CType) → Tells a t → Tells (composite a b) t
-composite_tells a (pointer b) t (of_pointer u v x) = of_pointer u (composite v b) (composite_tells v b u x)
-composite_tells a (array b o) t (of_array u v n m x k) =
-    of_array u (composite v b) n (told_length m o) (composite_tells v b u x) (length_kept n m o k)
-composite_tells a (function r) t (of_function p s) = of_function p (composite_signature s r)
-composite_tells a b t of_void = of_void
-composite_tells a b t (of_integer k) = of_integer k
-composite_tells a b t (of_floating k) = of_floating k
-composite_tells a b t (of_struct k) = of_struct k
+composite_tells a (pointer b) t (lays_pointer u v) = lays_pointer u (composite v b)
+composite_tells a (array b o) t (lays_array u v n m x k) =
+    lays_array u (composite v b) n (told_length m o) (composite_tells v b u x) (length_kept n m o k)
+composite_tells a (function r) t (lays_function p s) = lays_function p (composite_signature s r)
+composite_tells a b t lays_void = lays_void
+composite_tells a b t (lays_integer k) = lays_integer k
+composite_tells a b t (lays_floating k) = lays_floating k
+composite_tells a b t (lays_struct k) = lays_struct k
 composite_tells a b t x = x
 
 -- an object that tells all that the one that was there tells, where both last

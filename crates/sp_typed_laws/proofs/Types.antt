@@ -17,7 +17,7 @@ use Rattle.sp_operands.specs.Conversions.{is_complete, is_function}
 use Rattle.sp_operands.specs.Conversions.{is_floating as is_floating_type}
 use Rattle.sp_ir.specs.Formed.{is_floating}
 use Rattle.sp_ir.specs.Terrain.{size_in}
-use Rattle.sp_typing.specs.Refines.{Tells, of_void, of_integer, of_floating, of_pointer, of_array, of_struct, of_function, KeepsLength}
+use Rattle.sp_typing.specs.Refines.{Tells, lays_void, lays_integer, lays_floating, lays_pointer, lays_array, lays_struct, lays_function, KeepsLength}
 use Rattle.sp_typing.specs.Sorts.{agrees, IsSized}
 use Rattle.sp_typing.specs.Trees.{Converts}
 use Rattle.sp_unit_laws.proofs.Lists.{some_is, none_some, Each}
@@ -233,10 +233,10 @@ keeps_self None = tt
 keeps_self (Some n) = refl
 
 pub tells_self : (t : CType) → Tells t t
-tells_self void = of_void
-tells_self (integer k) = of_integer k
-tells_self (floating k) = of_floating k
-tells_self (pointer t) = of_pointer t t (tells_self t)
-tells_self (array t n) = of_array t t n n (tells_self t) (keeps_self n)
-tells_self (structure k) = of_struct k
-tells_self (function s) = of_function s s
+tells_self void = lays_void
+tells_self (integer k) = lays_integer k
+tells_self (floating k) = lays_floating k
+tells_self (pointer t) = lays_pointer t t
+tells_self (array t n) = lays_array t t n n (tells_self t) (keeps_self n)
+tells_self (structure k) = lays_struct k
+tells_self (function s) = lays_function s s

@@ -15,7 +15,7 @@ use Rattle.sp_initialisers.specs.declared.targets.Target.{Target}
 use Rattle.sp_initialisers.specs.Runs.{parts, taken as part_taken}
 use Rattle.sp_initialisers.specs.Strings.{only_value, string_for, string_added}
 use Rattle.sp_initialisers.specs.Initialisers.{leaf_given, one_given, only_given, is_aggregate, Progress, filled, given as init_given, struct_given, array_given, alone, initialised, how_many, last_leaf, measured, with_length, is_unmeasured, Started, started}
-use Rattle.sp_typing.specs.Refines.{Tells, of_array}
+use Rattle.sp_typing.specs.Refines.{Tells, lays_array}
 use Rattle.sp_unit_laws.proofs.Lists.{none_some, some_is}
 use Rattle.sp_unit_laws.proofs.Composites.{array_formed}
 use Rattle.sp_unit_laws.proofs.After.{Gives, gives, gives_met, gives_given, anything}
@@ -144,8 +144,8 @@ abbrev IsMeasured : CType → Env → CType → Type 0
 IsMeasured t env u = IsObjectType u env × Completes t u
 
 array_completes : (t : CType) (m : Option ℕ) → Completes (array t None) (array t m)
-array_completes t m v (of_array u w None o x k) = of_array u t None m x tt
-array_completes t m v (of_array u w (Some n) o x k) = absurd (none_some n k)
+array_completes t m v (lays_array u w None o x k) = lays_array u t None m x tt
+array_completes t m v (lays_array u w (Some n) o x k) = absurd (none_some n k)
 
 measured_sound : (env : Env) (at : Place) (vs : List (ℕ × Typed)) (t : CType) → IsObjectType t env
     → Gives (IsMeasured t env) (measured env.tables.structs at vs t)

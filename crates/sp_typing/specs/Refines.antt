@@ -19,6 +19,17 @@ pub data Refines (f : ℕ → ℕ) : CType → CType → Type 0 where
   of_struct : (k : ℕ) → Refines f (structure k) (structure (f k))
   of_function : (r s : Signature) → Refines f (function r) (function s)
 
--- the first type tells at least what the second does
+-- An object of the second type may be named with the first, since it is laid out alike: pointers may
+-- point to what another unit tells more of.
+pub data LaysOut (f : ℕ → ℕ) : CType → CType → Type 0 where
+  lays_void : LaysOut f void void
+  lays_integer : (k : IntKind) → LaysOut f (integer k) (integer k)
+  lays_floating : (k : FloatKind) → LaysOut f (floating k) (floating k)
+  lays_pointer : (t u : CType) → LaysOut f (pointer t) (pointer u)
+  lays_array : (t u : CType) (n m : Option ℕ) → LaysOut f t u → KeepsLength n m → LaysOut f (array t n) (array u m)
+  lays_struct : (k : ℕ) → LaysOut f (structure k) (structure (f k))
+  lays_function : (r s : Signature) → LaysOut f (function r) (function s)
+
+-- the first type tells at least what the second does of the layout of an object
 abbrev pub Tells : CType → CType → Type 0
-Tells u t = Refines (λ k. k) t u
+Tells u t = LaysOut (λ k. k) t u
