@@ -15,7 +15,7 @@ use Rattle.sp_joining.specs.Entries.{ObjectEntry, Joined, linked, with_link, wit
 
 -- 6.1.2.6: of two declarations of one object the type is the composite, and all else is told by
 -- the one that defines it, where the later one doesn't by the earlier; where its struct is incomplete
--- there, by the later
+-- there, by the later that has its members. What defines an object has them (6.7.2).
 abbrev pub tells_more : ObjectEntry → ObjectEntry → Bool
 tells_more new old = is_defined new.source.storage || old.incomplete && not new.incomplete
 

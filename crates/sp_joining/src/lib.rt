@@ -3,10 +3,11 @@
 //! Units are joined one behind another. A name with external linkage is one object or one function
 //! in all of them; each other declaration is an entry of its own. An *entry* has the type that the
 //! program gives it, the *composite* of the types of its declarations (6.1.2.6), and the
-//! declaration that tells all else: the one that defines it, else the first. Its trees still have
-//! the numbers of their unit. A [`Joined`] is what is joined by now, and [`UnitNumbers`] has the
-//! program's number of each struct, object and function of a unit. A parameter of a prototype is no
-//! object of the program.
+//! declaration that tells all else: the one that defines it, else the first that has the members of
+//! its struct, else the first. Its trees still have the numbers of their unit. A [`Joined`] is what
+//! is joined by now, and [`UnitNumbers`] has the program's number of each struct, object and
+//! function of a unit. A parameter of a prototype is no object of the program, nor is
+//! another object of automatic storage duration that no function of the unit lists.
 //!
 //! So `extern int a[]; int f(void) { return a[0]; }` and `int a[4];` give the object `a` of the type
 //! `int[4]`, told by the second unit, and the function `f`, told by the first.

@@ -19,7 +19,8 @@ use Rattle.sp_lower_objects.specs.Codes.{known_part, part_at, known_number, numb
 use Rattle.sp_lower_objects.specs.Objects.{kind_of_storage, owner_of, start_of, zero_of, function_names, start_sites, site_object}
 use Rattle.sp_lower_objects.specs.Owners.{mark_at}
 use Rattle.sp_lower.specs.Programs.{first_local, declared_with, made_with, IsNumbered}
-use Rattle.sp_typing.specs.Programs.{is_static, Lists, IsTypedObject, IsTypedProgram}
+use Rattle.sp_typing.specs.Programs.{Lists, IsTypedObject, IsTypedProgram}
+use Rattle.sp_typing.specs.Statements.{is_static}
 use Rattle.sp_draft_laws.specs.Stands.{site_kind}
 use Rattle.sp_draft_laws.specs.Sound.{IsFormedSite}
 use Rattle.sp_value_laws.specs.Starts.{StartsStand}

@@ -28,8 +28,8 @@ use Rattle.sp_lower_objects.specs.Owners.{owners_of, codes_of, mark_at}
 use Rattle.sp_lower_objects.specs.Regions.{all_regions}
 use Rattle.sp_lower.specs.Programs.{defined, first_local, local_count, start_due, counts_in, context_of_lowered, objects_with, declared_with, made_with, IsNumbered}
 use Rattle.sp_lower_laws.proofs.Pointers.{pointers-hold}
-use Rattle.sp_typing.specs.Statements.{IsTypedBody}
-use Rattle.sp_typing.specs.Programs.{is_static, is_static_object, sees, scene_of, Lists, IsTypedFunction, IsTypedProgram}
+use Rattle.sp_typing.specs.Statements.{is_static, IsTypedBody}
+use Rattle.sp_typing.specs.Programs.{is_static_object, sees, scene_of, Lists, IsTypedFunction, IsTypedProgram}
 use Rattle.sp_draft_laws.specs.Stands.{scene, Stands, Fits}
 use Rattle.sp_draft_laws.proofs.Sorts.{false_true, stored_there}
 use Rattle.sp_body_laws.specs.Frames.{FitsFrame}

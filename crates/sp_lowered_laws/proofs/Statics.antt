@@ -10,7 +10,8 @@ use Rattle.sp_draft.specs.Draft.{Left}
 use Rattle.sp_lower_functions.specs.Functions.{Part}
 use Rattle.sp_lower.specs.Programs.{first_site, counts_in, IsNumbered}
 use Rattle.sp_lower_laws.proofs.Pointers.{pointers-hold}
-use Rattle.sp_typing.specs.Programs.{is_static, is_static_object, sees, IsTypedProgram}
+use Rattle.sp_typing.specs.Programs.{is_static_object, sees, IsTypedProgram}
+use Rattle.sp_typing.specs.Statements.{is_static}
 use Rattle.sp_draft_laws.specs.Stands.{Stands, Fits}
 use Rattle.sp_draft_laws.proofs.Sorts.{false_true}
 use Rattle.sp_value_laws.specs.Starts.{StartsStand}

@@ -33,7 +33,7 @@ module _ (r : Renaming) (s p : Scene) (w : Follows r s p) where
 
   pub member_kept : (a b : CType) (n : ℕ) (t u : CType) → R a b → R t u → HasMember s.structs a n t → HasMember p.structs b n u
   member_kept a b n t u (of_struct k) y h =
-      let m : HasMembers r.structs p.structs (number_in r.structs k) h.1.1 = w.members k h.1.0 h.1.1 h.1.2 h.1.3 in (
+      let m : HasMembers r.structs p.structs (number_in r.structs k) h.1.1 = w.table.members k h.1.0 h.1.1 h.1.2 h.1.3 in (
         some_size r s p w (structure k) (structure (number_in r.structs k)) (of_struct k) h.0,
         (m.struct, m.members, m.there, m.told, members_kept r.structs h.1.1 m.members n t u m.same y h.1.4),
       )

@@ -213,7 +213,7 @@ module _ (r : Renaming) (s p : Scene) (w : Follows r s p) where
           → repeated n (layout p.structs b) ≡ Some e
       by None is f g = absurd (none_some e g)
       by (Some d) is f g = subst (λ o. repeated n o ≡ Some e) (sym (f d is)) g
-  layout_kept t u e (of_struct k) h = w.layouts k e h
+  layout_kept t u e (of_struct k) h = w.table.layouts k e h
   layout_kept t u e (of_function a b) h = absurd (none_some e h)
 
   size_laid : (o : Option Extent) → 1 ≤ size_in o → (e : Extent) × (o ≡ Some e)
@@ -251,7 +251,7 @@ module _ (r : Renaming) (s p : Scene) (w : Follows r s p) where
     formed_kept (array t None) h = formed_kept t h
     formed_kept (array t (Some n)) h =
         (formed_kept t h.0, h.1, repeated_small n (layout p.structs (renamed_type r.structs t)))
-    formed_kept (structure j) h = w.structs j h
+    formed_kept (structure j) h = w.table.structs j h
     formed_kept (function g) h = signature_kept g h
 
     signature_kept : (g : Signature) → IsFormedSignature s.structs g → IsFormedSignature p.structs (renamed_signature r.structs g)

@@ -36,12 +36,16 @@ pub record IsObjectIn (r : Renaming) (p : Scene) (n : ℕ) (t : CType) : Type 0 
   pub laid_out : LaysOut (number_in r.structs) t object.of
   pub formed : IsFormed p.structs object.of
 
+-- the structs `ps` have what the unit's structs `ss` have, under the numbers `ns`
+pub record StructsFollow (ns : List ℕ) (ss ps : List Struct) : Type 0 where
+  pub structs : (k : ℕ) → k < length ss → number_in ns k < length ps
+  pub layouts : (k : ℕ) (e : Extent) → layout ss (structure k) ≡ Some e
+      → layout ps (structure (number_in ns k)) ≡ Some e
+  pub members : (k : ℕ) (x : Struct) (ms : List (ℕ × CType)) → slice_get ss k ≡ Some x → x.members ≡ Some ms
+      → HasMembers ns ps (number_in ns k) ms
+
 -- the program `p` has what may be named in the unit's scene `s`
 pub record Follows (r : Renaming) (s p : Scene) : Type 0 where
-  pub structs : (k : ℕ) → k < length s.structs → number_in r.structs k < length p.structs
-  pub layouts : (k : ℕ) (e : Extent) → layout s.structs (structure k) ≡ Some e
-      → layout p.structs (structure (number_in r.structs k)) ≡ Some e
-  pub members : (k : ℕ) (x : Struct) (ms : List (ℕ × CType)) → slice_get s.structs k ≡ Some x → x.members ≡ Some ms
-      → HasMembers r.structs p.structs (number_in r.structs k) ms
+  pub table : StructsFollow r.structs s.structs p.structs
   pub objects : (n : ℕ) (o : Object) → slice_get s.objects n ≡ Some o → s.is_visible n ≡ true → IsObjectIn r p n o.of
   pub functions : (n : ℕ) → n < s.functions → number_in r.functions n < p.functions

@@ -43,7 +43,7 @@ module _ (ss rs : List Struct) (stays : Stays ss rs) where
       let w : SameType ss rs t = type_stays ss rs stays t x.0 x.1 in
       ap size_in w.layouts
 
-  has_size : (t : CType) → 1 ≤ size_of ss t → 1 ≤ size_of rs t
+  pub has_size : (t : CType) → 1 ≤ size_of ss t → 1 ≤ size_of rs t
   has_size t h = subst (λ n. 1 ≤ n) (sym (size_stays t h)) h
 
   sized_stays : (t : CType) → IsSized ss t → IsSized rs t

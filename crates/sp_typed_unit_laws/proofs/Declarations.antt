@@ -1,5 +1,6 @@
 -- The environment behind a declaration is sound, and the objects that it lists are declared, where
 -- they are the function's own and start values are typed (C90 6.5, 6.7.2).
+use Rattle.sp_types.specs.Structs.{IsFormed}
 use Rattle.std.proofs.Common.{◌≡◌, ◌⊎◌, inl, inr, ℕ, ◌≤◌, Bool, true, false, not, ◌&&◌, ◌||◌, length, List, [], ◌∷◌, ◌++◌, Option, Some, None, refl, ap, sym, subst, ◌∙◌, true≢false, arith}
 use Rattle.std.specs.Prelude.{slice_get, slice_set, ⊤}
 use Rattle.sp_tree.specs.declared.fault.Place.{Place}
@@ -19,7 +20,7 @@ use Rattle.sp_scopes.specs.Meanings as means
 use Rattle.sp_scopes.specs.Scopes.{is_file_scope}
 use Rattle.sp_env.specs.declared.env.Entity.{Entity}
 use Rattle.sp_env.specs.declared.env.Entity.TheVariants as entities
-use Rattle.sp_env.specs.Env.{Env, set_object, linked}
+use Rattle.sp_env.specs.Env.{Env, set_object, linked, object_type}
 use Rattle.sp_member_rules.specs.Parameters.{declared_name}
 use Rattle.sp_expr_check.specs.Expressions.{declared_type}
 use Rattle.sp_initialisers.specs.Initialisers.{Started, started}
@@ -48,9 +49,15 @@ use Rattle.sp_typed_unit_laws.specs.Starts.{IsStart, StartsAreTyped}
 use Rattle.sp_typed_unit_laws.proofs.Parted.{each_left, each_right}
 use Rattle.sp_typed_unit_laws.proofs.Shows.{Shows, shown, shows_none, hence, behind, shows_lead, shows_met, shows_given, shows_either, ahead, asked}
 use Rattle.sp_typed_unit_laws.proofs.Held.{IsHeld, held_on}
-use Rattle.sp_typed_unit_laws.proofs.Going.{started_stays, all_declared_stay}
-use Rattle.sp_typed_unit_laws.proofs.Initialisers.{IsObjectType, Completes, IsStartedType, started_sound}
-use Rattle.sp_typed_unit_laws.proofs.Objects.{leads_given, Ends, ends, ends_led, ends_given, ends_met, ends_behind, ends_then, IsEntry, entry_on, reaches_place, storage_home, IsPlace, object_ends, unvalued_leads}
+use Rattle.sp_ir.specs.Terrain.{size_of}
+use Rattle.sp_typing.specs.Statements.{is_static}
+use Rattle.sp_objects.specs.Objects.{may_wait}
+use Rattle.sp_typed_laws.proofs.Types.{complete_sized}
+use Rattle.sp_typed_laws.proofs.Envs.{fit_table}
+use Rattle.sp_operands.specs.Conversions.{is_complete}
+use Rattle.sp_typed_unit_laws.proofs.Going.{IsBegun, started_stays, all_declared_stay}
+use Rattle.sp_leaf_laws.proofs.Initialisers.{IsObjectType, Completes, IsStartedType, started_sound}
+use Rattle.sp_typed_unit_laws.proofs.Objects.{leads_given, Ends, ends, ends_given, ends_met, ends_behind, ends_then, IsEntry, reaches_place, storage_home, storage_inside, IsPlace, object_ends}
 
 -- ---- signatures
 
@@ -108,7 +115,30 @@ auto_fixed Static h = h
 auto_fixed Outside h = h
 auto_fixed Text h = h
 
+-- where linkage is none the object stands here, and has to be complete
+waits_not : (l : Linkage) (t : CType) → is_linked l ≡ false → may_wait l t ≡ false
+waits_not External t h = absurd (true≢false h)
+waits_not Internal t h = refl
+waits_not Inner t h = refl
+
+last_of : (a b c : Bool) → a ≡ false → b ≡ false → (a || b || c) ≡ true → c ≡ true
+last_of true b c h g e = absurd (true≢false h)
+last_of false true c h g e = absurd (true≢false g)
+last_of false false c h g e = e
+
 module _ (names : List (List ℕ)) (starts : StartsAreTyped names) (own : ℕ → Bool) where
+  -- an object without linkage is complete, where it doesn't last
+  abbrev IsWhole : Linkage → ℕ → Env → Type 0
+  IsWhole l k env = is_linked l ≡ false → (o : Object) → slice_get env.tables.objects k ≡ Some o
+      → is_static o.storage ≡ false → 1 ≤ size_of env.tables.structs o.of
+
+  abbrev IsFinished : Env → Linkage → ℕ → Env → Type 0
+  IsFinished first l k env = IsEntry own (length first.tables.objects) l k env × IsWhole l k env
+
+  complete_has : (env : Env) → IsFit own env → (t : CType) → IsFormed env.tables.structs t
+      → is_complete env.tables.structs t ≡ true → 1 ≤ size_of env.tables.structs t
+  complete_has env h t f c = (complete_sized env.tables.structs (fit_table own env h) t f c).0
+
   -- the entry with its values
   module _ (first : Env) (env : Env) (l : Linkage) (k : ℕ) (h : IsHeld own env)
       (g : Reaches own first env) (x : IsEntry own (length first.tables.objects) l k env)
@@ -185,19 +215,30 @@ module _ (names : List (List ℕ)) (starts : StartsAreTyped names) (own : ℕ �
         by (inl new) there = inl new
         by (inr lasting) there = inr (ap lasts there ∙ sym (ap lasts at) ∙ lasting)
 
+    valued_whole : (v : Started) (later : Env) → Reaches own env later → IsStartedType o.of v later
+        → IsWhole l k (set_object later k (valued v))
+    valued_whole v later i f e x there passes =
+        let y : IsKeptObject later.tables.objects k o = i.moves.objects k o at in
+        let same : valued v ≡ x = some_is (valued v) x
+        (sym (set_there later.tables.objects k (valued v)
+        (get_below later.tables.objects k y.object y.there)) ∙ there) in
+        subst (λ z. 1 ≤ size_of later.tables.structs z.of) same
+        (complete_has later i.fit v.of f.0.0.0 f.2)
+
   valued_ends : (first env : Env) (l : Linkage) (k : ℕ) (p at : Place) (i : Init) → IsHeld own env
       → Reaches own first env → IsEntry own (length first.tables.objects) l k env
       → IsWrittenInit i
-      → Ends own first (IsEntry own (length first.tables.objects) l k)
-      (object_valued names env k p at i)
+      → Ends own first (IsFinished first l k) (object_valued names env k p at i)
   valued_ends first env l k p at i h g x w =
       ends_given {o = slice_get env.tables.objects k} _ _ (λ o e.
       let f : IsObjectType o.of env =
       (((h.fit.formed.objects k o e).0, h.fit.objects k o e), (h.fit.formed.objects k o e).1) in
       ends_behind (started_told o f) (λ v j q. ends
-      (valued_reaches first env l k h g x o e v.0 v.1 j q.0)
-      (valued_entry first env l k h g x o e v.0 v.1 j q.0
-      (record { automatic = q.1.automatic }))))
+      (valued_reaches first env l k h g x o e v.0 v.1 j q.0) (
+        valued_entry first env l k h g x o e v.0 v.1 j q.0
+            (record { automatic = q.1.automatic }),
+        valued_whole first env l k h g x o e v.0 v.1 j q.0,
+      )))
     where
       started_told : (o : Object) → IsObjectType o.of env
           → After own env (λ v later. IsStartedType o.of v later × IsStart own
@@ -218,13 +259,21 @@ module _ (names : List (List ℕ)) (starts : StartsAreTyped names) (own : ℕ �
   finished_ends : (first env : Env) (l : Linkage) (k : ℕ) (p at : Place) (s : Storage)
       (start : MaybeInit) → IsHeld own env
       → Reaches own first env → IsEntry own (length first.tables.objects) l k env
-      → IsWrittenStart start
-      → Ends own first (IsEntry own (length first.tables.objects) l k)
-      (object_finished names env k p at l s start)
-  finished_ends first env l k p at s no_init h g x w =
-      ends_led g (unvalued_leads own env k l s at h.fit)
-      (λ e j. entry_on own (length first.tables.objects) l k env e h.fit j x)
-  finished_ends first env l k p at s (some_init i) h g x w =
+      → IsWrittenStart start → (is_linked l ≡ false → is_outside s ≡ false)
+      → Ends own first (IsFinished first l k) (object_finished names env k p at l s start)
+  finished_ends first env l k p at s no_init h g x w inside =
+      ends_given {o = object_type (slice_get env.tables.objects k)} _ _ (λ t e.
+      ends_met {b = is_outside s || may_wait l t || is_complete env.tables.structs t} _ _ (λ whole.
+      ends g (
+        x,
+        λ f o there passes.
+            let same : t ≡ o.of = some_is t o.of (sym e ∙ ap object_type there) in
+            complete_has env h.fit o.of (h.fit.formed.objects k o there).0
+            (subst (λ u. is_complete env.tables.structs u ≡ true) same
+            (last_of (is_outside s) (may_wait l t) (is_complete env.tables.structs t) (inside f)
+            (waits_not l t f) whole)),
+      )))
+  finished_ends first env l k p at s (some_init i) h g x w inside =
       valued_ends first env l k p at i h g x w
 
   -- ---- objects
@@ -233,8 +282,7 @@ module _ (names : List (List ℕ)) (starts : StartsAreTyped names) (own : ℕ �
       (start : MaybeInit) (l : Linkage) (e : Option Entity) → IsHeld own first
       → Reaches own first env → IsObjectType t env → (is_linked l ≡ false → own k ≡ true)
       → IsPlace first env l k e → IsWrittenStart start
-      → Ends own first (IsEntry own (length first.tables.objects) l k)
-      (object_told names env class t k n p at start l e)
+      → Ends own first (IsFinished first l k) (object_told names env class t k n p at start l e)
   told_ends first env class t k n p at start l e h g f mine place w =
       ends_met {b = may_define env l (is_given start)} _ _ (λ may.
       ends_met {b = is_outside (storage_for l class (is_given start)) || not (is_floating_array t)}
@@ -242,7 +290,7 @@ module _ (names : List (List ℕ)) (starts : StartsAreTyped names) (own : ℕ �
       ends_then (object_ends own first env k n t (storage_for l class (is_given start)) l
       (is_given start) p e h g f mine (storage_home l class (is_given start)) place) (λ later j x.
       finished_ends first later l k p at (storage_for l class (is_given start)) start (held_on h j)
-      j x w)))
+      j x w (storage_inside l class (is_given start)))))
 
   abbrev AreDeclaredIn : List ℕ → Env → Type 0
   AreDeclaredIn ns env = AreDeclared (scene_of own env) ns
@@ -265,10 +313,18 @@ module _ (names : List (List ℕ)) (starts : StartsAreTyped names) (own : ℕ �
 
   -- the list with the entry of the number
   listed_by : (l : Linkage) (env : Env) (ks : List ℕ) (k : ℕ) (first : ℕ) → AreDeclaredIn ks env
-      → IsEntry own first l k env → AreDeclaredIn (with_number ks l k) env
+      → IsEntry own first l k env × IsWhole l k env → AreDeclaredIn (with_number ks l k) env
   listed_by External env ks k first h x = h
   listed_by Internal env ks k first h x = h
-  listed_by Inner env ks k first h x = declared_pushed env ks k h (x.declared refl)
+  listed_by Inner env ks k first h x =
+      let b : IsBegun (scene_of own env) k = x.0.declared refl in
+      declared_pushed env ks k h (record {
+        object = b.object;
+        there = b.there;
+        visible = b.visible;
+        entered = b.entered;
+        sized = x.1 refl b.object b.there;
+      })
 
   object_shows : (env : Env) (ks : List ℕ) (class : Option Keyword) (base : CType) (d : Declarator)
       (start : MaybeInit) (n : ℕ) (p : Place) (l : Linkage) (e : Option Entity) → IsHeld own env

@@ -1,6 +1,9 @@
 -- The declarator of a definition leaves the environment sound, in which its formals are seen
 -- (C90 6.7.1).
-use Rattle.std.proofs.Common.{◌≡◌, ℕ, ◌<◌, Bool, true, false, not, ◌&&◌, ◌||◌, if◌then◌else◌, length, List, [], ◌∷◌, ◌++◌, Option, Some, None, refl, ap, sym, ◌∙◌, true≢false, arith}
+use Rattle.sp_unit_laws.proofs.Envs.{IsFormedEnv}
+use Rattle.sp_ir.specs.Terrain.{size_of}
+use Rattle.sp_typed_laws.proofs.Grows.{has_size}
+use Rattle.std.proofs.Common.{◌≡◌, ℕ, ◌<◌, Bool, true, false, not, ◌&&◌, ◌||◌, if◌then◌else◌, length, List, [], ◌∷◌, ◌++◌, Option, Some, None, refl, ap, sym, ◌∙◌, true≢false, arith, ◌≤◌, subst}
 use Rattle.std.specs.Prelude.{slice_get, ⊤}
 use Rattle.sp_tree.specs.declared.fault.Place.{Place}
 use Rattle.sp_syntax.specs.Syntax.{Declarator, declarator, DeclaratorForm, absent, declared, group, pointer, array, function, Param, param, Params, no_params, next_param}
@@ -27,7 +30,7 @@ use Rattle.sp_unit_laws.proofs.Leaves.{parameters_told}
 use Rattle.sp_written_laws.specs.Written.{IsWrittenDeclarator, IsWrittenDeclaratorForm, IsWrittenParam, AreWrittenParams}
 use Rattle.sp_typed_laws.specs.Sound.{is_lasting, lasts}
 use Rattle.sp_typed_laws.proofs.Types.{or_left, complete_sized}
-use Rattle.sp_typed_laws.proofs.Envs.{IsFit, fit_table, IsKeptObject, Reaches, reaches_nowhere, reaches_on}
+use Rattle.sp_typed_laws.proofs.Envs.{IsFit, fit_table, IsKeptObject, Reaches, reaches_nowhere, reaches_on, table_stays}
 use Rattle.sp_typed_laws.proofs.After.{Leads, beside}
 use Rattle.sp_typed_laws.proofs.Updates.{IsWider, fit_wider, more_seen, more_wider, more_from, fit_entered, leads_declared}
 use Rattle.sp_typed_laws.proofs.Objects.{reaches_set}
@@ -42,23 +45,32 @@ use Rattle.sp_typed_unit_laws.proofs.Declarations.{signature_in}
 
 -- ---- formals
 
+-- of complete type (6.7.1)
 abbrev pub IsFormalIn : Env → ℕ → Type 0
 IsFormalIn env n = (o : Object) × (slice_get env.tables.objects n ≡ Some o) × (o.storage ≡ Formal)
+    × (1 ≤ size_of env.tables.structs o.of)
 
-pub formal_on : {own : ℕ → Bool} {env later : Env} → Reaches own env later → (n : ℕ)
-    → IsFormalIn env n → IsFormalIn later n
-formal_on {later = later} g n h =
+pub formal_on : {own : ℕ → Bool} {env later : Env} → IsFormedEnv env → Reaches own env later
+    → (n : ℕ) → IsFormalIn env n → IsFormalIn later n
+formal_on {own = own} {env = env} {later = later} f g n h =
     let x : IsKeptObject later.tables.objects n h.0 = g.moves.objects n h.0 h.1 in
-    (x.object, x.there, ap (λ o. o.storage) (x.whole (ap is_lasting h.2)) ∙ h.2)
+    let same : x.object ≡ h.0 = x.whole (ap is_lasting h.2) in (
+      x.object,
+      x.there,
+      ap (λ o. o.storage) same ∙ h.2,
+      subst (λ o. 1 ≤ size_of later.tables.structs o.of) (sym same)
+          (has_size env.tables.structs later.tables.structs (table_stays own env later g.moves f)
+          h.0.of h.3),
+    )
 
 pub record AreFormals (ns : List ℕ) (env : Env) : Type 0 where
   pub formals : Each (IsFormalIn env) ns
   pub distinct : AreDistinct ns
 
-pub formals_on : {own : ℕ → Bool} {env later : Env} → Reaches own env later → (ns : List ℕ)
-    → AreFormals ns env → AreFormals ns later
-formals_on g ns h = record {
-  formals = λ i n at. formal_on g n (h.formals i n at);
+pub formals_on : {own : ℕ → Bool} {env later : Env} → IsFormedEnv env → Reaches own env later
+    → (ns : List ℕ) → AreFormals ns env → AreFormals ns later
+formals_on f g ns h = record {
+  formals = λ i n at. formal_on f g n (h.formals i n at);
   distinct = h.distinct;
 }
 
@@ -68,9 +80,9 @@ no_formals env = record { formals = each_none (IsFormalIn env); distinct = disti
 abbrev IsRead : Read → Env → Type 0
 IsRead x env = AreTypes x.types env × AreFormals x.formals env
 
-read_on : {own : ℕ → Bool} {env later : Env} → Reaches own env later → (x : Read) → IsRead x env
-    → IsRead x later
-read_on g x h = (types_kept g x.types h.0, formals_on g x.formals h.1)
+read_on : {own : ℕ → Bool} {env later : Env} → IsFormedEnv env → Reaches own env later
+    → (x : Read) → IsRead x env → IsRead x later
+read_on f g x h = (types_kept g x.types h.0, formals_on f g x.formals h.1)
 
 module _ (own : ℕ → Bool) where
   abbrev ReadFits : Read → Type 0
@@ -78,7 +90,7 @@ module _ (own : ℕ → Bool) where
 
   -- ---- one parameter: its entry k is new
 
-  module _ (env later : Env) (g : Reaches own env later) (k : ℕ) (x : Read)
+  module _ (env later : Env) (h : IsFit own env) (g : Reaches own env later) (k : ℕ) (x : Read)
       (new : length env.tables.objects ≡ k) (low : k < length later.tables.objects)
       (r : IsRead x env) where
     formal_apart : (i n : ℕ) → slice_get x.formals i ≡ Some n → k ≡ n → ⊥
@@ -88,11 +100,11 @@ module _ (own : ℕ → Bool) where
         omega (arith, below, new, same)
 
     named_shows : (n : ℕ × Place) (t : CType) → IsType t later → is_function t ≡ false
-        → own k ≡ true
+        → 1 ≤ size_of later.tables.structs t → own k ≡ true
         → Shows own env ReadFits IsRead
         (and_then (named_parameter later k (Some n) t) (λ e.
         accepted (record { types = x.types ++ t ∷ []; formals = x.formals ++ k ∷ [] }, e)))
-    named_shows n t f plain mine =
+    named_shows n t f plain sized mine =
         let o : Object = formal n.0 t n.1 in
         let a : Env = set_object later k o in
         let to-a : Reaches own env a =
@@ -110,8 +122,8 @@ module _ (own : ℕ → Bool) where
                 (type_kept j t (type_kept_set a t f)),
             record {
               formals = each_pushed (IsFormalIn e) x.formals k
-                  (λ i n at. formal_on to-e n (r.1.formals i n at))
-                  (formal_on j k (o, there, refl));
+                  (λ i n at. formal_on h.formed to-e n (r.1.formals i n at))
+                  (formal_on to-a.fit.formed j k (o, there, refl, sized));
               distinct = distinct_pushed x.formals k r.1.distinct formal_apart;
             },
           ),
@@ -138,7 +150,8 @@ module _ (own : ℕ → Bool) where
         shows_given {o = declared_name d} _ _ (λ n e.
         shows_met {b = not (is_floating (adjusted t))} _ _ (λ kind.
         shows_met {b = is_complete later.tables.structs (adjusted t)} _ _ (λ whole.
-        asked (named_shows n (adjusted t) a.0 a.1)
+        asked (named_shows n (adjusted t) a.0 a.1
+        (complete_sized later.tables.structs (fit_table own later g.fit) (adjusted t) a.0.0 whole).0)
         (gives_then {Q = λ e. ⊤} {c = named_parameter later k (Some n) (adjusted t)} anything
         (λ e u. gives {x = (
           record {
@@ -161,11 +174,11 @@ module _ (names : List (List ℕ)) (own : ℕ → Bool) where
       (specifiers_good names own r false (declarator_place d) ss to-r.fit w.0) (λ b g t.
       let to-b : Reaches own env b.1 = reaches_on own env r b.1 to-r g in
       shows_either {b = alone && is_lone_void b.0 d}
-      (λ lone. shown (λ l. (to-b, read_on to-b x f)))
+      (λ lone. shown (λ l. (to-b, read_on h.formed to-b x f)))
       (λ more. ahead (declared_good names own b.1 b.0 d g.fit w.1 t) (λ u k v.
       let to-u : Reaches own env u.1 = reaches_on own env b.1 u.1 to-b k in
       named_only env (declared_name d) u.1 x u.0 d refl
-      (λ n e. told_shows own env u.1 to-u (reserved_number env (declared_name d)) x
+      (λ n e. told_shows own env u.1 h to-u (reserved_number env (declared_name d)) x
       (number_is env (declared_name d) n e)
       (let low : reserved_number env (declared_name d) < length r.tables.objects =
       reserved_there env (declared_name d) n e in
@@ -293,7 +306,7 @@ module _ (names : List (List ℕ)) (own : ℕ → Bool) where
         (
           each_pushed (IsGoodStep l.1.tables.structs) x.0.steps (to_function l.0 dots p)
               (steps_kept k x.0.steps f.0) r,
-          formals_on k x.0.formals f.1,
+          formals_on h.formed k x.0.formals f.1,
         ),
       )))
 

@@ -1,96 +1,41 @@
 -- What was typed stays so behind a rule: start values, objects of blocks, and statements.
-use Rattle.std.proofs.Common.{◌≡◌, inl, inr, ℕ, Bool, true, false, List, [], ◌∷◌, Option, Some, None, refl, ap, sym, subst, ◌∙◌, true≢false}
+use Rattle.std.proofs.Common.{◌≡◌, inl, inr, ℕ, Bool, true, false, List, [], ◌∷◌, Option, Some, None, refl, sym, subst, ◌∙◌, true≢false, ◌≤◌}
 use Rattle.std.specs.Prelude.{slice_get}
 use Rattle.sp_types.specs.declared.ctype.IntKind.{IntKind}
 use Rattle.sp_types.specs.declared.program.Storage.{Storage}
 use Rattle.sp_types.specs.declared.program.Storage.TheVariants.{Static, Outside, Text, Auto, Formal}
-use Rattle.sp_types.specs.declared.extents.Extent.{Extent}
-use Rattle.sp_types.specs.Types.{CType, void, integer, floating, pointer, array, structure, function, Struct}
+use Rattle.sp_types.specs.Types.{CType}
 use Rattle.sp_types.specs.Typed.{Typed, of}
-use Rattle.sp_types.specs.Layout.{layout, repeated, struct_extent}
-use Rattle.sp_types.specs.Structs.{IsTable, IsWhole}
+use Rattle.sp_types.specs.Structs.{IsTable}
 use Rattle.sp_types.specs.Statements.{TypedStatement, typed_statement, TypedStatementForm, label, case_of, default_of, block, empty, single, if_else, switch_on, while_loop, do_loop, for_loop, goto_name, continue_loop, break_out, return_value, MaybeTypedStatement, no_statement, some_statement, TypedStatements, no_statements, next_statement}
 use Rattle.sp_types.specs.Programs.{Object}
-use Rattle.sp_ir.specs.Shapes.{Shape, Shapes, array_of, struct_of, union_of, HasShape, HaveShapes, has_integer, has_pointer, has_floating, has_array, has_struct, has_union, have_none, have_next}
-use Rattle.sp_ir.specs.Terrain.{size_of, size_in}
+use Rattle.sp_ir.specs.Shapes.{Shape}
+use Rattle.sp_ir.specs.Terrain.{size_of}
 use Rattle.sp_typing.specs.Sorts.{same_value, IsStored}
 use Rattle.sp_typing.specs.Trees.{Scene}
 use Rattle.sp_typing.specs.Starts.{IsLeafValue, AreLeafValues, IsWholeValue, IsStarted}
-use Rattle.sp_typing.specs.Statements.{Setting, IsCondition, IsMaybeTyped, IsMaybeCondition, IsReturned, IsEntered, IsDeclared, AreDeclared, IsTypedStatement, IsTypedForm, IsMaybeTypedStatement, AreTypedStatements}
-use Rattle.sp_unit_laws.proofs.Lists.{none_some}
-use Rattle.sp_unit_laws.proofs.Stays.{Stays}
+use Rattle.sp_typing.specs.Statements.{Setting, IsCondition, IsMaybeTyped, IsMaybeCondition, IsReturned, IsEntered, IsDeclared, AreDeclared, IsTypedStatement, IsTypedForm, IsMaybeTypedStatement, AreTypedStatements, is_static}
+use Rattle.sp_leaf_laws.proofs.Shapes.{shape_stays}
 use Rattle.sp_typed_laws.specs.Sound.{is_lasting}
-use Rattle.sp_typed_laws.proofs.Grows.{IsStill, Grows, typed_stays, stored_stays}
+use Rattle.sp_typed_laws.proofs.Grows.{has_size, IsStill, Grows, typed_stays, stored_stays}
 use Rattle.sp_typed_laws.proofs.Envs.{IsKeptObject, KeepObjects}
 
--- ---- shapes
+-- what is declared, before it is known to be complete
+pub record IsBegun (s : Scene) (n : ℕ) : Type 0 where
+  pub object : Object
+  pub there : slice_get s.objects n ≡ Some object
+  pub visible : s.is_visible n ≡ true
+  pub entered : IsEntered s object.storage object.of object.start
 
--- a struct that has members has an extent
-whole_extent : (ss : List Struct) (s : Struct) (o : Option (List (ℕ × CType)))
-    (ms : List (ℕ × CType)) → IsWhole ss s o → o ≡ Some ms
-    → (e : Extent) × (s.extent ≡ Some e)
-whole_extent ss s None ms w h = absurd (none_some ms h)
-whole_extent ss s (Some ns) ms w h = (w.1.0, w.1.1)
+abbrev begun_of : (s : Scene) (n : ℕ) → IsDeclared s n → IsBegun s n
+begun_of s n h = record { object = h.object; there = h.there; visible = h.visible; entered = h.entered }
 
-module _ (ss rs : List Struct) (table : IsTable ss) (stays : Stays ss rs) where
-  struct_same : (k : ℕ) (s : Struct) (ms : List (ℕ × CType)) → slice_get ss k ≡ Some s
-      → s.members ≡ Some ms → slice_get rs k ≡ Some s
-  struct_same k s ms at h =
-      let x : (e : Extent) × (s.extent ≡ Some e) =
-      whole_extent ss s s.members ms (table k s at) h in
-      stays.complete k s x.0 at x.1
-
-  laid_same : (t : CType) (s : Shape) → HasShape ss (size_of ss) t s → layout rs t ≡ layout ss t
-  laid_same void s h = elim h [ ]
-  laid_same (function r) s h = elim h [ ]
-  laid_same (integer k) s h = refl
-  laid_same (floating k) s h = refl
-  laid_same (pointer t) s h = refl
-  laid_same (array t None) s h = elim h [ ]
-  laid_same (array t (Some n)) s (has_array {s = inner} h) = ap (repeated n) (laid_same t inner h)
-  laid_same (structure k) s (has_struct {d = d} {members = ms} at union members inner) =
-      ap struct_extent (struct_same k d ms at members ∙ sym at)
-  laid_same (structure k) s (has_union {d = d} {first = m} {rest = ms} at union members inner) =
-      ap struct_extent (struct_same k d (m ∷ ms) at members ∙ sym at)
-
-  size_same : (t : CType) (s : Shape) → HasShape ss (size_of ss) t s
-      → size_of rs t ≡ size_of ss t
-  size_same t s h = ap size_in (laid_same t s h)
-
-  mutual
-    pub shape_stays : (t : CType) (s : Shape) → HasShape ss (size_of ss) t s
-        → HasShape rs (size_of rs) t s
-    shape_stays void s h = elim h [ ]
-    shape_stays (function r) s h = elim h [ ]
-    shape_stays (array t None) s h = elim h [ ]
-    shape_stays (integer k) s has_integer = has_integer
-    shape_stays (floating k) s has_floating = has_floating
-    shape_stays (pointer t) s has_pointer = has_pointer
-    shape_stays (array t (Some n)) s (has_array {s = inner} h) =
-        subst (λ k. HasShape rs (size_of rs) (array t (Some n))
-        (array_of (array t (Some n)) k inner n))
-        (size_same (array t (Some n)) (array_of (array t (Some n))
-        (size_of ss (array t (Some n))) inner n) (has_array h))
-        (has_array (shape_stays t inner h))
-    shape_stays (structure k) s
-        (has_struct {d = d} {members = ms} {ms = inner} at union members h) =
-        subst (λ n. HasShape rs (size_of rs) (structure k) (struct_of (structure k) n inner))
-        (size_same (structure k) (struct_of (structure k) (size_of ss (structure k)) inner)
-        (has_struct at union members h))
-        (has_struct (struct_same k d ms at members) union members (shapes_stay ms inner h))
-    shape_stays (structure k) s
-        (has_union {d = d} {first = m} {rest = ms} {s = inner} at union members h) =
-        subst (λ n. HasShape rs (size_of rs) (structure k) (union_of n inner))
-        (size_same (structure k) (union_of (size_of ss (structure k)) inner)
-        (has_union at union members h))
-        (has_union (struct_same k d (m ∷ ms) at members) union members
-        (shape_stays m.1 inner h))
-
-    shapes_stay : (ms : List (ℕ × CType)) (ks : Shapes) → HaveShapes ss (size_of ss) ms ks
-        → HaveShapes rs (size_of rs) ms ks
-    shapes_stay [] ks have_none = have_none
-    shapes_stay (m ∷ ms) ks (have_next {s = s} {ss = rest} h g) =
-        have_next (shape_stays m.1 s h) (shapes_stay ms rest g)
+pub static_same : (s : Storage) → is_lasting s ≡ is_static s
+static_same Static = refl
+static_same Outside = refl
+static_same Text = refl
+static_same Auto = refl
+static_same Formal = refl
 
 pub lasting_entered : (r : Scene) (k : Storage) (t : CType) (es : List (ℕ × Typed))
     → is_lasting k ≡ true
@@ -149,7 +94,7 @@ module _ (s r : Scene) (table : IsTable s.structs) (g : Grows s r)
   entered_stays Text t es h = tt
   entered_stays Formal t es h = tt
 
-  enters : (o x : Object) (b : Bool) → is_lasting o.storage ≡ b
+  pub enters : (o x : Object) (b : Bool) → is_lasting o.storage ≡ b
       → (is_lasting o.storage ≡ true → is_lasting x.storage ≡ true)
       → (is_lasting o.storage ≡ false → x ≡ o) → IsEntered s o.storage o.of o.start
       → IsEntered r x.storage x.of x.start
@@ -158,8 +103,8 @@ module _ (s r : Scene) (table : IsTable s.structs) (g : Grows s r)
       subst (λ y. IsEntered r y.storage y.of y.start) (sym (whole e))
       (entered_stays o.storage o.of o.start h)
 
-  declared_stays : (n : ℕ) → IsDeclared s n → IsDeclared r n
-  declared_stays n h =
+  abbrev pub begun_stays : (n : ℕ) → IsBegun s n → IsBegun r n
+  begun_stays n h =
       let x : IsKeptObject r.objects n h.object = kept n h.object h.there in
       let y : IsStill r n h.object = g.names n h.object h.there h.visible in
       record {
@@ -168,6 +113,30 @@ module _ (s r : Scene) (table : IsTable s.structs) (g : Grows s r)
         visible = y.visible;
         entered = enters h.object x.object (is_lasting h.object.storage) refl x.stored x.whole
             h.entered;
+      }
+
+  -- its size stays where it doesn't last
+  size_kept : (o x : Object) (b : Bool) → is_static o.storage ≡ b
+      → (is_static o.storage ≡ true → is_static x.storage ≡ true)
+      → (is_static o.storage ≡ false → x ≡ o)
+      → (is_static o.storage ≡ false → 1 ≤ size_of s.structs o.of)
+      → is_static x.storage ≡ false → 1 ≤ size_of r.structs x.of
+  size_kept o x true e stored whole h passes = absurd (true≢false (sym (stored e) ∙ passes))
+  size_kept o x false e stored whole h passes =
+      subst (λ y. 1 ≤ size_of r.structs y.of) (sym (whole e)) (has_size s.structs r.structs g.stays o.of (h e))
+
+  declared_stays : (n : ℕ) → IsDeclared s n → IsDeclared r n
+  declared_stays n h =
+      let x : IsKeptObject r.objects n h.object = kept n h.object h.there in
+      let y : IsBegun r n = begun_stays n (begun_of s n h) in
+      record {
+        object = y.object;
+        there = y.there;
+        visible = y.visible;
+        entered = y.entered;
+        sized = size_kept h.object x.object (is_static h.object.storage) refl
+            (λ e. sym (static_same x.object.storage) ∙ x.stored (static_same h.object.storage ∙ e))
+            (λ e. x.whole (static_same h.object.storage ∙ e)) h.sized;
       }
 
   pub all_declared_stay : (ns : List ℕ) → AreDeclared s ns → AreDeclared r ns

@@ -32,7 +32,8 @@ use Rattle.sp_typed_laws.proofs.Leaves.{IsType, type_kept}
 use Rattle.sp_typed_laws.proofs.Expressions.{specifiers_good, declared_good}
 use Rattle.sp_typed_unit_laws.specs.Fits.{AreOwn}
 use Rattle.sp_typed_unit_laws.specs.Starts.{lasting_alone}
-use Rattle.sp_typed_unit_laws.proofs.Shows.{gives_after, gives_shown}
+use Rattle.sp_leaf_laws.proofs.Values.{gives_after}
+use Rattle.sp_typed_unit_laws.proofs.Shows.{gives_shown}
 use Rattle.sp_typed_unit_laws.proofs.Formals.{AreFormals, IsOwn, own_shows, formals_on}
 
 -- ---- the type that the definition gives the function
@@ -168,7 +169,7 @@ head_of names own env file k o later t to-file less g x j =
       to_later = reaches_on own (entered file) later (with_function_type later k t) g r;
       type = result_type later o.of x.good;
       called = x.called;
-      formals = formals_on r o.formals x.formals;
+      formals = formals_on g.fit.formed r o.formals x.formals;
       function = typed_by t f.0;
       there = changed_there t later.tables.functions k f.0 f.1;
       bodiless = f.2;

@@ -3,8 +3,8 @@ pub mod Going
 pub mod Values
 pub mod Parted
 pub mod Held
-pub mod Initialisers
 pub mod Objects
+pub mod Owners
 pub mod Declarations
 pub mod Distinct
 pub mod Formals
@@ -16,5 +16,3 @@ pub mod Files
 pub mod Units
 pub mod Constants
 pub mod Alone
-pub mod Characters
-pub mod Literals

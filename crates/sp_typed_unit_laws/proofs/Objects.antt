@@ -1,6 +1,6 @@
 -- Declarations of objects leave the environment sound, and the entry of each is declared
 -- (C90 6.1.2.2, 6.1.2.6, 6.7.2).
-use Rattle.std.proofs.Common.{◌≡◌, ◌⊎◌, inl, inr, ℕ, ◌≤◌, ◌<◌, Bool, true, false, ◌&&◌, ◌||◌, not, if◌then◌else◌, length, [], ◌∷◌, Option, Some, None, refl, ap, sym, subst, ◌∙◌, true≢false}
+use Rattle.std.proofs.Common.{◌≡◌, ◌⊎◌, inl, inr, ℕ, ◌≤◌, ◌<◌, Bool, true, false, ◌&&◌, ◌||◌, not, if◌then◌else◌, length, [], Option, Some, None, refl, ap, sym, subst, ◌∙◌, true≢false}
 use Rattle.std.specs.Prelude.{slice_get, ⊤}
 use Rattle.sp_tree.specs.declared.fault.Place.{Place}
 use Rattle.sp_tree.specs.declared.fault.FaultKind.{FaultKind}
@@ -14,17 +14,16 @@ use Rattle.sp_types.specs.declared.program.Linkage.TheVariants.{External, Intern
 use Rattle.sp_types.specs.declared.program.Storage.{Storage}
 use Rattle.sp_types.specs.declared.program.Storage.TheVariants.{Outside, Static, Text, Auto, Formal}
 use Rattle.sp_operands.specs.Answers.{Checked, accepted, refused, and_then, where_met, where_given}
-use Rattle.sp_operands.specs.Conversions.{is_complete}
 use Rattle.sp_scopes.specs.Meanings as means
 use Rattle.sp_env.specs.declared.env.Entity.{Entity}
 use Rattle.sp_env.specs.declared.env.Entity.TheVariants as entities
 use Rattle.sp_env.specs.Env.{Env, declared, with_typing, set_object, object_type}
 use Rattle.sp_names.specs.Composite.{composite}
 use Rattle.sp_names.specs.Functions.{is_same_linkage, is_retyped, retyped}
-use Rattle.sp_objects.specs.Objects.{storage_for, is_outside, new_object, object_reserved, linked_to, object_added, is_valued, is_more_defined, joined_object, may_join, joined_at, object_joined, object_declared, may_wait, object_unvalued}
+use Rattle.sp_objects.specs.Objects.{storage_for, is_outside, new_object, object_reserved, linked_to, object_added, is_valued, is_more_defined, joined_object, may_join, joined_at, object_joined, object_declared}
 use Rattle.sp_typing.specs.Refines.{Tells}
 use Rattle.sp_typing.specs.Trees.{Scene}
-use Rattle.sp_typing.specs.Statements.{IsEntered, IsDeclared}
+use Rattle.sp_typing.specs.Statements.{IsEntered}
 use Rattle.sp_unit_laws.proofs.Lists.{get_below, set_there}
 use Rattle.sp_unit_laws.proofs.After.{refused_not, accepted_is, Gives, gives, gives_met, gives_given}
 use Rattle.sp_unit_laws.proofs.Composites.{composite_formed, composite_function}
@@ -32,14 +31,14 @@ use Rattle.sp_typed_laws.specs.Sound.{is_lasting, lasts, is_seen, scene_of}
 use Rattle.sp_typed_laws.proofs.Types.{and_true, or_left, or_right}
 use Rattle.sp_typed_laws.proofs.Composites.{composite_sound}
 use Rattle.sp_typed_laws.proofs.Envs.{is_linked, IsFit, Reaches, reaches_nowhere, reaches_on, grows_of, seen_on, lasts_on}
-use Rattle.sp_typed_laws.proofs.After.{After, Leads, leads, leads_none, leads_met}
+use Rattle.sp_typed_laws.proofs.After.{After, Leads, leads_none}
 use Rattle.sp_typed_laws.proofs.Updates.{reaches_linked, reaches_typing, reaches_object, leads_declared}
 use Rattle.sp_typed_laws.proofs.Functions.{reaches_retyped}
 use Rattle.sp_typed_laws.proofs.Objects.{composite_tells, reaches_set, reaches_replaced}
 use Rattle.sp_typed_laws.proofs.Leaves.{type_kept}
 use Rattle.sp_typed_unit_laws.proofs.Held.{IsHeld, held_on}
-use Rattle.sp_typed_unit_laws.proofs.Going.{all_declared_stay}
-use Rattle.sp_typed_unit_laws.proofs.Initialisers.{IsObjectType}
+use Rattle.sp_typed_unit_laws.proofs.Going.{begun_stays, IsBegun}
+use Rattle.sp_leaf_laws.proofs.Initialisers.{IsObjectType}
 
 pub leads_given : {own : ℕ → Bool} {env : Env} {B : Type 0} {o : Option B} {f : B → Checked Env}
     (k : FaultKind) (p : Place) → ((x : B) → o ≡ Some x → Leads own env (f x))
@@ -103,15 +102,15 @@ module _ {own : ℕ → Bool} {env : Env} {P : Env → Type 0} where
 pub record IsEntry (own : ℕ → Bool) (first : ℕ) (l : Linkage) (k : ℕ) (env : Env) : Type 0 where
   pub seen : is_seen own env.tables.objects k ≡ true
   pub where_from : (first ≤ k) ⊎ (lasts (slice_get env.tables.objects k) ≡ true)
-  pub declared : is_linked l ≡ false → IsDeclared (scene_of own env) k
+  pub declared : is_linked l ≡ false → IsBegun (scene_of own env) k
 
 pub entry_on : (own : ℕ → Bool) (first : ℕ) (l : Linkage) (k : ℕ) (env later : Env) → IsFit own env
     → Reaches own env later → IsEntry own first l k env → IsEntry own first l k later
 entry_on own first l k env later h g x = record {
   seen = seen_on own env later g.moves k x.seen;
   where_from = by x.where_from;
-  declared = λ e. (all_declared_stay (scene_of own env) (scene_of own later) h.formed.table
-      (grows_of own env later h g) g.moves.objects (k ∷ []) (x.declared e, tt)).0;
+  declared = λ e. begun_stays (scene_of own env) (scene_of own later) h.formed.table
+      (grows_of own env later h g) g.moves.objects k (x.declared e);
 }
   where
     by : (first ≤ k) ⊎ (lasts (slice_get env.tables.objects k) ≡ true)
@@ -138,6 +137,13 @@ storage_home Internal (Some words.Extern) true h = refl
 storage_home Internal (Some words.Extern) false h = refl
 storage_home External class valued h = refl
 storage_home Internal class valued h = refl
+
+pub storage_inside : (l : Linkage) (class : Option Keyword) (valued : Bool) → is_linked l ≡ false
+    → is_outside (storage_for l class valued) ≡ false
+storage_inside External class valued h = absurd (true≢false h)
+storage_inside Internal class valued h = absurd (true≢false h)
+storage_inside Inner (Some words.Static) valued h = refl
+storage_inside Inner class valued h = refl
 
 reaches_linked_to : (own : ℕ → Bool) (env : Env) (n : ℕ) (l : Linkage) (k : ℕ) → IsFit own env
     → Reaches own env (linked_to env n l k)
@@ -319,10 +325,3 @@ object_ends own env later k n t s l valued p (Some (entities.Object j)) h g f mi
         { at = λ e i. (reaches_on own env later e g (x.at e i).0, (x.at e i).1) }
 object_ends own env later k n t s l valued p (Some (entities.Function j)) h g f mine home place =
     ends_none
-
-pub unvalued_leads : (own : ℕ → Bool) (env : Env) (k : ℕ) (l : Linkage) (s : Storage) (at : Place)
-    → IsFit own env → Leads own env (object_unvalued env k l s at)
-unvalued_leads own env k l s at h =
-    leads_given {o = object_type (slice_get env.tables.objects k)} _ _ (λ t e.
-    leads_met {b = is_outside s || may_wait l t || is_complete env.tables.structs t} _ _ (λ whole.
-    leads (reaches_nowhere own env h)))

@@ -105,15 +105,6 @@ module _ {own : ℕ → Bool} {A : Type 0} {env : Env} {L : A → Type 0} {P : A
 -- an answer behind such parts
 module _ {own : ℕ → Bool} {env : Env} {A B : Type 0} {P : B → Type 0} {Q : A → Env → Type 0}
     {c : Checked (A × Env)} {f : A × Env → Checked B} where
-  pub gives_after : After own env Q c
-      → ((x : A × Env) → Reaches own env x.1 → Q x.0 x.1 → Gives P (f x))
-      → Gives P (and_then c f)
-  gives_after h g = by c h
-    where
-      by : (c : Checked (A × Env)) → After own env Q c → Gives P (and_then c f)
-      by (accepted x) h = g x (h.at x refl).0 (h.at x refl).1
-      by (refused k p) h = gives_none
-
   pub gives_shown : {L : A → Type 0} → Shows own env L Q c
       → ((x : A × Env) → (L x.0 → Reaches own env x.1 × Q x.0 x.1) → Gives P (f x))
       → Gives P (and_then c f)

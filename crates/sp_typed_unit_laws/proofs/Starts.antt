@@ -32,11 +32,13 @@ use Rattle.sp_typed_laws.proofs.After.{After, next, given, staying}
 use Rattle.sp_typed_laws.proofs.Leaves.{IsType, type_kept}
 use Rattle.sp_typed_laws.proofs.Expressions.{checked_value}
 use Rattle.sp_typed_laws.proofs.Law.{fit_of}
-use Rattle.sp_typed_unit_laws.specs.Starts.{AreBytes, LeavesAreTyped, StartsAreTyped}
-use Rattle.sp_typed_unit_laws.proofs.Shows.{gives_after}
-use Rattle.sp_typed_unit_laws.proofs.Statements.{kept_type}
-use Rattle.sp_typed_unit_laws.proofs.Literals.{literal_started}
-use Rattle.sp_typed_unit_laws.proofs.Initialisers.{only_written}
+use Rattle.sp_typed_unit_laws.specs.Starts.{StartsAreTyped}
+use Rattle.sp_leaf_laws.specs.Leaves.{AreBytes}
+use Rattle.sp_leaf_laws.proofs.Values.{gives_after}
+use Rattle.sp_leaf_laws.proofs.Values.{kept_type}
+use Rattle.sp_leaf_laws.proofs.Literals.{literal_started}
+use Rattle.sp_leaf_laws.proofs.Initialisers.{only_written}
+use Rattle.sp_leaf_laws.proofs.Leaves.{leaves_are_typed}
 
 -- ---- one value
 
@@ -149,9 +151,8 @@ started_aggregate names env w t i h =
 
 -- ---- all
 
-pub starts_typed : LeavesAreTyped → (names : List (List ℕ)) → AreBytes names
-    → StartsAreTyped names
-starts_typed lists names bytes own env w t i s f plain sound r x e =
+pub starts_typed : (names : List (List ℕ)) → AreBytes names → StartsAreTyped names
+starts_typed names bytes own env w t i s f plain sound r x e =
     record { automatic = λ fixed. by t i f plain sound r e }
   where
     h : IsFit own env
@@ -191,7 +192,8 @@ starts_typed lists names bytes own env w t i s f plain sound r x e =
         leaves_started (scene_of own x.1) x.0.of x.0.values
         ((started_aggregate names env w (structure j) (list is c)
         (λ ss vs. gives {x = structure j} refl)).at x e)
-        (lists names own env w (structure j) (list is c) bytes s f plain sound r refl x e)
+        (leaves_are_typed names own env w (structure j) (list is c) bytes s f plain sound r refl x
+        e)
     by (array u n) (one a) f plain sound r e =
         leaves_started (scene_of own x.1) x.0.of x.0.values
         ((started_aggregate names env w (array u n) (one a)
@@ -201,5 +203,5 @@ starts_typed lists names bytes own env w t i s f plain sound r x e =
         leaves_started (scene_of own x.1) x.0.of x.0.values
         ((started_aggregate names env w (array u n) (list is c)
         (λ ss vs. array_measured ss w.declarator vs u n)).at x e)
-        (lists names own env w (array u n) (list is c) bytes s f plain sound r refl x e)
+        (leaves_are_typed names own env w (array u n) (list is c) bytes s f plain sound r refl x e)
     by (function q) i f plain sound r e = absurd (true≢false plain)

@@ -1,12 +1,12 @@
 -- A statement that the checks accept is typed, where its blocks' declarations are (C90 6.6).
-use Rattle.std.proofs.Common.{◌≡◌, ℕ, zero, suc, Bool, true, length, List, [], ◌∷◌, ◌++◌, Option, Some, is_some, refl, ap, sym, subst, ◌∙◌, true≢false, eqb-true}
+use Rattle.std.proofs.Common.{◌≡◌, ℕ, zero, suc, Bool, true, length, List, [], ◌∷◌, ◌++◌, Option, Some, is_some, refl, ap, sym, subst, ◌∙◌, true≢false}
 use Rattle.std.specs.Prelude.{⊤}
 use Rattle.sp_tree.specs.declared.fault.Place.{Place}
 use Rattle.sp_syntax.specs.Syntax.{Expression, MaybeExpression, no_expression, some_expression, Statement, statement, StatementForm, no_statement, some_statement, Statements, no_statements, next_statement, Declarations}
 use Rattle.sp_syntax.specs.Syntax as syntax
 use Rattle.sp_syntax.specs.Places.{place_of}
 use Rattle.sp_types.specs.declared.ctype.IntKind.{IntKind}
-use Rattle.sp_types.specs.Types.{CType, void, integer, floating, pointer, array, structure, function, Struct}
+use Rattle.sp_types.specs.Types.{CType, void, integer, floating, pointer, array, structure, function}
 use Rattle.sp_types.specs.Typed.{Typed, of}
 use Rattle.sp_types.specs.Compatible.{convertible}
 use Rattle.sp_types.specs.Statements.{TypedStatement, typed_statement, TypedStatementForm, TypedStatements}
@@ -30,9 +30,7 @@ use Rattle.sp_typing.specs.Statements.{IsCondition, IsMaybeTyped, IsMaybeConditi
 use Rattle.sp_unit_laws.proofs.Lists.{some_is, Each, each_none, each_pushed, each_behind, none_some, pushed_before, pushed_last}
 use Rattle.sp_unit_laws.proofs.After.{Gives, gives, gives_then, gives_met, gives_given, gives_more, anything}
 use Rattle.sp_written_laws.specs.Written.{IsWritten, IsWrittenMaybe, AreWrittenDeclarations}
-use Rattle.sp_typed_laws.specs.Laws.{IsKnown}
 use Rattle.sp_typed_laws.specs.Sound.{scene_of}
-use Rattle.sp_typed_laws.proofs.Types.{number_equals}
 use Rattle.sp_typed_laws.proofs.Operators.{IsGood}
 use Rattle.sp_typed_laws.proofs.Grows.{typed_stays}
 use Rattle.sp_typed_laws.proofs.Trees.{IsValued, IsOf, tree_converted}
@@ -42,6 +40,7 @@ use Rattle.sp_typed_laws.proofs.Updates.{reaches_left}
 use Rattle.sp_typed_laws.proofs.Leaves.{IsType, type_kept}
 use Rattle.sp_typed_laws.proofs.Expressions.{checked_value}
 use Rattle.sp_written_laws.specs.Statements.{IsWrittenStatement, IsWrittenForm, AreWrittenStatements}
+use Rattle.sp_leaf_laws.proofs.Values.{kept_type}
 use Rattle.sp_typed_unit_laws.specs.Fits.{AreOwn, IsLabel, AreLabels, Fits, setting_of}
 use Rattle.sp_typed_unit_laws.proofs.Held.{IsHeld, held_on, held_entered}
 use Rattle.sp_typed_unit_laws.proofs.Parted.{each_left, each_right}
@@ -68,17 +67,6 @@ integer_of (pointer t) h = absurd (true≢false (sym h))
 integer_of (array t n) h = absurd (true≢false (sym h))
 integer_of (structure k) h = absurd (true≢false (sym h))
 integer_of (function s) h = absurd (true≢false (sym h))
-
--- what a value converts to can be kept, and the value of the same type goes there
-pub kept_type : (ss : List Struct) (t u : CType) → convertible t u ≡ true → IsKnown ss t
-    → IsStored ss u × (same_value u u ≡ true)
-kept_type ss (integer j) (integer k) h w = (tt, refl)
-kept_type ss (integer j) (pointer u) h w = (tt, refl)
-kept_type ss (pointer t) (integer k) h w = (tt, refl)
-kept_type ss (pointer t) (pointer u) h w = (tt, refl)
-kept_type ss (structure j) (structure k) h w =
-    (subst (λ n. IsKnown ss (structure n)) (eqb-true j k h) w, number_equals k)
-kept_type ss t u h w = absurd (true≢false (sym h))
 
 -- ---- what a rule gives of a value
 

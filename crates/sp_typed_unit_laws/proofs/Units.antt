@@ -1,14 +1,11 @@
 -- What the checks of a unit accept is typed (C90 6.7).
-use Rattle.std.proofs.Common.{◌≡◌, ℕ, zero, suc, ◌≤◌, ◌||◌, nat_eq, Bool, true, false, length, List, [], ◌∷◌, ◌++◌, Option, Some, None, is_some, refl, ap, sym, subst, ◌∙◌, true≢false, eqb-true, arith}
+use Rattle.std.proofs.Common.{◌≡◌, ℕ, ◌≤◌, zero, suc, ◌||◌, nat_eq, Bool, true, false, length, List, [], ◌∷◌, ◌++◌, Option, Some, None, is_some, refl, ap, sym, subst, ◌∙◌, true≢false, eqb-true, arith}
 use Rattle.std.specs.Prelude.{slice_get}
 use Rattle.std.specs.List.{list_any}
 use Rattle.sp_tree.specs.declared.fault.Place.{Place}
 use Rattle.sp_tree.specs.declared.fault.FaultKind.{FaultKind}
 use Rattle.sp_syntax.specs.Syntax.{Specifiers, Declarator, Statement, External, definition, external_declaration, semicolon}
-use Rattle.sp_types.specs.declared.program.Storage.{Storage}
-use Rattle.sp_types.specs.declared.program.Storage.TheVariants.{Static, Outside, Text, Auto, Formal}
-use Rattle.sp_types.specs.Layout.{extent}
-use Rattle.sp_types.specs.Structs.{IsFormedSignature, IsWhole, aligned}
+use Rattle.sp_types.specs.Structs.{IsFormedSignature}
 use Rattle.sp_types.specs.Types.{CType, void, integer, floating, pointer, array, structure, function, Struct, result_of}
 use Rattle.sp_types.specs.Programs.{Object, Function}
 use Rattle.sp_types.specs.Statements.{TypedStatement}
@@ -26,14 +23,14 @@ use Rattle.sp_decl_check.specs.Units.{checked_unit, unit_told}
 use Rattle.sp_typing.specs.Sorts.{agrees, same_value, IsStored}
 use Rattle.sp_typing.specs.Trees.{IsCalled}
 use Rattle.sp_typing.specs.Statements.{labels_in, IsTypedStatement, IsTypedBody}
-use Rattle.sp_typing.specs.Programs.{is_static, is_static_object}
-use Rattle.sp_unit_laws.proofs.Lists.{none_some, some_is, Each, each_set, each_pushed, set_length, set_there, set_other, get_below}
+use Rattle.sp_typing.specs.Programs.{is_static_object}
+use Rattle.sp_unit_laws.proofs.Lists.{none_some, some_is, Each, each_appended, each_set, each_pushed, set_length, set_there, set_other, get_below}
 use Rattle.sp_unit_laws.proofs.Envs.{IsFormedEnv, AreBelow}
-use Rattle.sp_unit_laws.proofs.Objects.{AreNumbers}
+use Rattle.sp_unit_laws.proofs.Objects.{AreNumbers, Has, has_later, numbers_below}
 use Rattle.sp_unit_laws.proofs.Updates.{goes_function_set}
 use Rattle.sp_unit_laws.proofs.Statements.{body_formed}
 use Rattle.sp_unit_laws.proofs.After.{Gives, gives, gives_none, gives_then}
-use Rattle.sp_typed_laws.specs.Sound.{HasExtent, IsSoundSignature, is_lasting, lasts, scene_of}
+use Rattle.sp_typed_laws.specs.Sound.{IsSoundSignature, lasts, scene_of}
 use Rattle.sp_typed_laws.proofs.Types.{number_equals, or_left, or_right}
 use Rattle.sp_typed_laws.proofs.Grows.{Grows, called_stays}
 use Rattle.sp_typed_laws.proofs.Envs.{IsFit, Follows, IsKeptFunction, KeepObjects, kept_there, Reaches, reaches_on, scene_grows}
@@ -45,12 +42,17 @@ use Rattle.sp_written_laws.specs.Written.{AreWrittenSpecifiers, IsWrittenDeclara
 use Rattle.sp_typed_unit_laws.specs.Fits.{AreOwn, setting_of}
 use Rattle.sp_typed_unit_laws.specs.Starts.{StartsAreTyped, lasting_alone}
 use Rattle.sp_typed_unit_laws.specs.Units.{scene_in, IsTypedFunction, IsTypedUnit, UnitsAreTyped}
+use Rattle.sp_leaf_laws.proofs.Values.{gives_both}
 use Rattle.sp_typed_unit_laws.proofs.Held.{IsHeld, held_on}
-use Rattle.sp_typed_unit_laws.proofs.Going.{statement_stays}
+use Rattle.sp_typed_unit_laws.proofs.Going.{static_same, statement_stays}
 use Rattle.sp_typed_unit_laws.proofs.Distinct.{AreDistinct, distinct_none, distinct_pushed}
+use Rattle.sp_unit_laws.proofs.Heads.{head_formed}
+use Rattle.sp_typing.specs.Programs.{AreOwners}
+use Rattle.sp_typed_unit_laws.proofs.Owners.{AreThere, ListBelow, owners_none, owners_on, listed_before, listed_below, owners_pushed}
 use Rattle.sp_typed_unit_laws.proofs.Formals.{AreFormals, formals_on}
 use Rattle.sp_typed_unit_laws.proofs.Heads.{IsHead, head_good}
 use Rattle.sp_typed_unit_laws.proofs.Bodies.{IsBody, body_typed}
+use Rattle.sp_leaf_laws.proofs.Complete.{member_less}
 use Rattle.sp_typed_unit_laws.proofs.Starts.{starts_typed}
 use Rattle.sp_typed_unit_laws.proofs.Files.{file_on, file_typed}
 
@@ -188,8 +190,12 @@ pub record IsUnitEnv (ns : List ℕ) (env : Env) : Type 0 where
   pub held : IsHeld lasting_alone env
   pub file : is_file_scope env.scopes ≡ true
   pub distinct : AreDistinct ns
+  pub owners : AreOwners env.tables.functions ns
   pub defined : Each (λ n. (g : Function) × (slice_get env.tables.functions n ≡ Some g)
       × IsDefined env g) ns
+
+there_of : (ns : List ℕ) (env : Env) → IsUnitEnv ns env → AreThere env.tables.functions ns
+there_of ns env u i n at = let x = u.defined i n at in (x.0, x.1)
 
 unit_on : (ns : List ℕ) (env later : Env) → IsUnitEnv ns env → Reaches lasting_alone env later
     → IsUnitEnv ns later
@@ -197,6 +203,7 @@ unit_on ns env later u g = record {
   held = held_on u.held g;
   file = file_on g u.file;
   distinct = u.distinct;
+  owners = owners_on env.tables.functions later.tables.functions ns (there_of ns env u) g.moves.kept u.owners;
   defined = λ i n at.
       let d = u.defined i n at in
       let y : IsKeptFunction later.tables.functions n d.0 = g.moves.kept n d.0 d.1 in (
@@ -204,7 +211,7 @@ unit_on ns env later u g = record {
         y.there,
         defined_by env later d.0 y.function u.held.fit.formed
             (λ own. scene_grows own env later g.moves u.held.fit.formed) g.moves.objects
-            (formals_on g d.0.formals d.2.formals) y.formals y.locals y.body y.follows d.2,
+            (formals_on u.held.fit.formed g d.0.formals d.2.formals) y.formals y.locals y.body y.follows d.2,
       );
 }
 
@@ -214,7 +221,8 @@ module _ (ns : List ℕ) (env : Env) (u : IsUnitEnv ns env) (k : ℕ) (was f : F
     (at : slice_get env.tables.functions k ≡ Some was) (bodiless : is_some was.body ≡ false)
     (below : AreBelow (length env.tables.objects) f.formals
     × AreBelow (length env.tables.objects) f.locals) (same : f.of ≡ was.of)
-    (d : IsDefined env f) where
+    (d : IsDefined env f) (from : ℕ) (old : ListBelow from env.tables.functions ns)
+    (new : (i n : ℕ) → slice_get (f.formals ++ f.locals) i ≡ Some n → from ≤ n) where
   abbrev later : Env
   later = set_function env k f
 
@@ -261,6 +269,7 @@ module _ (ns : List ℕ) (env : Env) (u : IsUnitEnv ns env) (k : ℕ) (was f : F
     held = record { fit = set_fit; homes = u.held.homes };
     file = u.file;
     distinct = distinct_pushed ns k u.distinct apart;
+    owners = owners_pushed env.tables.functions ns k from was f at apart (there_of ns env u) old new u.owners;
     defined = each_pushed
         (λ n. (g : Function) × (slice_get later.tables.functions n ≡ Some g) × IsDefined later g) ns
         k
@@ -282,34 +291,32 @@ gives_all : {A X : Type 0} {P : X → A → Type 0} {c : Checked A} → ((x : X)
     → Gives (λ a. (x : X) → P x a) c
 gives_all h = record { at = λ a e x. (h x).at a e }
 
-gives_both : {A : Type 0} {P Q : A → Type 0} {c : Checked A} → Gives P c → Gives Q c
-    → Gives (λ a. P a × Q a) c
-gives_both h g = record { at = λ a e. (h.at a e, g.at a e) }
-
 module _ (names : List (List ℕ)) (starts : StartsAreTyped names) where
   -- what is known of a body in an environment, whatever the function's own objects are
   abbrev IsBodyBy : Env → CType → (ℕ → Bool) → TypedStatement × Env → Type 0
   IsBodyBy env t own b = IsHeld own env → IsType t env → AreOwn own (locals_in b.0)
       → IsBody names starts own env t b.0 b.1
 
-  abbrev IsNumbered : Env → TypedStatement × Env → Type 0
-  IsNumbered env b = IsFormedEnv env → AreNumbers (locals_in b.0) b.1
+  abbrev IsNumbered : ℕ → Env → TypedStatement × Env → Type 0
+  IsNumbered from env b = IsFormedEnv env → Has from env → AreNumbers from (locals_in b.0) b.1
 
-  body_known : (env : Env) (t : CType) (s : Statement) → IsWrittenStatement s
-      → Gives (λ b. ((own : ℕ → Bool) → IsBodyBy env t own b) × IsNumbered env b)
+  body_known : (from : ℕ) (env : Env) (t : CType) (s : Statement) → IsWrittenStatement s
+      → Gives (λ b. ((own : ℕ → Bool) → IsBodyBy env t own b) × IsNumbered from env b)
       (body_checked names env t s)
-  body_known env t s w =
+  body_known from env t s w =
       gives_both (gives_all (λ own. record
       { at = λ b e held type l. (body_typed names starts own env t s held w type).at b e l }))
-      (record { at = λ b e formed. ((body_formed names env t s formed).at b e).1 })
+      (record { at = λ b e formed has. ((body_formed names from env t s formed has).at b e).1 })
 
   defined_unit : (ns : List ℕ) (env : Env) (h : Head) (first : Env) (s : TypedStatement)
       (later : Env) → IsUnitEnv ns env
       → ((own : ℕ → Bool) → AreOwn own h.own.formals → IsHead own env h first)
       → ((own : ℕ → Bool) → IsBodyBy first (result_of h.own.of) own (s, later))
-      → IsNumbered first (s, later)
+      → Has (length env.tables.objects) first
+      → AreNumbers (length env.tables.objects) h.own.formals first
+      → IsNumbered (length env.tables.objects) first (s, later)
       → IsUnitEnv (ns ++ h.number ∷ []) (with_body (left later) h s)
-  defined_unit ns env h first s later u heads bodies numbered =
+  defined_unit ns env h first s later u heads bodies has listed numbered =
       let own : ℕ → Bool = among (h.own.formals ++ locals_in s) in
       let hd : IsHead own env h first = heads own (among_left h.own.formals (locals_in s)) in
       let held : IsHeld own first = record {
@@ -321,14 +328,16 @@ module _ (names : List (List ℕ)) (starts : StartsAreTyped names) where
       let out : Reaches lasting_alone hd.file (left later) =
       reaches_left lasting_alone own hd.file later hd.to_file.fit
       (reaches_on own (entered hd.file) first later hd.to_later bd.0) in
-      let before : IsUnitEnv ns (left later) =
-      unit_on ns env (left later) u
-      (reaches_on lasting_alone env hd.file (left later) hd.to_file out) in
+      let to-out : Reaches lasting_alone env (left later) =
+      reaches_on lasting_alone env hd.file (left later) hd.to_file out in
+      let before : IsUnitEnv ns (left later) = unit_on ns env (left later) u to-out in
+      let locals : AreNumbers (length env.tables.objects) (locals_in s) later =
+      numbered held.fit.formed has in
       let x : IsKeptFunction later.tables.functions h.number hd.function =
       bd.0.moves.kept h.number hd.function hd.there in
       let follows : Follows h.own.of x.function.of =
       λ t e. x.follows t (hd.follows t e) in
-      let formals : AreFormals h.own.formals later = formals_on bd.0 h.own.formals hd.formals in
+      let formals : AreFormals h.own.formals later = formals_on held.fit.formed bd.0 h.own.formals hd.formals in
       let d : IsDefined (left later) (defined x.function h s) = record {
         called = called_follows later.tables.structs (result_of h.own.of)
             (result_of x.function.of) follows
@@ -349,8 +358,14 @@ module _ (names : List (List ℕ)) (starts : StartsAreTyped names) where
       (set_unit ns (left later) before h.number x.function (defined x.function h s) x.there
       (ap is_some x.body ∙ hd.bodiless) (
         λ i n at. let y = formals.formals i n at in get_below later.tables.objects n y.0 y.1,
-        numbered held.fit.formed,
-      ) refl d)
+        numbers_below (length env.tables.objects) later (locals_in s) locals,
+      ) refl d (length env.tables.objects)
+      (λ i n y. listed_below (length env.tables.objects) env.tables.functions ns
+      (λ k f at. let w = u.held.fit.formed.functions k f at in (w.1, w.2)) i n
+      (listed_before env.tables.functions later.tables.functions ns (there_of ns env u)
+      to-out.moves.kept i n y))
+      (each_appended (λ k. length env.tables.objects ≤ k) h.own.formals (locals_in s)
+      (λ i n at. (listed i n at).0) (λ i n at. (locals i n at).0)))
     where
       still : (own : ℕ → Bool) (e : Env) → Grows (scene_of own e) (scene_of own (left e))
       still own e = record {
@@ -366,10 +381,14 @@ module _ (names : List (List ℕ)) (starts : StartsAreTyped names) where
       → IsUnitEnv ns env → AreWrittenSpecifiers ss → IsWrittenDeclarator d → IsWrittenStatement s
       → Gives IsUnitSoFar (definition_checked names env ns ss d s)
   definition_typed env ns ss d s u w v z =
-      gives_then (gives_all (λ own. head_good names own env ss d u.held.fit w v)) (λ h heads.
-      gives_then (body_known h.1 (result_of h.0.own.of) s z) (λ b bodies.
+      let from : ℕ = length env.tables.objects in
+      gives_then (gives_both (gives_all (λ own. head_good names own env ss d u.held.fit w v))
+      (record
+      { at = (head_formed names from env ss d u.held.fit.formed (omega arith)).at })) (λ h heads.
+      gives_then (body_known from h.1 (result_of h.0.own.of) s z) (λ b bodies.
       gives {x = (ns ++ h.0.number ∷ [], with_body (left b.1) h.0 b.0)}
-      (defined_unit ns env h.0 h.1 b.0 b.1 u heads bodies.0 bodies.1)))
+      (defined_unit ns env h.0 h.1 b.0 b.1 u heads.0 bodies.0
+      (has_later from env h.1 heads.1.0 (omega arith)) heads.1.1 bodies.1)))
 
   external_typed : (env : Env) (ns : List ℕ) (e : External) → IsUnitEnv ns env
       → IsWrittenExternal e → Gives IsUnitSoFar (external_checked names env ns e)
@@ -388,30 +407,7 @@ module _ (names : List (List ℕ)) (starts : StartsAreTyped names) where
 
 -- ---- the unit
 
--- a struct without a member has no size
-member_less : (ss : List Struct) (s : Struct) (o : Option (List (ℕ × CType))) → IsWhole ss s o
-    → HasExtent s.extent → o ≡ Some [] → ⊥
-member_less ss s None w h e = none_some [] e
-member_less ss s (Some (m ∷ ms)) w h e = absurd (true≢false (ap (λ o. is_nil o) (sym e)))
-  where
-    is_nil : Option (List (ℕ × CType)) → Bool
-    is_nil None = false
-    is_nil (Some []) = true
-    is_nil (Some (m ∷ ms)) = false
-member_less ss s (Some []) w h e =
-    let size : extent (aligned 0 1) 1 ≡ w.1.0 = some_is (extent (aligned 0 1) 1) w.1.0 w.1.2 in
-    let big : 1 ≤ w.1.0.size = (subst HasExtent w.1.1 h).0 in
-    let none : 0 ≡ w.1.0.size = ap (λ e. e.size) size in
-    omega (arith, big, none)
-
 -- what a function sees
-static_same : (s : Storage) → is_lasting s ≡ is_static s
-static_same Static = refl
-static_same Outside = refl
-static_same Text = refl
-static_same Auto = refl
-static_same Formal = refl
-
 lasts_same : (o : Option Object) → lasts o ≡ is_static_object o
 lasts_same None = refl
 lasts_same (Some o) = static_same o.storage
@@ -441,7 +437,7 @@ module _ (env : Env) (ns : List ℕ) (u : IsUnitEnv ns env) where
   function_typed g d = record {
     result = d.called;
     formals = λ i n at. let y = d.formals.formals i n at in
-        record { object = y.0; there = y.1; storage = y.2 };
+        record { object = y.0; there = y.1; storage = y.2; sized = y.3 };
     distinct = d.formals.distinct;
     body = subst (λ o. IsTypedBody
         (scene_in (checked_unit env.tables ns) (g.formals ++ g.locals)) (result_of g.of) o)
@@ -467,6 +463,7 @@ module _ (env : Env) (ns : List ℕ) (u : IsUnitEnv ns env) where
         ((u.held.fit.formed.functions n g at).0, u.held.fit.functions n g at);
     definitions = λ k n at. let x = u.defined k n at in (x.0, x.1, function_typed x.0 x.2);
     distinct = u.distinct;
+    owners = u.owners;
   }
 
 none_bad : {A : Type 0} (P : A → Type 0) (o : Option Place) (k : FaultKind) (c : Checked A)
@@ -489,11 +486,12 @@ start_unit = record {
   };
   file = refl;
   distinct = distinct_none;
+  owners = owners_none [];
   defined = λ i n at. absurd (none_some n at);
 }
 
 pub units_typed : UnitsAreTyped
-units_typed leaves names us x bytes w e =
-    (gives_then (externals_typed names (starts_typed leaves names bytes) unit_start [] us start_unit
+units_typed names us x bytes w e =
+    (gives_then (externals_typed names (starts_typed names bytes) unit_start [] us start_unit
     w)
     (λ y u. told_typed y.1 y.0 us u)).at x e

@@ -1,5 +1,5 @@
 -- What the checks of a unit accept is well typed (C90 6.7).
-use Rattle.std.specs.Prelude.{◌≡◌, ℕ, false, List, ◌++◌, length, Some, slice_get}
+use Rattle.std.specs.Prelude.{◌≡◌, ℕ, ◌≤◌, false, List, ◌++◌, length, Some, slice_get}
 use Rattle.sp_syntax.specs.Syntax.{External}
 use Rattle.sp_types.specs.declared.program.Storage.TheVariants.{Formal}
 use Rattle.sp_types.specs.Types.{result_of}
@@ -9,13 +9,14 @@ use Rattle.sp_operands.specs.Answers.{accepted}
 use Rattle.sp_operands.specs.Conversions.{is_function}
 use Rattle.sp_units.specs.Units.{CheckedUnit}
 use Rattle.sp_decl_check.specs.Units.{unit_checked}
+use Rattle.sp_ir.specs.Terrain.{size_of}
 use Rattle.sp_layout_laws.specs.Laws.{HaveMembers}
 use Rattle.sp_typing.specs.Trees.{Scene, IsCalled}
 use Rattle.sp_typing.specs.Statements.{IsTypedBody}
-use Rattle.sp_typing.specs.Programs.{sees}
+use Rattle.sp_typing.specs.Programs.{sees, AreOwners}
 use Rattle.sp_typed_laws.specs.Sound.{IsSound, IsSoundSignature}
 use Rattle.sp_written_laws.specs.Statements.{AreWrittenExternals}
-use Rattle.sp_typed_unit_laws.specs.Starts.{AreBytes, LeavesAreTyped}
+use Rattle.sp_leaf_laws.specs.Leaves.{AreBytes}
 
 -- a function sees the objects of static storage, and its own
 abbrev pub scene_in : CheckedUnit → List ℕ → Scene
@@ -35,6 +36,7 @@ pub record IsFormal (x : CheckedUnit) (n : ℕ) : Type 0 where
   pub object : Object
   pub there : slice_get x.objects n ≡ Some object
   pub storage : object.storage ≡ Formal
+  pub sized : 1 ≤ size_of x.structs object.of
 
 -- a function that is defined
 pub record IsTypedFunction (x : CheckedUnit) (g : Function) : Type 0 where
@@ -55,8 +57,10 @@ pub record IsTypedUnit (x : CheckedUnit) : Type 0 where
       → (g : Function) × (slice_get x.functions n ≡ Some g) × IsTypedFunction x g
   pub distinct : (j k n : ℕ) → slice_get x.definitions j ≡ Some n
       → slice_get x.definitions k ≡ Some n → j ≡ k
+  -- an object is one function's own
+  pub owners : AreOwners x.functions x.definitions
 
--- each unit that the checks accept, where values between braces are typed
+-- each unit that the checks accept
 abbrev pub UnitsAreTyped : Type 0
-UnitsAreTyped = LeavesAreTyped → (names : List (List ℕ)) (us : List External) (x : CheckedUnit)
+UnitsAreTyped = (names : List (List ℕ)) (us : List External) (x : CheckedUnit)
     → AreBytes names → AreWrittenExternals us → unit_checked names us ≡ accepted x → IsTypedUnit x

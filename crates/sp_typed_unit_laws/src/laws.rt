@@ -2,8 +2,8 @@
 ghost use Rattle.sp_typed_unit_laws.specs.Starts.{StaticsAreTyped};
 ghost use Rattle.sp_typed_unit_laws.specs.Units.{UnitsAreTyped};
 
-/// A unit that the checks accept is well typed, where values between braces are. Values of objects
-/// that last are constants. The call does nothing.
+/// A unit that the checks accept is well typed. Values of objects that last are constants. The call
+/// does nothing.
 pub fn units_are_typed()
     ensures typed { UnitsAreTyped }
     ensures statics { StaticsAreTyped }

@@ -7,8 +7,6 @@
 //! and its body names objects that last and its own alone. So in `int f(int n) { static int c;
 //! return c + n; }` the body names the object `c`, which lasts, and the formal `n`.
 //!
-//! That the values between the braces of an array or a struct are typed is a premise of the law.
-//!
 //! It computes nothing: a layer that rests on the law calls [`units_are_typed`] and has it from its
 //! contract.
 #![tactic(auto)]

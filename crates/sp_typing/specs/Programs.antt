@@ -10,16 +10,8 @@ use Rattle.sp_ir.specs.Terrain.{size_of}
 use Rattle.sp_layout_laws.specs.Laws.{HaveMembers}
 use Rattle.sp_typing.specs.Trees.{Scene, IsCalled}
 use Rattle.sp_typing.specs.Starts.{AreLeafValues}
-use Rattle.sp_typing.specs.Statements.{IsTypedBody}
+use Rattle.sp_typing.specs.Statements.{is_static, IsTypedBody}
 use Rattle.sp_typing.specs.Constants.{is_stored}
-
--- it lives as long as the program does (C90 6.1.2.4)
-abbrev pub is_static : Storage → Bool
-is_static Static = true
-is_static Outside = true
-is_static Text = true
-is_static Auto = false
-is_static Formal = false
 
 abbrev pub is_static_object : Option Object → Bool
 is_static_object None = false
@@ -32,14 +24,22 @@ sees os own n = is_static_object (slice_get os n) || list_any (nat_eq n) own
 abbrev pub scene_of : Program → List ℕ → Scene
 scene_of p own = record { structs = p.structs; objects = p.objects; functions = length p.functions; is_visible = sees p.objects own }
 
--- the function of the number k of the definitions lists this object as its own
-pub record Lists (p : Program) (k : ℕ) (n : ℕ) : Type 0 where
+-- of these functions the one of the number k of the definitions lists this object as its own
+pub record ListsIn (functions : List Function) (definitions : List ℕ) (k : ℕ) (n : ℕ) : Type 0 where
   pub number : ℕ
   pub function : Function
-  pub defined : slice_get p.definitions k ≡ Some number
-  pub there : slice_get p.functions number ≡ Some function
+  pub defined : slice_get definitions k ≡ Some number
+  pub there : slice_get functions number ≡ Some function
   pub index : ℕ
   pub listed : slice_get (function.formals ++ function.locals) index ≡ Some n
+
+abbrev pub Lists : Program → ℕ → ℕ → Type 0
+Lists p k n = ListsIn p.functions p.definitions k n
+
+-- no two list one object
+abbrev pub AreOwners : List Function → List ℕ → Type 0
+AreOwners functions definitions = (j k n : ℕ) → ListsIn functions definitions j n
+    → ListsIn functions definitions k n → j ≡ k
 
 -- start values that are known before the program runs; only what is complete has them
 pub record IsStaticStart (p : Program) (o : Object) : Type 0 where
@@ -81,5 +81,5 @@ pub record IsTypedProgram (p : Program) : Type 0 where
       → (g : Function) × (slice_get p.functions n ≡ Some g) × IsTypedFunction p g
   -- each function is defined once, and an object is one function's own
   pub distinct : (j k n : ℕ) → slice_get p.definitions j ≡ Some n → slice_get p.definitions k ≡ Some n → j ≡ k
-  pub owners : (j k n : ℕ) → Lists p j n → Lists p k n → j ≡ k
+  pub owners : AreOwners p.functions p.definitions
   pub main : (k : ℕ) × (slice_get p.definitions k ≡ Some p.main)

@@ -19,8 +19,8 @@ pub data Refines (f : ℕ → ℕ) : CType → CType → Type 0 where
   of_struct : (k : ℕ) → Refines f (structure k) (structure (f k))
   of_function : (r s : Signature) → Refines f (function r) (function s)
 
--- An object of the second type may be named with the first, since it is laid out alike: pointers may
--- point to what another unit tells more of.
+-- An object of the second type may be named with the first, since it is laid out alike. What
+-- pointers point to isn't compared, and neither are functions.
 pub data LaysOut (f : ℕ → ℕ) : CType → CType → Type 0 where
   lays_void : LaysOut f void void
   lays_integer : (k : IntKind) → LaysOut f (integer k) (integer k)

@@ -1,13 +1,14 @@
 -- Which typed statements are well typed (C90 6.6).
-use Rattle.std.specs.Prelude.{◌≡◌, ℕ, true, List, [], ◌∷◌, ◌++◌, Option, Some, None, slice_get, ⊤}
+use Rattle.std.specs.Prelude.{◌≡◌, ℕ, ◌≤◌, Bool, true, false, List, [], ◌∷◌, ◌++◌, Option, Some, None, slice_get, ⊤}
 use Rattle.sp_types.specs.declared.ctype.IntKind.{IntKind}
 use Rattle.sp_types.specs.declared.program.Storage.{Storage}
-use Rattle.sp_types.specs.declared.program.Storage.TheVariants.{Auto}
+use Rattle.sp_types.specs.declared.program.Storage.TheVariants.{Static, Outside, Text, Auto, Formal}
 use Rattle.sp_types.specs.Types.{CType, integer}
 use Rattle.sp_types.specs.Typed.{Typed, of}
 use Rattle.sp_types.specs.Statements.{TypedStatement, typed_statement, TypedStatementForm, label, case_of, default_of, block, empty, single, if_else, switch_on, while_loop, do_loop, for_loop, goto_name, continue_loop, break_out, return_value, MaybeTypedStatement, no_statement, some_statement, TypedStatements, no_statements, next_statement}
 use Rattle.sp_types.specs.Programs.{Object}
 use Rattle.sp_ir.specs.Formed.{InKind, is_scalar}
+use Rattle.sp_ir.specs.Terrain.{size_of}
 use Rattle.sp_typing.specs.Sorts.{same_value, IsStored}
 use Rattle.sp_typing.specs.Trees.{Scene, IsTyped}
 use Rattle.sp_typing.specs.Starts.{IsStarted}
@@ -69,6 +70,14 @@ abbrev pub IsReturned : Setting → Option Typed → Type 0
 IsReturned s None = ⊤
 IsReturned s (Some e) = IsTyped s.scene e × IsStored s.scene.structs s.result × (same_value (of e) s.result ≡ true)
 
+-- it lives as long as the program does (C90 6.1.2.4)
+abbrev pub is_static : Storage → Bool
+is_static Static = true
+is_static Outside = true
+is_static Text = true
+is_static Auto = false
+is_static Formal = false
+
 -- an automatic object is initialised where its block is entered
 abbrev pub IsEntered : Scene → Storage → CType → List (ℕ × Typed) → Type 0
 IsEntered s Auto t es = IsStarted s t es
@@ -79,6 +88,8 @@ pub record IsDeclared (s : Scene) (n : ℕ) : Type 0 where
   pub there : slice_get s.objects n ≡ Some object
   pub visible : s.is_visible n ≡ true
   pub entered : IsEntered s object.storage object.of object.start
+  -- what passes is complete (C90 6.5)
+  pub sized : is_static object.storage ≡ false → 1 ≤ size_of s.structs object.of
 
 -- the objects of a block
 abbrev pub AreDeclared : Scene → List ℕ → Type 0

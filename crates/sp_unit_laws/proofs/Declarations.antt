@@ -1,6 +1,6 @@
 -- The environment behind a declaration is formed, and the objects that it lists are there
 -- (C90 6.5, 6.7.2).
-use Rattle.std.proofs.Common.{◌≡◌, ℕ, ◌<◌, Bool, true, false, not, ◌&&◌, ◌||◌, length, List, [], Option, Some, refl, sym, subst, ◌∙◌, true≢false, arith}
+use Rattle.std.proofs.Common.{◌≡◌, ℕ, Bool, true, false, not, ◌&&◌, ◌||◌, length, List, [], Option, Some, refl, sym, subst, ◌∙◌, true≢false, arith}
 use Rattle.std.specs.Prelude.{slice_get}
 use Rattle.sp_tree.specs.declared.fault.Place.{Place}
 use Rattle.sp_tree.specs.declared.token.Keyword.{Keyword}
@@ -31,7 +31,7 @@ use Rattle.sp_unit_laws.proofs.Braces.{IsType}
 use Rattle.sp_unit_laws.proofs.Leaves.{type_kept}
 use Rattle.sp_unit_laws.proofs.Expressions.{specifiers_formed, declared_formed}
 use Rattle.sp_unit_laws.proofs.Initialisers.{IsObjectType, started_formed}
-use Rattle.sp_unit_laws.proofs.Objects.{AreNumbers, numbers_kept, goes_reserved, object_leads, unvalued_leads}
+use Rattle.sp_unit_laws.proofs.Objects.{IsNumber, AreNumbers, Has, has_later, numbers_kept, goes_reserved, object_leads, unvalued_leads}
 
 -- ---- objects
 
@@ -54,24 +54,24 @@ module _ (names : List (List ℕ)) where
       leads_then (object_leads env k n t (storage_for l class (is_given start)) l (is_given start) p e h f) (λ later g.
       finished_leads later k p at l (storage_for l class (is_given start)) start g.formed)))
 
-  numbered : (env : Env) (ks : List ℕ) (n : ℕ) (l : Linkage) (p : Place) (later : Env) → Goes (object_reserved env n l p (entry_for env n l)) later → AreNumbers ks later
-      → AreNumbers (with_number ks l (reserved_number env (entry_for env n l))) later
-  numbered env ks n External p later g h = h
-  numbered env ks n Internal p later g h = h
-  numbered env ks n Inner p later g h =
-      each_pushed (λ k. k < length later.tables.objects) ks (length env.tables.objects) h
-      (omega (arith, g.keeps.objects, pushed_length env.tables.objects (new_object n void Outside Inner p)))
+  numbered : (from : ℕ) (env : Env) (ks : List ℕ) (n : ℕ) (l : Linkage) (p : Place) (later : Env) → Goes (object_reserved env n l p (entry_for env n l)) later → Has from env → AreNumbers from ks later
+      → AreNumbers from (with_number ks l (reserved_number env (entry_for env n l))) later
+  numbered from env ks n External p later g l h = h
+  numbered from env ks n Internal p later g l h = h
+  numbered from env ks n Inner p later g l h =
+      each_pushed (IsNumber from later) ks (length env.tables.objects) h
+      (l, omega (arith, g.keeps.objects, pushed_length env.tables.objects (new_object n void Outside Inner p)))
 
-  object_formed : (env : Env) (ks : List ℕ) (class : Option Keyword) (base : CType) (d : Declarator) (start : MaybeInit) (n : ℕ) (p : Place) (l : Linkage)
-      → IsFormedEnv env → AreNumbers ks env → IsType base env → names_function (is_function base) d ≡ false
-      → After env AreNumbers (object_at names env ks class base d start n p l (entry_for env n l))
-  object_formed env ks class base d start n p l h ns t plain =
+  object_formed : (from : ℕ) (env : Env) (ks : List ℕ) (class : Option Keyword) (base : CType) (d : Declarator) (start : MaybeInit) (n : ℕ) (p : Place) (l : Linkage)
+      → IsFormedEnv env → Has from env → AreNumbers from ks env → IsType base env → names_function (is_function base) d ≡ false
+      → After env (AreNumbers from) (object_at names env ks class base d start n p l (entry_for env n l))
+  object_formed from env ks class base d start n p l h has ns t plain =
       let r : Env = object_reserved env n l p (entry_for env n l) in
       let to-r : Goes env r = goes_reserved env n l p (entry_for env n l) h in
       carried to-r (next (declared_formed names r base d to-r.formed (type_kept env r to-r base t)) (λ x g u.
       lead (told_leads x.1 class x.0 (reserved_number env (entry_for env n l)) n p (declarator_place d) start l (entry_for env n l) g.formed (u.0, u.1 ∙ plain)) (λ e k.
       done (goes_nowhere e k.formed)
-      (numbered env ks n l p e (goes_on r x.1 e g k) (numbers_kept env e (goes_on env r e to-r (goes_on r x.1 e g k)) ks ns)))))
+      (numbered from env ks n l p e (goes_on r x.1 e g k) has (numbers_kept from env e (goes_on env r e to-r (goes_on r x.1 e g k)) ks ns)))))
 
   -- ---- functions and types
 
@@ -93,12 +93,12 @@ module _ (names : List (List ℕ)) where
       leads_given {o = function_type t} _ _ (λ s g.
       leads_after (function_formed env n (function_linkage env n class) s p h (signature_in env t s f g)) (λ x k a. leads (goes_nowhere x.1 k.formed))))))
 
-  other_formed : (env : Env) (ks : List ℕ) (class : Option Keyword) (whole : Place) (base : CType) (d : Declarator) (start : MaybeInit) (n : ℕ) (p : Place)
-      → IsFormedEnv env → AreNumbers ks env → IsType base env → After env AreNumbers (other_checked names env ks class whole base d start n p)
-  other_formed env ks class whole base d start n p h ns t =
+  other_formed : (from : ℕ) (env : Env) (ks : List ℕ) (class : Option Keyword) (whole : Place) (base : CType) (d : Declarator) (start : MaybeInit) (n : ℕ) (p : Place)
+      → IsFormedEnv env → AreNumbers from ks env → IsType base env → After env (AreNumbers from) (other_checked names env ks class whole base d start n p)
+  other_formed from env ks class whole base d start n p h ns t =
       next (declared_formed names env base d h t) (λ x g u.
       lead (other_leads x.1 class whole x.0 n p (declarator_place d) (is_given start) g.formed u.0) (λ e k.
-      done (goes_nowhere e k.formed) (numbers_kept env e (goes_on env x.1 e g k) ks ns)))
+      done (goes_nowhere e k.formed) (numbers_kept from env e (goes_on env x.1 e g k) ks ns)))
 
   -- ---- declarations
 
@@ -107,23 +107,23 @@ module _ (names : List (List ℕ)) where
   plain_name false true e = absurd (true≢false (sym e))
   plain_name false false e = refl
 
-  item_formed : (env : Env) (class : Option Keyword) (whole : Place) (base : CType) (ks : List ℕ) (i : InitDeclarator) → IsFormedEnv env → IsType base env → AreNumbers ks env
-      → After env AreNumbers (item_declared names env class whole base ks i)
-  item_formed env class whole base ks (init_declarator d start) h t ns =
+  item_formed : (from : ℕ) (env : Env) (class : Option Keyword) (whole : Place) (base : CType) (ks : List ℕ) (i : InitDeclarator) → IsFormedEnv env → Has from env → IsType base env → AreNumbers from ks env
+      → After env (AreNumbers from) (item_declared names env class whole base ks i)
+  item_formed from env class whole base ks (init_declarator d start) h has t ns =
       given {o = declared_name d} _ _ (λ n e.
       either {b = names_object class base d}
-      (λ o. object_formed env ks class base d start n.0 n.1 (linkage_for env n.0 class) h ns t (plain_name (is_typedef class) (names_function (is_function base) d) o))
-      (λ o. other_formed env ks class whole base d start n.0 n.1 h ns t))
+      (λ o. object_formed from env ks class base d start n.0 n.1 (linkage_for env n.0 class) h has ns t (plain_name (is_typedef class) (names_function (is_function base) d) o))
+      (λ o. other_formed from env ks class whole base d start n.0 n.1 h ns t))
 
-  items_formed : (env : Env) (class : Option Keyword) (whole : Place) (base : CType) (ks : List ℕ) (is : InitDeclarators) → IsFormedEnv env → IsType base env → AreNumbers ks env
-      → After env AreNumbers (items_declared names env class whole base ks is)
-  items_formed env class whole base ks no_items h t ns = done (goes_nowhere env h) ns
-  items_formed env class whole base ks (next_item i is) h t ns =
-      next (item_formed env class whole base ks i h t ns) (λ x g q. items_formed x.1 class whole base x.0 is g.formed (type_kept env x.1 g base t) q)
+  items_formed : (from : ℕ) (env : Env) (class : Option Keyword) (whole : Place) (base : CType) (ks : List ℕ) (is : InitDeclarators) → IsFormedEnv env → Has from env → IsType base env → AreNumbers from ks env
+      → After env (AreNumbers from) (items_declared names env class whole base ks is)
+  items_formed from env class whole base ks no_items h has t ns = done (goes_nowhere env h) ns
+  items_formed from env class whole base ks (next_item i is) h has t ns =
+      next (item_formed from env class whole base ks i h has t ns) (λ x g q. items_formed from x.1 class whole base x.0 is g.formed (has_later from env x.1 g has) (type_kept env x.1 g base t) q)
 
-  pub declaration_formed : (env : Env) (d : Declaration) → IsFormedEnv env → After env AreNumbers (declaration_checked names env d)
-  declaration_formed env (declaration ss is p) h =
+  pub declaration_formed : (from : ℕ) (env : Env) (d : Declaration) → IsFormedEnv env → Has from env → After env (AreNumbers from) (declaration_checked names env d)
+  declaration_formed from env (declaration ss is p) h has =
       next (specifiers_formed names env (has_none is) p ss h) (λ x g t.
       met {b = not (is_file_scope x.1.scopes && is_automatic (storage_class ss))} _ _ (λ class.
       met {b = not (has_none is) || declares_tag ss} _ _ (λ some.
-      items_formed x.1 (storage_class ss) p x.0 [] is g.formed t (each_none (λ k. k < length x.1.tables.objects)))))
+      items_formed from x.1 (storage_class ss) p x.0 [] is g.formed (has_later from env x.1 g has) t (each_none (IsNumber from x.1)))))

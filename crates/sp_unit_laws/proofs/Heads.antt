@@ -23,7 +23,7 @@ use Rattle.sp_unit_laws.proofs.Functions.{function_found, function_formed}
 use Rattle.sp_unit_laws.proofs.Braces.{IsType}
 use Rattle.sp_unit_laws.proofs.Leaves.{type_kept}
 use Rattle.sp_unit_laws.proofs.Expressions.{specifiers_formed, declared_formed}
-use Rattle.sp_unit_laws.proofs.Objects.{AreNumbers}
+use Rattle.sp_unit_laws.proofs.Objects.{AreNumbers, Has, has_later}
 use Rattle.sp_unit_laws.proofs.Formals.{IsOwn, own_formed}
 
 returned_formed : (env : Env) (t r : CType) → IsType t env → returned_type t ≡ Some r → IsType r env
@@ -47,17 +47,18 @@ joined_formed env k s p h f =
     gives_given {o = function_type (slice_get env.tables.functions k)} _ _ (λ t g.
     gives_met {b = compatible (function t) (function s)} _ _ (λ fits. gives (signature_composed env.tables.structs t s (function_found env k t h g) f)))
 
-abbrev pub IsHead : Head → Env → Type 0
-IsHead h env = AreNumbers h.own.formals env
+abbrev pub IsHead : ℕ → Head → Env → Type 0
+IsHead from h env = AreNumbers from h.own.formals env
 
-own_joined_formed : (env : Env) (k : ℕ) (o : Own) → IsFormedEnv env → IsOwn [] o env → After env IsHead (own_joined env k o)
-own_joined_formed env k o h f = taken (joined_formed env k o.of o.place h f.0) (λ t g. done (goes_function_typed env h k t g) f.1)
+own_joined_formed : (from : ℕ) (env : Env) (k : ℕ) (o : Own) → IsFormedEnv env → IsOwn [] from o env → After env (IsHead from) (own_joined env k o)
+own_joined_formed from env k o h f = taken (joined_formed env k o.of o.place h f.0) (λ t g. done (goes_function_typed env h k t g) f.1)
 
-pub head_formed : (names : List (List ℕ)) (env : Env) (ss : Specifiers) (d : Declarator) → IsFormedEnv env → After env IsHead (head_checked names env ss d)
-head_formed names env ss d h =
+pub head_formed : (names : List (List ℕ)) (from : ℕ) (env : Env) (ss : Specifiers) (d : Declarator) → IsFormedEnv env → Has from env
+    → After env (IsHead from) (head_checked names env ss d)
+head_formed names from env ss d h has =
     met {b = may_define (storage_class ss)} _ _ (λ class.
     next (specifiers_formed names env false (declarator_place d) ss h) (λ x g t.
     next (declared_formed names x.1 x.0 d g.formed t) (λ y k u.
     next (name_formed y.1 (storage_class ss) y.0 d k.formed u.0) (λ n l a.
-    next (own_formed names n.1 x.0 d l.formed (type_kept x.1 n.1 (goes_on x.1 y.1 n.1 k l) x.0 t)) (λ o m f.
-    own_joined_formed o.1 n.0 o.0 m.formed f)))))
+    next (own_formed names from n.1 x.0 d l.formed (has_later from env n.1 (goes_on env x.1 n.1 g (goes_on x.1 y.1 n.1 k l)) has) (type_kept x.1 n.1 (goes_on x.1 y.1 n.1 k l) x.0 t)) (λ o m f.
+    own_joined_formed from o.1 n.0 o.0 m.formed f)))))

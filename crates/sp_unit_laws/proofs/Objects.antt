@@ -1,5 +1,5 @@
 -- Declarations of objects leave the environment formed (C90 6.1.2.2, 6.1.2.6, 6.7.2).
-use Rattle.std.proofs.Common.{ℕ, Bool, true, false, ◌||◌, if◌then◌else◌, length, List, Option, Some, None, refl, ◌∙◌}
+use Rattle.std.proofs.Common.{ℕ, ◌≤◌, ◌<◌, arith, Bool, true, false, ◌||◌, if◌then◌else◌, length, List, Option, Some, None, refl, ◌∙◌}
 use Rattle.std.specs.Prelude.{slice_get}
 use Rattle.sp_tree.specs.declared.fault.Place.{Place}
 use Rattle.sp_types.specs.Types.{CType, void, Struct}
@@ -17,19 +17,34 @@ use Rattle.sp_names.specs.Composite.{composite}
 use Rattle.sp_names.specs.Functions.{is_retyped, retyped}
 use Rattle.sp_objects.specs.Objects.{is_outside, new_object, object_reserved, linked_to, object_added, is_more_defined, joined_object, may_join, joined_at, object_joined, object_declared, may_wait, object_unvalued}
 use Rattle.sp_unit_laws.proofs.Composites.{composite_formed, composite_function}
-use Rattle.sp_unit_laws.proofs.Envs.{IsFormedEnv, IsFormedObject, AreBelow, below_more, Goes, goes_nowhere, goes_on}
+use Rattle.sp_unit_laws.proofs.Lists.{Each}
+use Rattle.sp_unit_laws.proofs.Envs.{IsFormedEnv, IsFormedObject, AreBelow, Goes, goes_nowhere, goes_on}
 use Rattle.sp_unit_laws.proofs.After.{Gives, gives, gives_met, gives_given, Leads, leads, leads_none, leads_carried, leads_taken, leads_met, leads_given}
 use Rattle.sp_unit_laws.proofs.Updates.{goes_object, goes_object_set, goes_linked, goes_typing, leads_declared}
 use Rattle.sp_unit_laws.proofs.Functions.{goes_retyped}
 use Rattle.sp_unit_laws.proofs.Leaves.{type_kept}
 use Rattle.sp_unit_laws.proofs.Initialisers.{IsObjectType}
 
--- numbers of objects of the environment
-abbrev pub AreNumbers : List ℕ → Env → Type 0
-AreNumbers ks env = AreBelow (length env.tables.objects) ks
+-- numbers of objects of the environment, from a number on
+abbrev pub IsNumber : ℕ → Env → ℕ → Type 0
+IsNumber from env k = (from ≤ k) × (k < length env.tables.objects)
 
-pub numbers_kept : (env later : Env) → Goes env later → (ks : List ℕ) → AreNumbers ks env → AreNumbers ks later
-numbers_kept env later g ks h = below_more (length env.tables.objects) (length later.tables.objects) ks g.keeps.objects h
+abbrev pub AreNumbers : ℕ → List ℕ → Env → Type 0
+AreNumbers from ks env = Each (IsNumber from env) ks
+
+-- so many objects are there
+abbrev pub Has : ℕ → Env → Type 0
+Has from env = from ≤ length env.tables.objects
+
+pub has_later : (from : ℕ) (env later : Env) → Goes env later → Has from env → Has from later
+has_later from env later g l = omega (arith, g.keeps.objects, l)
+
+pub numbers_kept : (from : ℕ) (env later : Env) → Goes env later → (ks : List ℕ) → AreNumbers from ks env → AreNumbers from ks later
+numbers_kept from env later g ks h = λ i k at.
+    let b : IsNumber from env k = h i k at in (b.0, omega (arith, b.1, g.keeps.objects))
+
+pub numbers_below : (from : ℕ) (env : Env) (ks : List ℕ) → AreNumbers from ks env → AreBelow (length env.tables.objects) ks
+numbers_below from env ks h = λ i k at. (h i k at).1
 
 pub goes_reserved : (env : Env) (n : ℕ) (l : Linkage) (p : Place) (o : Option Entity) → IsFormedEnv env → Goes env (object_reserved env n l p o)
 goes_reserved env n l p None h = goes_object env h (new_object n void Outside l p) (tt, refl)

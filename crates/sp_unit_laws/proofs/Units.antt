@@ -1,5 +1,5 @@
 -- What the checks of a unit accept is formed (C90 6.7).
-use Rattle.std.proofs.Common.{◌≡◌, ℕ, List, [], ◌∷◌, Option, Some, None, refl}
+use Rattle.std.proofs.Common.{◌≡◌, ℕ, length, arith, List, [], ◌∷◌, Option, Some, None, refl}
 use Rattle.std.specs.Prelude.{slice_get}
 use Rattle.sp_tree.specs.declared.fault.Place.{Place}
 use Rattle.sp_tree.specs.declared.fault.FaultKind.{FaultKind}
@@ -17,15 +17,15 @@ use Rattle.sp_decl_check.specs.Definitions.{defined, body_set, with_body, defini
 use Rattle.sp_tentative.specs.Tentative.{open_tentative}
 use Rattle.sp_decl_check.specs.Units.{checked_unit, unit_told}
 use Rattle.sp_unit_laws.specs.Units.{IsFormedUnit, UnitsAreFormed}
-use Rattle.sp_unit_laws.proofs.Envs.{IsFormedEnv, Goes, goes_nowhere, goes_on}
+use Rattle.sp_unit_laws.proofs.Envs.{AreBelow, IsFormedEnv, Goes, goes_nowhere, goes_on}
 use Rattle.sp_unit_laws.proofs.After.{Any, Gives, gives, gives_none, After, done, next}
 use Rattle.sp_unit_laws.proofs.Updates.{start_formed, goes_left, goes_function_set}
-use Rattle.sp_unit_laws.proofs.Objects.{AreNumbers, numbers_kept}
+use Rattle.sp_unit_laws.proofs.Objects.{numbers_kept, numbers_below}
 use Rattle.sp_unit_laws.proofs.Declarations.{declaration_formed}
 use Rattle.sp_unit_laws.proofs.Heads.{head_formed}
 use Rattle.sp_unit_laws.proofs.Statements.{body_formed}
 
-goes_defined : (env : Env) (h : Head) (s : TypedStatement) → IsFormedEnv env → AreNumbers h.own.formals env → AreNumbers (locals_in s) env → Goes env (with_body env h s)
+goes_defined : (env : Env) (h : Head) (s : TypedStatement) → IsFormedEnv env → AreBelow (length env.tables.objects) h.own.formals → AreBelow (length env.tables.objects) (locals_in s) → Goes env (with_body env h s)
 goes_defined env h s formed formals locals = by (slice_get env.tables.functions h.number) refl
   where
     by : (o : Option Function) → slice_get env.tables.functions h.number ≡ o → Goes env (body_set env h s o)
@@ -34,17 +34,17 @@ goes_defined env h s formed formals locals = by (slice_get env.tables.functions 
 
 definition_formed : (names : List (List ℕ)) (env : Env) (ns : List ℕ) (ss : Specifiers) (d : Declarator) (s : Statement) → IsFormedEnv env → After env Any (definition_checked names env ns ss d s)
 definition_formed names env ns ss d s h =
-    next (head_formed names env ss d h) (λ x g f.
-    next (body_formed names x.1 (result_of x.0.own.of) s g.formed) (λ b k l.
+    next (head_formed names 0 env ss d h (omega arith)) (λ x g f.
+    next (body_formed names 0 x.1 (result_of x.0.own.of) s g.formed (omega arith)) (λ b k l.
     let out : Goes b.1 (left b.1) = goes_left b.1 k.formed in
     done (goes_on b.1 (left b.1) (with_body (left b.1) x.0 b.0) out
     (goes_defined (left b.1) x.0 b.0 out.formed
-    (numbers_kept x.1 (left b.1) (goes_on x.1 b.1 (left b.1) k out) x.0.own.formals f)
-    (numbers_kept b.1 (left b.1) out (locals_in b.0) l))) tt))
+    (numbers_below 0 (left b.1) x.0.own.formals (numbers_kept 0 x.1 (left b.1) (goes_on x.1 b.1 (left b.1) k out) x.0.own.formals f))
+    (numbers_below 0 (left b.1) (locals_in b.0) (numbers_kept 0 b.1 (left b.1) out (locals_in b.0) l)))) tt))
 
 external_formed : (names : List (List ℕ)) (env : Env) (ns : List ℕ) (e : External) → IsFormedEnv env → After env Any (external_checked names env ns e)
 external_formed names env ns (definition ss d s) h = definition_formed names env ns ss d s h
-external_formed names env ns (external_declaration d) h = next (declaration_formed names env d h) (λ x g q. done (goes_nowhere x.1 g.formed) tt)
+external_formed names env ns (external_declaration d) h = next (declaration_formed names 0 env d h (omega arith)) (λ x g q. done (goes_nowhere x.1 g.formed) tt)
 external_formed names env ns semicolon h = done (goes_nowhere env h) tt
 
 externals_formed : (names : List (List ℕ)) (env : Env) (ns : List ℕ) (es : List External) → IsFormedEnv env → After env Any (externals_checked names env ns es)

@@ -19,7 +19,8 @@ use Rattle.sp_lower_objects.specs.Initials.{initials_from}
 use Rattle.sp_lower_objects.specs.Objects.{kind_of_storage, start_leaves, start_of, zero_of}
 use Rattle.sp_lower_objects.specs.Regions.{all_regions}
 use Rattle.sp_lower.specs.Programs.{program_context}
-use Rattle.sp_typing.specs.Programs.{IsTypedProgram, IsStaticStart, HasStaticStart, is_static, sees}
+use Rattle.sp_typing.specs.Programs.{IsTypedProgram, IsStaticStart, HasStaticStart, sees}
+use Rattle.sp_typing.specs.Statements.{is_static}
 use Rattle.sp_typing.specs.Starts.{AreLeafValues}
 use Rattle.sp_draft_laws.specs.Stands.{table, scene, Fits}
 use Rattle.sp_draft_laws.proofs.Sorts.{false_true}

@@ -24,19 +24,19 @@ use Rattle.sp_typing.specs.Starts.{AreLeafValues}
 use Rattle.sp_unit_laws.proofs.Lists.{each_pushed, pushed_length}
 use Rattle.sp_unit_laws.proofs.After.{Gives, gives, gives_none, gives_then, gives_met}
 use Rattle.sp_typed_laws.specs.Sound.{scene_of}
-use Rattle.sp_typed_unit_laws.specs.Starts.{AreBytes}
-use Rattle.sp_typed_unit_laws.proofs.Characters.{AreLow, text_low, characters_typed}
+use Rattle.sp_leaf_laws.specs.Leaves.{AreBytes}
+use Rattle.sp_leaf_laws.proofs.Characters.{AreLow, text_low, characters_typed}
 
 -- ---- the bytes with their zero
 
-ended_low : (room : Option ℕ) (bs : List ℕ) → AreLow bs → AreLow (ended room bs)
+pub ended_low : (room : Option ℕ) (bs : List ℕ) → AreLow bs → AreLow (ended room bs)
 ended_low room bs h = by (has_room room (length bs))
   where
     by : (b : Bool) → AreLow (if b then bs ++ 0 ∷ [] else bs)
     by true = each_pushed (λ b. b < 256) bs 0 h (omega arith)
     by false = h
 
-ended_fits : (n : ℕ) (bs : List ℕ) → nat_le (length bs) n ≡ true
+pub ended_fits : (n : ℕ) (bs : List ℕ) → nat_le (length bs) n ≡ true
     → length (ended (Some n) bs) ≤ n
 ended_fits n bs h = by (nat_lt (length bs) n) refl
   where
@@ -113,7 +113,7 @@ module _ (names : List (List ℕ)) (bytes : AreBytes names) (own : ℕ → Bool)
       last_of k p 0 bs 0 in
       omega (arith, last, pushed_length bs 0)) (ended_low None bs low))))
 
-  added_typed : (k : IntKind) (n : Option ℕ) (e : Expression) → is_character_kind k ≡ true
+  pub added_typed : (k : IntKind) (n : Option ℕ) (e : Expression) → is_character_kind k ≡ true
       → Gives (λ x. AreLeavesIn x)
       (and_then (stays env (string_added names [] (array (integer k) n) 0 w.name e))
       (λ x. measured_then (array (integer k) n) x))

@@ -1,9 +1,9 @@
 -- The environment behind initialisers is sound, and so is the type that they complete (C90 6.5.7).
-use Rattle.std.proofs.Common.{◌≡◌, ℕ, zero, suc, ◌^◌, ◌-◌, ◌≤◌, nat_le, pos, Bool, true, false, ◌||◌, if◌then◌else◌, List, [], Option, Some, None, refl, subst, arith}
+use Rattle.std.proofs.Common.{◌≡◌, ℕ, zero, suc, ◌^◌, ◌-◌, ◌≤◌, nat_le, pos, Bool, true, false, ◌||◌, if◌then◌else◌, List, [], Option, Some, None, refl, subst, arith, ◌*◌, is_some, ap, sym, true≢false, ◌∙◌}
 use Rattle.sp_tree.specs.declared.fault.Place.{Place}
 use Rattle.sp_tree.specs.declared.fault.FaultKind.TheVariants.{F20}
 use Rattle.sp_syntax.specs.Syntax.{Expression, Init, one, list, Inits, no_inits, next_init}
-use Rattle.sp_types.specs.Types.{CType, void, integer, floating, pointer, array, structure, function}
+use Rattle.sp_types.specs.Types.{CType, void, integer, floating, pointer, array, structure, function, Struct}
 use Rattle.sp_types.specs.Layout.{layout}
 use Rattle.sp_types.specs.Structs.{leaves}
 use Rattle.sp_types.specs.Typed.{Typed}
@@ -25,6 +25,11 @@ use Rattle.sp_typed_laws.proofs.After.{Any, After, done, after_none, next, taken
 use Rattle.sp_typed_laws.proofs.Updates.{reaches_constant}
 use Rattle.sp_typed_laws.proofs.Leaves.{IsType, type_kept}
 use Rattle.sp_typed_laws.proofs.Expressions.{checked_value}
+use Rattle.sp_types.specs.declared.extents.Extent.{Extent}
+use Rattle.sp_unit_laws.proofs.Stays.{Stays, type_stays}
+use Rattle.sp_typed_laws.proofs.Envs.{table_stays}
+use Rattle.sp_types.specs.Layout.{layout, extent, repeated}
+use Rattle.sp_leaf_laws.proofs.Values.{gives_both}
 
 -- ---- values
 
@@ -74,7 +79,7 @@ module _ (names : List (List ℕ)) (own : ℕ → Bool) (env : Env) (w : Target)
 
 module _ (names : List (List ℕ)) (own : ℕ → Bool) where
   mutual
-    filled_sound : (env : Env) (w : Target) (x : Progress) (is : Inits) → IsFit own env
+    pub filled_sound : (env : Env) (w : Target) (x : Progress) (is : Inits) → IsFit own env
         → AreWrittenInits is → After own env Any (filled names env w x is)
     filled_sound env w x no_inits h r = done (reaches_nowhere own env h) tt
     filled_sound env w x (next_init i is) h r =
@@ -179,8 +184,49 @@ reaches_lengthened own env b t h = reaches_nowhere own env h
 
 -- ---- whole objects
 
+-- what is measured is complete
+repeated_whole : (n : ℕ) (e : Extent) → nat_le (e.size * n) (2 ^ 40) ≡ true
+    → is_some (repeated n (Some e)) ≡ true
+repeated_whole n e h =
+    ap (λ b. is_some (if b then Some (extent (e.size * n) e.align) else None)) h
+
+measured_whole : (ss : List Struct) (at : Place) (vs : List (ℕ × Typed)) (t : CType)
+    → (is_unmeasured t || is_complete ss t) ≡ true
+    → Gives (λ u. is_complete ss u ≡ true) (measured ss at vs t)
+measured_whole ss at vs (array t None) whole =
+    let n : ℕ = how_many (last_leaf vs) (leaves ss t) in
+    gives_met {b = nat_le n (2 ^ 31 - 1)} _ _ (λ few.
+    gives_given {o = layout ss t} _ _ (λ e g. gives_met {b = nat_le (e.size * n) (2 ^ 40)} _ _
+    (λ fits. gives {x = array t (Some n)}
+    (ap (λ o. is_some (repeated n o)) g ∙ repeated_whole n e fits))))
+measured_whole ss at vs (array t (Some n)) whole = gives {x = array t (Some n)} whole
+measured_whole ss at vs void whole = gives {x = void} whole
+measured_whole ss at vs (integer k) whole = gives {x = integer k} whole
+measured_whole ss at vs (floating k) whole = gives {x = floating k} whole
+measured_whole ss at vs (pointer t) whole = gives {x = pointer t} whole
+measured_whole ss at vs (structure k) whole = gives {x = structure k} whole
+measured_whole ss at vs (function s) whole = gives {x = function s} whole
+
+-- a type that is complete stays so
+complete_stays : (ss rs : List Struct) → Stays ss rs → (t : CType) → is_complete ss t ≡ true
+    → is_complete rs t ≡ true
+complete_stays ss rs stays t h = by (layout ss t) refl
+  where
+    by : (o : Option Extent) → layout ss t ≡ o → is_complete rs t ≡ true
+    by None e = absurd (true≢false (sym h ∙ ap is_some e))
+    by (Some x) e = ap is_some (type_stays ss rs stays t x e).layouts ∙ h
+
+still_whole : (ss rs : List Struct) → Stays ss rs → (t : CType)
+    → (is_unmeasured t || is_complete ss t) ≡ true → (is_unmeasured t || is_complete rs t) ≡ true
+still_whole ss rs stays t h = by (is_unmeasured t) h
+  where
+    by : (b : Bool) → (b || is_complete ss t) ≡ true → (b || is_complete rs t) ≡ true
+    by true h = refl
+    by false h = complete_stays ss rs stays t h
+
 abbrev pub IsStartedType : CType → Started → Env → Type 0
 IsStartedType t x env = IsObjectType x.of env × Completes t x.of
+    × (is_complete env.tables.structs x.of ≡ true)
 
 pub started_sound : (names : List (List ℕ)) (own : ℕ → Bool) (env : Env) (w : Target) (t : CType)
     (i : Init)
@@ -189,7 +235,15 @@ pub started_sound : (names : List (List ℕ)) (own : ℕ → Bool) (env : Env) (
 started_sound names own env w t i h f r =
     met {b = is_unmeasured t || is_complete env.tables.structs t} _ _ (λ whole.
     next (initialised_sound names own env w t i h r) (λ x g q.
-    taken (measured_sound x.1 w.declarator x.0 t (object_type_kept g t f)) (λ u k.
+    taken (gives_both (measured_sound x.1 w.declarator x.0 t (object_type_kept g t f))
+    (measured_whole x.1.tables.structs w.declarator x.0 t
+    (still_whole env.tables.structs x.1.tables.structs (table_stays own env x.1 g.moves h.formed) t
+    whole))) (λ u k.
     let l : Reaches own x.1 (with_length x.1 (is_unmeasured t) u) =
     reaches_lengthened own x.1 (is_unmeasured t) u g.fit in
-    done l (object_type_kept l u k.0, k.1))))
+    done l (
+      object_type_kept l u k.0.0,
+      k.0.1,
+      complete_stays x.1.tables.structs (with_length x.1 (is_unmeasured t) u).tables.structs
+          (table_stays own x.1 (with_length x.1 (is_unmeasured t) u) l.moves g.fit.formed) u k.1,
+    ))))

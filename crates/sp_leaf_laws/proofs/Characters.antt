@@ -18,7 +18,7 @@ use Rattle.sp_ir.specs.Formed.{InKind}
 use Rattle.sp_typing.specs.Trees.{Scene}
 use Rattle.sp_typing.specs.Starts.{IsLeafValue, AreLeafValues}
 use Rattle.sp_unit_laws.proofs.Lists.{Each, each_none, each_behind, each_appended, none_some, some_is, nil_all, cons_all}
-use Rattle.sp_typed_unit_laws.specs.Starts.{AreBytes}
+use Rattle.sp_leaf_laws.specs.Leaves.{AreBytes}
 
 -- ---- bytes
 
@@ -51,7 +51,7 @@ signed_character b low false e =
     above : nat_le b 127 ≡ false → 127 < b
     above e = grind arith
 
-character_held : (k : IntKind) (b : ℕ) → is_character_kind k ≡ true → b < 256
+pub character_held : (k : IntKind) (b : ℕ) → is_character_kind k ≡ true → b < 256
     → InKind k (character_value k b)
 character_held Char b h low = signed_character b low (nat_le b 127) refl
 character_held SChar b h low = signed_character b low (nat_le b 127) refl

@@ -1,0 +1,14 @@
+pub mod Values
+pub mod Shapes
+pub mod Counts
+pub mod Spans
+pub mod Complete
+pub mod Runs
+pub mod Inwards
+pub mod Incomplete
+pub mod Initialisers
+pub mod Characters
+pub mod Literals
+pub mod Ordered
+pub mod Filled
+pub mod Leaves
