@@ -2,21 +2,21 @@
 //! analyser uses it.
 #![tactic(auto)]
 
-use row_texts::checked_unit;
-use sp_ir::Lowered;
-use sp_lower::{LowerError, lower};
-use sp_operands::CheckError;
-use sp_program::link;
-use sp_tree::{Names, Place};
-use sp_types::Program;
-use std::alloc::Global;
+ghost use Rattle.std.specs.Prelude.{◌≡◌, [], map, IfOk};
+ghost use Rattle.sp_ir.specs.Programs as ir;
+ghost use Rattle.sp_ir.specs.Formed.{IsFormed};
+ghost use Rattle.sp_front.specs.Sources.{source_of, AreWithin};
 
-/// Where the first file begins.
-const FIRST: Place = Place {
-    name: 0,
-    line: 1,
-    column: 1,
-};
+use sp_front::{FrontError, Source, lowering_of};
+use sp_ir::Lowered;
+use sp_operands::CheckError;
+use sp_tree::Names;
+use std::alloc::{AllocError, Global};
+
+/// The most files, and the most bytes of all of them.
+const MAX_FILES: usize = 64;
+
+const MAX_TEXT: usize = 16_777_216;
 
 fn file_name(number: usize) -> &'static [u8] {
     if number == 0 {
@@ -26,30 +26,40 @@ fn file_name(number: usize) -> &'static [u8] {
     }
 }
 
-/// The program that texts make.
-fn program_of(alloc: Global, texts: &[Vec<u8>], names: &mut Names) -> Result<Program, CheckError> {
-    let mut units = Vec::new(alloc);
-    for (k, text) in texts.iter().enumerate() {
-        units.push(checked_unit(alloc, file_name(k), text, names)?)?;
+/// The texts as files. Where they are past the limits of files, memory counts as wanted.
+fn sources_of(alloc: Global, texts: &[Vec<u8>]) -> Result<Vec<Source>, AllocError>
+    ensures { IfOk result (λ sources. AreWithin (map source_of sources.items)) }
+{
+    if texts.len() > MAX_FILES {
+        return Err(AllocError);
     }
-    link(alloc, &units, FIRST, names)
+    let mut sources = Vec::new(alloc);
+    let mut room = MAX_TEXT;
+    'texts: for (k, text) in texts.iter().enumerate() {
+        if text.len() > room {
+            return Err(AllocError);
+        }
+        room -= text.len();
+        let name = Vec::from_slice(alloc, file_name(k))?;
+        let text = Vec::from_slice(alloc, text)?;
+        sources.push(Source { name, text })?;
+    }
+    Ok(sources)
 }
 
-/// The lowering of a program.
-fn lowering(alloc: Global, program: &Program, names: &Names) -> Result<Lowered, CheckError> {
-    match lower(alloc, program, names) {
-        Ok(lowered) => Ok(lowered),
-        Err(LowerError::Fault(fault)) => Err(CheckError::Fault(fault)),
-        Err(LowerError::NoMemory) => Err(CheckError::NoMemory),
-    }
-}
-
-/// The lowering of the program that texts make, or the first fault.
+/// The lowering of the program that texts make, which is formed, or the first fault.
 pub fn lowered_of(
     alloc: Global,
     texts: &[Vec<u8>],
     names: &mut Names,
-) -> Result<Lowered, CheckError> {
-    let program = program_of(alloc, texts, names)?;
-    lowering(alloc, &program, names)
+) -> Result<Lowered, CheckError>
+    requires { names.old ≡ [] }
+    ensures { IfOk result (λ lowered. IsFormed (ir.lowered_of lowered)) }
+{
+    let sources = sources_of(alloc, texts)?;
+    match lowering_of(alloc, &sources, names) {
+        Ok(lowered) => Ok(lowered),
+        Err(FrontError::Fault(fault)) => Err(CheckError::Fault(fault)),
+        Err(FrontError::NoMemory) => Err(CheckError::NoMemory),
+    }
 }

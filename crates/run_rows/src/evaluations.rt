@@ -5,7 +5,6 @@ use row_lowerings::lowered_of;
 use row_texts::refused;
 use sp_defuse::{CProgram, open_nodes};
 use sp_deps::{DepError, Deps, dependencies_with};
-use sp_formed::is_formed;
 use sp_lattice::{Lattice, Steps, System};
 use sp_scenes::Analysis;
 use sp_sparse::{First, Last, SparseTable, solve_sparse};
@@ -108,9 +107,6 @@ pub fn answer_to<L: Ledger>(
         Ok(lowered) => lowered,
         Err(error) => return refused(alloc, &names, error),
     };
-    if !is_formed(alloc, &lowered)? {
-        return String::from_str(alloc, "not formed");
-    }
     let program = CProgram::new(alloc, Analysis::new(alloc, lowered)?)?;
     answer_on(alloc, question, &program, steps)
 }

@@ -28,16 +28,16 @@ use Rattle.sp_c_tokens.specs.Makers.{SpecifierAt, all_items, all_specifiers, mak
 use Rattle.sp_c_tokens.specs.Ended.{IsEnded}
 use Rattle.sp_c_tokens.specs.Expecting.{IsExpected, IsFaultFor}
 use Rattle.sp_c_tokens.specs.Scopes.{there, purpose_seen}
-use Rattle.sp_c_reader.specs.Reading.{IsRead, IsStop, IsStep}
-use Rattle.sp_c_reader.specs.Declaring.{AreSpecified, IsDeclared, declared_seen, head_name}
-use Rattle.sp_c_reader.proofs.Steps.{begun, got, last, finished, unread, part_fails}
-use Rattle.sp_c_reader.proofs.Parts.{IsOn, on_mark}
-use Rattle.sp_c_reader.proofs.Faulting.{stop_at}
-use Rattle.sp_c_reader.proofs.ExpressionSteps.{built, first_same, first_taken, first_deep}
-use Rattle.sp_c_reader.proofs.Concrete.{concrete_read}
-use Rattle.sp_c_reader.proofs.ListSteps.{choice_ends, choice_on, choice_taken}
-use Rattle.sp_c_reader.proofs.DeclaratorSteps.{same_on, direct_on}
-use Rattle.sp_c_reader.proofs.GroupSteps.{direct_begins_none}
+use Rattle.sp_c_steps.specs.Reading.{IsRead, IsStop, IsStep}
+use Rattle.sp_c_steps.specs.Declaring.{AreSpecified, IsDeclared, declared_seen, head_name}
+use Rattle.sp_c_steps.proofs.Steps.{begun, got, last, finished, unread, part_fails}
+use Rattle.sp_c_steps.proofs.Parts.{IsOn, on_mark}
+use Rattle.sp_c_steps.proofs.Faulting.{stop_at}
+use Rattle.sp_c_steps.proofs.ExpressionSteps.{built, first_same, first_taken, first_deep}
+use Rattle.sp_c_steps.proofs.Concrete.{concrete_read}
+use Rattle.sp_c_steps.proofs.ListSteps.{choice_ends, choice_on, choice_taken}
+use Rattle.sp_c_steps.proofs.DeclaratorSteps.{same_on, direct_on}
+use Rattle.sp_c_steps.proofs.GroupSteps.{direct_begins_none}
 use Rattle.sp_c_declarations.specs.Taking.{IsTaken}
 
 abbrev Several : Type 0

@@ -20,12 +20,12 @@ use Rattle.sp_c_tokens.specs.Expecting.{IsExpected}
 use Rattle.sp_c_tokens.specs.Scopes.{there, purpose_seen}
 use Rattle.sp_c_tokens.specs.declared.scope.AlsoAllowed.{AlsoAllowed}
 use Rattle.sp_c_tokens.specs.declared.scope.Scope.{Scope}
-use Rattle.sp_c_reader.specs.Reading.{IsRead, IsStep}
-use Rattle.sp_c_reader.proofs.Steps.{got, last, finished}
-use Rattle.sp_c_reader.proofs.Parts.{IsOn, on_mark}
-use Rattle.sp_c_reader.proofs.ExpressionSteps.{built, first_same, first_taken, first_deep}
-use Rattle.sp_c_reader.proofs.ListSteps.{choice_ends, choice_on, choice_taken}
-use Rattle.sp_c_reader.proofs.Suffixes.{purposed}
+use Rattle.sp_c_steps.specs.Reading.{IsRead, IsStep}
+use Rattle.sp_c_steps.proofs.Steps.{got, last, finished}
+use Rattle.sp_c_steps.proofs.Parts.{IsOn, on_mark}
+use Rattle.sp_c_steps.proofs.ExpressionSteps.{built, first_same, first_taken, first_deep}
+use Rattle.sp_c_steps.proofs.ListSteps.{choice_ends, choice_on, choice_taken}
+use Rattle.sp_c_steps.proofs.Suffixes.{purposed}
 use Rattle.sp_c_declarations.specs.Taking.{IsTaken}
 
 abbrev Tree : Type 0

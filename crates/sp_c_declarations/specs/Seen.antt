@@ -6,7 +6,7 @@ use Rattle.sp_syntax.specs.View.{declarator_form_step, expression_form_step, ini
 use Rattle.sp_grammar.specs.CTable as grammar
 use Rattle.sp_c_tokens.specs.SyntaxTrees.{syntax_trees}
 use Rattle.sp_c_tokens.specs.Scopes.{purpose_seen}
-use Rattle.sp_c_reader.specs.Declaring.{item_seen}
+use Rattle.sp_c_steps.specs.Declaring.{item_seen}
 use Rattle.sp_c_declarations.specs.declared.initialisers.Inits.{Inits}
 use Rattle.sp_c_declarations.specs.declared.declarations.Item.{Item}
 use Rattle.sp_c_declarations.specs.declared.declarations.ItemList.{ItemList}

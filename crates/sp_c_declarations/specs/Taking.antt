@@ -5,7 +5,7 @@ use Rattle.sp_grammar.specs.CTable.{Context, Item, ItemAnswer}
 use Rattle.sp_c_tokens.specs.SyntaxTrees.{syntax_trees}
 use Rattle.sp_c_tokens.specs.declared.part.Part.{Part}
 use Rattle.sp_c_tokens.specs.declared.part.ReadError.{ReadError}
-use Rattle.sp_c_reader.specs.Reading.{IsRead, IsStop}
+use Rattle.sp_c_steps.specs.Reading.{IsRead, IsStop}
 
 -- The answer is read for the ask, of one token at least.
 pub record IsTaken (g : Context) (i : Item syntax_trees) (depth : ℕ) (text : List Token) (a : ItemAnswer i) (reached : ℕ) (rest : List Token) : Type 0 where

@@ -8,13 +8,14 @@ ghost use Rattle.sp_c_tokens.specs.Codes.{sort_seen};
 ghost use Rattle.sp_c_tokens.specs.Ended.{IsEnded};
 ghost use Rattle.sp_c_tokens.specs.Makers.{all_items};
 ghost use Rattle.sp_c_tokens.specs.Scopes.{context_of};
-ghost use Rattle.sp_c_reader.specs.Reading.{Answers};
-ghost use Rattle.sp_c_reader.specs.Declaring.{declared_seen};
+ghost use Rattle.sp_c_steps.specs.Reading.{Answers};
+ghost use Rattle.sp_c_steps.specs.Declaring.{declared_seen};
 ghost use Rattle.sp_c_declarations.specs.Seen.{init_seen, item_part, items_part};
 ghost use Rattle.sp_c_declarations.specs.Taking.{Takes};
 
 use crate::initialisers::read_init;
-use sp_c_reader::{closed, read_declarator, read_specifiers};
+use sp_c_reader::{read_declarator, read_specifiers};
+use sp_c_steps::closed;
 use sp_c_tokens::{
     AlsoAllowed, Context, DeclaratorKind, Declared, Mark, Part, ReadError, Sort, SpecifierList,
     begins_specifiers, expect, fault, is_mark, next_token, sort_at,

@@ -8,11 +8,12 @@ ghost use Rattle.sp_syntax.specs.Depth.{init_depth};
 ghost use Rattle.sp_c_tokens.specs.Codes.{sort_seen};
 ghost use Rattle.sp_c_tokens.specs.Ended.{IsEnded};
 ghost use Rattle.sp_c_tokens.specs.Scopes.{context_of, purpose_seen};
-ghost use Rattle.sp_c_reader.specs.Reading.{Answers};
+ghost use Rattle.sp_c_steps.specs.Reading.{Answers};
 ghost use Rattle.sp_c_declarations.specs.Seen.{init_seen, inits_seen};
 ghost use Rattle.sp_c_declarations.specs.Taking.{Takes};
 
-use sp_c_reader::{ASSIGNMENT, read_level};
+use sp_c_reader::read_level;
+use sp_c_steps::ASSIGNMENT;
 use sp_c_tokens::{
     AlsoAllowed, Context, Mark, Part, ReadError, Sort, begins_expression, expect, is_mark,
     next_token, sort_at,

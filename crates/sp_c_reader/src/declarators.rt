@@ -1,96 +1,32 @@
 //! The readers of declarators, parameters and type names (C90 6.5.4, 6.5.5).
-ghost use Rattle.std.specs.Prelude.{◌≡◌, ◌≤◌, ◌<◌, ◌∷◌, ◌&&◌, not, MatchResult, IfOk, option_map, is_some, true};
+ghost use Rattle.std.specs.Prelude.{◌≡◌, ◌≤◌, ◌<◌, ◌∷◌, MatchResult, option_map, is_some, true};
 ghost use Rattle.sp_grammar.specs.CTable as grammar;
 ghost use Rattle.sp_syntax.specs.Syntax as syntax;
-ghost use Rattle.sp_syntax.specs.View.{declarator_of, type_name_of, tree_of, maybe_expression};
+ghost use Rattle.sp_syntax.specs.View.{declarator_of, type_name_of, tree_of};
 ghost use Rattle.sp_syntax.specs.Depth.{declarator_depth};
-ghost use Rattle.sp_syntax.specs.Places.{declarator_place};
-ghost use Rattle.sp_tree.specs.declared.token.Token.{Token};
 ghost use Rattle.sp_c_tokens.specs.Sorts.{terminal, sort_of};
-ghost use Rattle.sp_c_tokens.specs.Makers.{settle, first_place, make_absent, number_of};
+ghost use Rattle.sp_c_tokens.specs.Makers.{settle, first_place};
 ghost use Rattle.sp_c_tokens.specs.Ended.{IsEnded};
-ghost use Rattle.sp_c_tokens.specs.Scopes.{context_of, purpose_seen};
-ghost use Rattle.sp_c_reader.specs.Reading.{Answers, IsStop, IsTypeName};
-ghost use Rattle.sp_c_reader.specs.Declaring.{form_seen, shape_seen, declared_seen, IsDeclared, IsPointed, IsPointedStop, IsLengthened, IsGiven, AreGiven, AreQualifiers, IsFunction, IsArrayed, IsArrayStop, IsPending, IsGroupFault, begins_array, begins_deeper, begins_part, head_name, qualifier_of};
-ghost use Rattle.sp_c_tokens.specs.Codes.{sort_seen};
-ghost use Rattle.sp_c_tokens.specs.declared.part.ReadError.TheVariants.{NoMemory};
+ghost use Rattle.sp_c_tokens.specs.Scopes.{context_of};
+ghost use Rattle.sp_c_steps.specs.Reading.{Answers, IsStop, IsTypeName};
+ghost use Rattle.sp_c_steps.specs.Declaring.{form_seen, declared_seen, IsDeclared, IsPointed, IsPointedStop, IsLengthened, IsGiven, AreGiven, IsArrayed, IsArrayStop, IsPending, begins_part};
 ghost use Rattle.sp_grammar.specs.CTokens.{view};
-ghost use Rattle.sp_grammar.specs.CTokens as sorts_there;
 
-use crate::expressions::{CONDITIONAL, read_level};
-use crate::kept::{keeping, pushed};
+use crate::expressions::read_level;
 use crate::specifiers::read_specifiers;
-use sp_c_tokens::{
-    AlsoAllowed, Context, DeclaratorKind, Declared, DeclaredShape, Mark, ParameterPart, Parameters,
-    Part, ReadError, Sort, TypeNamePart, begins_expression, begins_specifiers, expect, fault,
-    is_mark, is_specifier, next_token, sort_at,
+use sp_c_steps::{
+    CONDITIONAL, absent, array_of, begins_array, begins_deeper, begins_inner, begins_parameters,
+    begins_part, function_of, group_fault, grouped, head_name, length_purpose, named, pointed,
+    read_head, read_qualifiers,
 };
+use sp_c_tokens::{
+    AlsoAllowed, Context, DeclaratorKind, Declared, Mark, ParameterPart, Parameters, Part,
+    ReadError, TypeNamePart, begins_expression, begins_specifiers, expect, is_mark, next_token,
+    sort_at,
+};
+use sp_kept::{keeping, pushed};
 use sp_syntax::{Declarator, Expr, Param, TypeName};
-use sp_tree::{FaultKind, Keyword, Kind, Place, Token};
-use std::alloc::{AllocError, Global};
-
-/// What a shape becomes with a suffix: what was made of a name stays.
-fn shaped(shape: DeclaredShape, suffix: DeclaredShape) -> DeclaredShape
-    ensures { shape_seen result ≡ grammar.shaped (shape_seen shape) (shape_seen suffix) }
-{
-    match shape {
-        DeclaredShape::Bare => suffix,
-        DeclaredShape::Variadic => DeclaredShape::Variadic,
-        DeclaredShape::Other => DeclaredShape::Other,
-    }
-}
-
-/// What might stand behind more of a declarator: a body, but for its `...`, or nothing that
-/// matters.
-pub fn closed(purpose: AlsoAllowed) -> AlsoAllowed
-    ensures { purpose_seen result ≡ grammar.closed (purpose_seen purpose) }
-{
-    match purpose {
-        AlsoAllowed::Body => AlsoAllowed::Body,
-        _ => AlsoAllowed::Nothing,
-    }
-}
-
-/// No declarator before a token at this place.
-fn absent(form: DeclaratorKind, place: Place) -> Declared
-    ensures { declared_seen result (declarator_of result.tree) ≡ record
-        (grammar.absent_declarator (form_seen form)) { tree = settle place make_absent } }
-{
-    let behind = match form {
-        DeclaratorKind::Either => AlsoAllowed::Name,
-        DeclaratorKind::Concrete | DeclaratorKind::Abstract => AlsoAllowed::Nothing,
-    };
-    Declared {
-        tree: Declarator::absent(place),
-        declares: None,
-        shape: DeclaredShape::Bare,
-        behind,
-    }
-}
-
-/// The declarator that is a name.
-fn named(name: u32, place: Place) -> Declared
-    ensures { (x : Token) → x.place ≡ place → number_of x.kind ≡ name → declared_seen result
-        (declarator_of result.tree) ≡ grammar.named_declarator (terminal x) name }
-{
-    Declared {
-        tree: Declarator::name(name, place),
-        declares: Some(name),
-        shape: DeclaredShape::Bare,
-        behind: AlsoAllowed::Nothing,
-    }
-}
-
-/// The qualifier that the token is.
-fn qualifier_of(kind: Kind) -> Option<Keyword>
-    ensures { result ≡ qualifier_of kind }
-{
-    match kind {
-        Kind::Word(Keyword::Const) => Some(Keyword::Const),
-        Kind::Word(Keyword::Volatile) => Some(Keyword::Volatile),
-        _ => None,
-    }
-}
+use sp_tree::Token;
 
 /// A type name.
 #[cycle(reader)]
@@ -145,13 +81,18 @@ pub fn read_declarator<'a>(
         tokens.now) }
 {
     let (token, behind) = next_token(tokens);
-    if is_mark(Mark::Star, sort_at(context.types, token.kind)) {
-        if depth < 2 {
-            return Err(ReadError::TooDeep(tokens));
-        }
+    let sort = sort_at(context.types, token.kind);
+    if depth < 2 && begins_inner(sort) {
+        return Err(ReadError::TooDeep(tokens));
+    }
+    if is_mark(Mark::Star, sort) {
         return read_pointer(context, behind, token, form, depth);
     }
-    let head = read_direct(context, tokens, form, depth)?;
+    if is_mark(Mark::OpenParen, sort) {
+        let head = read_declarator_after_paren(context, behind, token, form, depth)?;
+        return read_declarator_suffixes(context, head.rest, head.tree, head.depth, depth);
+    }
+    let head = read_head(context, tokens, form)?;
     read_declarator_suffixes(context, head.rest, head.tree, head.depth, depth)
 }
 
@@ -184,89 +125,6 @@ fn read_pointer<'a>(
         depth: 1 + reached,
         rest,
     })
-}
-
-/// Qualifiers, none or more, and the tokens behind them.
-fn read_qualifiers<'a>(
-    context: Context<'_>,
-    tokens: &'a [Token],
-) -> Result<(Vec<Keyword>, &'a [Token]), ReadError<'a>>
-    requires { IsEnded tokens.now }
-    ensures { MatchResult result
-        (λ read. AreQualifiers (context_of context.entry) tokens.now read.0.items read.1.now)
-        (λ stop. stop ≡ NoMemory) }
-{
-    let mut all = Vec::new(context.alloc);
-    let mut rest = tokens;
-    'qualifiers: loop {
-        let (token, behind) = next_token(rest);
-        let Some(word) = qualifier_of(token.kind) else {
-            break;
-        };
-        all.push(word)?;
-        rest = behind;
-    }
-    Ok((all, rest))
-}
-
-/// The head of a declarator that begins with no `*`: a name, a group, parameters, or nothing.
-#[cycle(reader)]
-fn read_direct<'a>(
-    context: Context<'_>,
-    tokens: &'a [Token],
-    form: DeclaratorKind,
-    depth: u32,
-) -> Result<Part<'a, Declared>, ReadError<'a>>
-    requires ended { IsEnded tokens.now }
-    requires room { 1 ≤ depth }
-    ensures { MatchResult result
-        (λ part. IsDeclared (context_of context.entry) (grammar.direct (form_seen form))
-        (λ a. a) depth tokens.now part.tree part.depth part.rest.now)
-        (IsStop (context_of context.entry) (grammar.direct (form_seen form)) depth tokens.now) }
-{
-    let (token, rest) = next_token(tokens);
-    let sort = sort_at(context.types, token.kind);
-    if is_mark(Mark::OpenParen, sort) {
-        if depth < 2 {
-            return Err(ReadError::TooDeep(tokens));
-        }
-        return read_declarator_after_paren(context, rest, token, form, depth);
-    }
-    if let Some(name) = head_name(form, sort) {
-        return Ok(Part {
-            tree: named(name, token.place),
-            depth: 1,
-            rest,
-        });
-    }
-    if is_concrete(form) {
-        return Err(fault(context, AlsoAllowed::Name, tokens));
-    }
-    Ok(Part {
-        tree: absent(form, token.place),
-        depth: 1,
-        rest: tokens,
-    })
-}
-
-/// Whether a name must be declared.
-fn is_concrete(form: DeclaratorKind) -> bool
-    ensures { result ≡ grammar.is_concrete (form_seen form) }
-{
-    match form {
-        DeclaratorKind::Concrete => true,
-        DeclaratorKind::Abstract | DeclaratorKind::Either => false,
-    }
-}
-
-/// The name that the token is, where a declarator of this form may begin with one.
-fn head_name(form: DeclaratorKind, sort: Sort) -> Option<u32>
-    ensures { result ≡ head_name (form_seen form) (sort_seen sort) }
-{
-    match (sort, form) {
-        (Sort::Name(name), DeclaratorKind::Concrete | DeclaratorKind::Either) => Some(name),
-        _ => None,
-    }
 }
 
 /// Behind a `(` in a declarator: parameters and `)` behind an absent declarator, or a declarator
@@ -310,60 +168,6 @@ fn read_declarator_after_paren<'a>(
     Ok(Part { tree, depth, rest })
 }
 
-/// Whether the token behind a `(` begins parameters of an absent declarator.
-fn begins_parameters(form: DeclaratorKind, sort: Sort) -> bool
-    ensures { result ≡
-        (not (grammar.is_concrete (form_seen form)) && grammar.is_parameters (sort_seen sort)) }
-{
-    match form {
-        DeclaratorKind::Concrete => false,
-        DeclaratorKind::Abstract | DeclaratorKind::Either => is_specifier(sort)
-            || is_mark(Mark::CloseParen, sort),
-    }
-}
-
-/// The group of a declarator.
-fn grouped(alloc: Global, place: Place, inner: Declared) -> Result<Declared, AllocError>
-    ensures { IfOk result
-        (λ d.
-        (declarator_of d.tree ≡ syntax.declarator (syntax.group (declarator_of inner.tree))
-        place)
-        × (d.declares ≡ inner.declares) × (d.shape ≡ inner.shape) ×
-        (purpose_seen d.behind ≡ grammar.closed (purpose_seen inner.behind))) }
-{
-    let tree = Declarator::paren(alloc, place, inner.tree)?;
-    Ok(Declared {
-        tree,
-        declares: inner.declares,
-        shape: inner.shape,
-        behind: closed(inner.behind),
-    })
-}
-
-/// The pointer of a declarator.
-fn pointed(
-    alloc: Global,
-    place: Place,
-    qualifiers: Vec<Keyword>,
-    inner: Declared,
-) -> Result<Declared, AllocError>
-    ensures { IfOk result
-        (λ d.
-        (declarator_of d.tree ≡ syntax.declarator
-        (syntax.pointer qualifiers.items (declarator_of inner.tree)) place)
-        × (d.declares ≡ inner.declares) ×
-        (shape_seen d.shape ≡ grammar.shaped (shape_seen inner.shape) grammar.other) ×
-        (d.behind ≡ inner.behind)) }
-{
-    let tree = Declarator::pointer(alloc, place, qualifiers, inner.tree)?;
-    Ok(Declared {
-        tree,
-        declares: inner.declares,
-        shape: shaped(inner.shape, DeclaredShape::Other),
-        behind: inner.behind,
-    })
-}
-
 /// A declarator that isn't absent.
 #[cycle(reader)]
 fn read_group<'a>(
@@ -403,68 +207,6 @@ fn read_group<'a>(
         return read_declarator_suffixes(context, part.rest, part.tree, reached, depth);
     }
     Err(group_fault(context, form, tokens))
-}
-
-/// The fault where no declarator begins that isn't absent.
-fn group_fault<'a>(context: Context<'_>, form: DeclaratorKind, tokens: &'a [Token]) -> ReadError<'a>
-    requires { IsEnded tokens.now }
-    ensures { IsGroupFault context.entry.types.now context.entry.scope (form_seen form) tokens.now result }
-{
-    match form {
-        DeclaratorKind::Concrete => fault(context, AlsoAllowed::Name, tokens),
-        DeclaratorKind::Either => fault(context, AlsoAllowed::Nothing, tokens),
-        DeclaratorKind::Abstract => {
-            let (token, _) = next_token(tokens);
-            match sort_at(context.types, token.kind) {
-                Sort::Name(_) => ReadError::Fault(FaultKind::U4, tokens),
-                _ => fault(context, AlsoAllowed::Nothing, tokens),
-            }
-        }
-    }
-}
-
-/// Whether the token begins an array of an absent declarator.
-fn begins_array(form: DeclaratorKind, sort: Sort) -> bool
-    ensures { result ≡ begins_array (form_seen form) (sort_seen sort) }
-{
-    match (sort, form) {
-        (Sort::Mark(Mark::OpenBracket), DeclaratorKind::Abstract | DeclaratorKind::Either) => true,
-        _ => false,
-    }
-}
-
-/// Whether the token begins a declarator in parentheses that holds another.
-fn begins_deeper(form: DeclaratorKind, sort: Sort) -> bool
-    ensures { result ≡ begins_deeper (form_seen form) (sort_seen sort) }
-{
-    match (sort, form) {
-        (Sort::Mark(Mark::Star | Mark::OpenParen), _) => true,
-        (Sort::Mark(Mark::OpenBracket), DeclaratorKind::Abstract | DeclaratorKind::Either) => true,
-        _ => false,
-    }
-}
-
-/// The function of a declarator and its parameters.
-fn function_of(
-    alloc: Global,
-    head: Declared,
-    parameters: Parameters,
-) -> Result<Declared, AllocError>
-    ensures { IfOk result (λ d. IsFunction head parameters d) }
-{
-    let dots = parameters.dots;
-    let tree = Declarator::function(alloc, head.tree, parameters.all, dots)?;
-    let (shape, behind) = if dots {
-        (DeclaredShape::Variadic, AlsoAllowed::Body)
-    } else {
-        (DeclaredShape::Other, closed(head.behind))
-    };
-    Ok(Declared {
-        tree,
-        declares: head.declares,
-        shape: shaped(head.shape, shape),
-        behind,
-    })
 }
 
 /// The lengths and parameters behind the head of a declarator, whose depth is given.
@@ -511,13 +253,6 @@ fn read_declarator_suffixes<'a>(
     Ok(part)
 }
 
-/// Whether the token goes on with a declarator.
-fn begins_part(sort: Sort) -> bool
-    ensures { result ≡ begins_part (sort_seen sort) }
-{
-    matches!(sort, Sort::Mark(Mark::OpenBracket | Mark::OpenParen))
-}
-
 /// A length or parameters behind the head of a declarator, of which the first token is read.
 #[cycle(reader)]
 fn read_part<'a>(
@@ -540,10 +275,17 @@ fn read_part<'a>(
         (declared_seen head pending)) depth (opening ∷ tokens.now)) }
 {
     if is_mark(Mark::OpenBracket, sort_at(context.types, opening.kind)) {
-        read_array(context, tokens, head, reached, depth)
-    } else {
-        read_function(context, tokens, opening, head, reached, depth)
+        return read_array(context, tokens, head, reached, depth);
     }
+    let (parameters, head) = keeping(read_parameters(context, tokens, depth - 1), head)?;
+    let purpose = parameters.tree.behind;
+    let next = expect(context, purpose, Mark::CloseParen, parameters.rest);
+    let (rest, (head, given)) = keeping(next, (head, parameters.tree))?;
+    Ok(Part {
+        tree: function_of(context.alloc, head, given)?,
+        depth: 1 + reached.max(parameters.depth),
+        rest,
+    })
 }
 
 /// Behind a `[` in a declarator: a length or none, and `]`.
@@ -563,48 +305,15 @@ fn read_array<'a>(
         part.rest.now)
         (IsArrayStop (context_of context.entry) context.entry.scope depth tokens.now) }
 {
-    let (length, of) = keeping(read_length(context, tokens, depth - 1), head.tree)?;
-    let purpose = purpose_of(&length.tree);
+    let (length, head) = keeping(read_length(context, tokens, depth - 1), head)?;
+    let purpose = length_purpose(&length.tree);
     let next = expect(context, purpose, Mark::CloseBracket, length.rest);
-    let (rest, (of, many)) = keeping(next, (of, length.tree))?;
-    let tree = array_of(context.alloc, of, many)?;
+    let (rest, (head, many)) = keeping(next, (head, length.tree))?;
     Ok(Part {
-        tree: Declared {
-            tree,
-            declares: head.declares,
-            shape: shaped(head.shape, DeclaredShape::Other),
-            behind: closed(head.behind),
-        },
+        tree: array_of(context.alloc, head, many)?,
         depth: 1 + reached.max(length.depth),
         rest,
     })
-}
-
-/// What might stand behind a length, or where there is none.
-fn purpose_of(length: &Option<Expr>) -> AlsoAllowed
-    ensures { purpose_seen result ≡ grammar.if_missing (option_map tree_of length.now) }
-{
-    match length {
-        Some(_) => AlsoAllowed::Nothing,
-        None => AlsoAllowed::Name,
-    }
-}
-
-/// The array of a declarator, with this length or none.
-fn array_of(
-    alloc: Global,
-    inner: Declarator,
-    length: Option<Expr>,
-) -> Result<Declarator, AllocError>
-    ensures { IfOk result
-        (λ d. declarator_of d ≡ syntax.declarator
-        (syntax.array (declarator_of inner) (maybe_expression (option_map tree_of length)))
-        (declarator_place (declarator_of inner))) }
-{
-    match length {
-        Some(length) => Declarator::array(alloc, inner, length),
-        None => Declarator::open_array(alloc, inner),
-    }
 }
 
 /// The length of an array, where there is one. The depth of none is 0.
@@ -631,38 +340,6 @@ fn read_length<'a>(
         tree: Some(length.tree.tree),
         depth: length.depth,
         rest: length.rest,
-    })
-}
-
-/// Behind a `(` in a declarator: parameters and `)`.
-#[cycle(reader)]
-fn read_function<'a>(
-    context: Context<'_>,
-    tokens: &'a [Token],
-    opening: Token,
-    head: Declared,
-    reached: u32,
-    depth: u32,
-) -> Result<Part<'a, Declared>, ReadError<'a>>
-    requires ended { IsEnded tokens.now }
-    requires deep { reached ≡ declarator_depth (declarator_of head.tree) }
-    requires opening { view context.types.now (sort_of opening.kind) ≡ sorts_there.mark sorts_there.opening }
-    requires shallow { reached < depth }
-    ensures { (pending : syntax.Declarator) → declarator_of head.tree ≡ settle opening.place pending →
-        MatchResult result
-        (λ part. IsLengthened (context_of context.entry) (declared_seen head pending) depth
-        (opening ∷ tokens.now) part.tree part.depth part.rest.now)
-        (IsStop (context_of context.entry) (grammar.declarator_suffixes
-        (declared_seen head pending)) depth (opening ∷ tokens.now)) }
-{
-    let (parameters, head) = keeping(read_parameters(context, tokens, depth - 1), head)?;
-    let purpose = parameters.tree.behind;
-    let next = expect(context, purpose, Mark::CloseParen, parameters.rest);
-    let (rest, (head, given)) = keeping(next, (head, parameters.tree))?;
-    Ok(Part {
-        tree: function_of(context.alloc, head, given)?,
-        depth: 1 + reached.max(parameters.depth),
-        rest,
     })
 }
 

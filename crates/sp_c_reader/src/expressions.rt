@@ -1,46 +1,26 @@
 //! The readers of expressions (C90 6.3), one for each ask of the grammar's table.
-ghost use Rattle.std.specs.Prelude.{◌≡◌, ◌≤◌, ◌<◌, ◌∷◌, MatchResult, IfOk, map, true};
-ghost use Rattle.sp_grammar.specs.CTokens.{is_mark, view};
-ghost use Rattle.sp_grammar.specs.CTokens as sorts_there;
+ghost use Rattle.std.specs.Prelude.{◌≡◌, ◌≤◌, ◌<◌, ◌∷◌, MatchResult, map, true};
+ghost use Rattle.sp_grammar.specs.CTokens.{view};
 ghost use Rattle.sp_grammar.specs.CTable as grammar;
-ghost use Rattle.sp_tree.specs.declared.token.Token.{Token};
 ghost use Rattle.sp_syntax.specs.View.{tree_of};
 ghost use Rattle.sp_syntax.specs.Depth.{depth as depth_of};
-ghost use Rattle.sp_c_tokens.specs.Makers.{punct_of, make_member, number_of};
 ghost use Rattle.sp_c_tokens.specs.Sorts.{terminal, sort_of};
-ghost use Rattle.sp_c_tokens.specs.SyntaxTrees.{syntax_trees};
 ghost use Rattle.sp_c_tokens.specs.Ended.{IsEnded};
 ghost use Rattle.sp_c_tokens.specs.Scopes.{context_of};
-ghost use Rattle.sp_c_reader.specs.Reading.{Answers, IsRead, IsStop, IsSuffixed, operand_seen, is_suffix, is_prefix};
-ghost use Rattle.sp_c_tokens.specs.Codes.{sort_seen};
+ghost use Rattle.sp_c_steps.specs.Reading.{Answers, IsStop, IsSuffixed, IsGrouped, IsGroupedStop, operand_seen, is_suffix};
 
 use crate::declarators::read_type_name;
-use crate::kept::{keeping, pushed};
-use crate::primaries::{is_operand, number_of, read_leaf};
-use sp_c_tokens::{
-    AlsoAllowed, Context, Mark, Operand, Part, ReadError, Sort, begins_expression, continues_level,
-    expect, fault, is_mark, is_specifier, next_token, sort_at,
+use sp_c_steps::{
+    ASSIGNMENT, COMMA, CONDITIONAL, as_operand, begins_nested, call_purpose, is_prefix, is_suffix,
+    joined, punct_of, read_member_or_step, read_operand,
 };
+use sp_c_tokens::{
+    AlsoAllowed, Context, Mark, Operand, Part, ReadError, begins_expression, continues_level,
+    expect, is_mark, is_specifier, next_token, sort_at,
+};
+use sp_kept::{keeping, pushed};
 use sp_syntax::Expr;
-use sp_tree::{Kind, Punct, Token};
-use std::alloc::{AllocError, Global};
-
-/// The loosest level: the comma.
-pub const COMMA: u32 = 13;
-/// The level of assignments.
-pub const ASSIGNMENT: u32 = 12;
-/// The level of conditional expressions.
-pub const CONDITIONAL: u32 = 11;
-
-/// The punctuator that the token is.
-fn punct_of(kind: Kind) -> Punct
-    ensures { result ≡ punct_of kind }
-{
-    match kind {
-        Kind::Mark(punct) => punct,
-        _ => Punct::Comma,
-    }
-}
+use sp_tree::Token;
 
 /// An expression of the level: 0 casts, 1 to 10 binary operators, 11 conditional, 12 assignment, 13
 /// comma.
@@ -65,7 +45,7 @@ pub fn read_level<'a>(
             depth: inner,
             rest,
         } = part;
-        part = read_level_tail(context, rest, reached, tree, inner, depth)?;
+        part = read_operators(context, rest, reached, tree, inner, depth)?;
     }
     Ok(part)
 }
@@ -99,14 +79,15 @@ pub fn read_tail<'a>(
             depth: inner,
             rest,
         } = part;
-        part = read_level_tail(context, rest, reached, tree, inner, depth)?;
+        part = read_operators(context, rest, reached, tree, inner, depth)?;
     }
     Ok(part)
 }
 
-/// What stands behind a left part of the level, whose depth is given.
+/// Behind a left part of the level, whose depth is given: operators of the level with their
+/// operands.
 #[cycle(reader)]
-fn read_level_tail<'a>(
+fn read_operators<'a>(
     context: Context<'_>,
     tokens: &'a [Token],
     level: u32,
@@ -122,32 +103,12 @@ fn read_level_tail<'a>(
     ensures { Answers (context_of context.entry) (grammar.after level (operand_seen left)) depth
         tokens.now operand_seen result }
 {
-    match level {
-        COMMA => read_sequence(context, tokens, left, inner, depth),
-        ASSIGNMENT => read_assignment(context, tokens, left, inner, depth),
-        CONDITIONAL => read_conditional(context, tokens, left, inner, depth),
-        _ => read_operators(context, tokens, level, left, inner, depth),
+    if level == ASSIGNMENT {
+        return read_assignment(context, tokens, left, inner, depth);
     }
-}
-
-/// Behind a left part: binary operators of the level with their right operands.
-#[cycle(reader)]
-fn read_operators<'a>(
-    context: Context<'_>,
-    tokens: &'a [Token],
-    level: u32,
-    left: Operand,
-    inner: u32,
-    depth: u32,
-) -> Result<Part<'a, Operand>, ReadError<'a>>
-    requires ended { IsEnded tokens.now }
-    requires tightest { 1 ≤ level }
-    requires binary { level ≤ 10 }
-    requires deep { inner ≡ depth_of (tree_of left.tree) }
-    requires shallow { inner ≤ depth }
-    ensures { Answers (context_of context.entry) (grammar.after level (operand_seen left)) depth
-        tokens.now operand_seen result }
-{
+    if level == CONDITIONAL {
+        return read_conditional(context, tokens, left, inner, depth);
+    }
     let Operand {
         mut tree,
         mut unary,
@@ -165,52 +126,7 @@ fn read_operators<'a>(
         }
         let next = read_level(context, behind, level - 1, depth - 1);
         let (right, left) = keeping(next, tree)?;
-        let punct = punct_of(token.kind);
-        tree = Expr::binary(context.alloc, left, token.place, punct, right.tree.tree)?;
-        unary = false;
-        reached = 1 + reached.max(right.depth);
-        rest = right.rest;
-    }
-    Ok(Part {
-        tree: Operand { tree, unary },
-        depth: reached,
-        rest,
-    })
-}
-
-/// Behind a left part: commas with their right operands.
-#[cycle(reader)]
-fn read_sequence<'a>(
-    context: Context<'_>,
-    tokens: &'a [Token],
-    left: Operand,
-    inner: u32,
-    depth: u32,
-) -> Result<Part<'a, Operand>, ReadError<'a>>
-    requires ended { IsEnded tokens.now }
-    requires deep { inner ≡ depth_of (tree_of left.tree) }
-    requires shallow { inner ≤ depth }
-    ensures { Answers (context_of context.entry) (grammar.after 13 (operand_seen left)) depth tokens.now
-        operand_seen result }
-{
-    let Operand {
-        mut tree,
-        mut unary,
-    } = left;
-    let mut reached = inner;
-    let mut rest = tokens;
-    'commas: loop {
-        let (token, behind) = next_token(rest);
-        if !continues_level(COMMA, unary, sort_at(context.types, token.kind)) {
-            break;
-        }
-        if reached >= depth {
-            drop(tree);
-            return Err(ReadError::TooDeep(rest));
-        }
-        let next = read_level(context, behind, ASSIGNMENT, depth - 1);
-        let (right, left) = keeping(next, tree)?;
-        tree = Expr::comma(context.alloc, left, token.place, right.tree.tree)?;
+        tree = joined(context.alloc, level, left, token, right.tree.tree)?;
         unary = false;
         reached = 1 + reached.max(right.depth);
         rest = right.rest;
@@ -319,63 +235,51 @@ pub fn read_cast<'a>(
     requires { IsEnded tokens.now }
     ensures { Answers (context_of context.entry) (grammar.level 0) depth tokens.now operand_seen result }
 {
-    let (token, rest) = next_token(tokens);
-    if is_mark(Mark::OpenParen, sort_at(context.types, token.kind)) {
-        if depth < 2 {
-            return Err(ReadError::TooDeep(tokens));
-        }
-        return read_after_paren(context, rest, token, depth);
+    let (opening, behind) = next_token(tokens);
+    if !is_mark(Mark::OpenParen, sort_at(context.types, opening.kind)) {
+        let part = read_unary(context, tokens, depth)?;
+        return Ok(as_operand(part));
     }
-    let part = read_unary(context, tokens, depth)?;
+    if depth < 2 {
+        return Err(ReadError::TooDeep(tokens));
+    }
+    let (token, _) = next_token(behind);
+    if !is_specifier(sort_at(context.types, token.kind)) {
+        let part = read_grouped(context, behind, opening, depth)?;
+        return Ok(as_operand(part));
+    }
+    let name = read_type_name(context, behind, depth - 1)?;
+    let next = expect(context, name.tree.behind, Mark::CloseParen, name.rest);
+    let (rest, target) = keeping(next, name.tree.tree)?;
+    let (operand, target) = keeping(read_cast(context, rest, depth - 1), target)?;
+    let tree = Expr::cast(context.alloc, opening.place, target, operand.tree.tree)?;
     Ok(Part {
-        tree: Operand {
-            tree: part.tree,
-            unary: true,
-        },
-        depth: part.depth,
-        rest: part.rest,
+        tree: Operand { tree, unary: false },
+        depth: 1 + name.depth.max(operand.depth),
+        rest: operand.rest,
     })
 }
 
-/// Behind a `(`: a type name, `)` and an operand, or an expression, `)` and suffixes.
+/// Behind a `(`: an expression, `)` and suffixes.
 #[cycle(reader)]
-fn read_after_paren<'a>(
+fn read_grouped<'a>(
     context: Context<'_>,
     tokens: &'a [Token],
     opening: Token,
     depth: u32,
-) -> Result<Part<'a, Operand>, ReadError<'a>>
+) -> Result<Part<'a, Expr>, ReadError<'a>>
     requires ended { IsEnded tokens.now }
-    requires room { 2 ≤ depth }
-    ensures { Answers (context_of context.entry) (grammar.behind_open (terminal opening)) depth tokens.now
-        operand_seen result }
+    requires room { 1 ≤ depth }
+    ensures { MatchResult result
+        (λ part. IsGrouped (context_of context.entry) opening depth tokens.now
+        (tree_of part.tree) part.depth part.rest.now)
+        (IsGroupedStop (context_of context.entry) context.entry.scope opening depth tokens.now) }
 {
-    let (token, _) = next_token(tokens);
-    if is_specifier(sort_at(context.types, token.kind)) {
-        let name = read_type_name(context, tokens, depth - 1)?;
-        let next = expect(context, name.tree.behind, Mark::CloseParen, name.rest);
-        let (rest, target) = keeping(next, name.tree.tree)?;
-        let (operand, target) = keeping(read_cast(context, rest, depth - 1), target)?;
-        let tree = Expr::cast(context.alloc, opening.place, target, operand.tree.tree)?;
-        return Ok(Part {
-            tree: Operand { tree, unary: false },
-            depth: 1 + name.depth.max(operand.depth),
-            rest: operand.rest,
-        });
-    }
     let inner = read_level(context, tokens, COMMA, depth - 1)?;
     let next = expect(context, AlsoAllowed::Nothing, Mark::CloseParen, inner.rest);
     let (rest, tree) = keeping(next, inner.tree.tree)?;
     let group = Expr::paren(context.alloc, opening.place, tree)?;
-    let part = read_suffixes(context, rest, group, 1 + inner.depth, depth)?;
-    Ok(Part {
-        tree: Operand {
-            tree: part.tree,
-            unary: true,
-        },
-        depth: part.depth,
-        rest: part.rest,
-    })
+    read_suffixes(context, rest, group, 1 + inner.depth, depth)
 }
 
 /// A unary expression.
@@ -390,8 +294,11 @@ fn read_unary<'a>(
 {
     let (token, rest) = next_token(tokens);
     let sort = sort_at(context.types, token.kind);
-    if depth < 2 && is_prefix(sort) {
+    if depth < 2 && begins_nested(sort) {
         return Err(ReadError::TooDeep(tokens));
+    }
+    if is_mark(Mark::OpenParen, sort) {
+        return read_grouped(context, rest, token, depth);
     }
     if is_mark(Mark::Sizeof, sort) {
         return read_after_sizeof(context, rest, token, depth);
@@ -416,20 +323,8 @@ fn read_unary<'a>(
             rest: operand.rest,
         });
     }
-    let part = read_primary(context, tokens, depth)?;
+    let part = read_operand(context, tokens, depth)?;
     read_suffixes(context, part.rest, part.tree, part.depth, depth)
-}
-
-/// Whether the token is an operator before its operand, `sizeof` among them.
-fn is_prefix(sort: Sort) -> bool
-    ensures { result ≡ is_prefix (sort_seen sort) }
-{
-    matches!(
-        sort,
-        Sort::Mark(
-            Mark::Step | Mark::Star | Mark::Ampersand | Mark::Additive | Mark::Tilde | Mark::Sizeof
-        )
-    )
 }
 
 /// Behind `sizeof`: a type name in parentheses, or a unary expression.
@@ -445,92 +340,35 @@ fn read_after_sizeof<'a>(
     ensures { Answers (context_of context.entry) (grammar.behind_sizeof (terminal word)) depth tokens.now
         tree_of result }
 {
-    let (token, rest) = next_token(tokens);
-    if is_mark(Mark::OpenParen, sort_at(context.types, token.kind)) {
-        return read_sizeof_after_paren(context, rest, word, token, depth);
-    }
-    let operand = read_unary(context, tokens, depth - 1)?;
-    let tree = Expr::sizeof_expr(context.alloc, word.place, operand.tree)?;
-    Ok(Part {
-        tree,
-        depth: 1 + operand.depth,
-        rest: operand.rest,
-    })
-}
-
-/// Behind `sizeof (`: a type name and `)`, or an expression, `)` and suffixes.
-#[cycle(reader)]
-fn read_sizeof_after_paren<'a>(
-    context: Context<'_>,
-    tokens: &'a [Token],
-    word: Token,
-    opening: Token,
-    depth: u32,
-) -> Result<Part<'a, Expr>, ReadError<'a>>
-    requires ended { IsEnded tokens.now }
-    requires room { 2 ≤ depth }
-    ensures { Answers (context_of context.entry)
-        (grammar.inside_sizeof (terminal word) (terminal opening)) depth tokens.now tree_of
-        result }
-{
-    let (token, _) = next_token(tokens);
-    if is_specifier(sort_at(context.types, token.kind)) {
-        let name = read_type_name(context, tokens, depth - 1)?;
-        let next = expect(context, name.tree.behind, Mark::CloseParen, name.rest);
-        let (rest, measured) = keeping(next, name.tree.tree)?;
-        let tree = Expr::sizeof_type(context.alloc, word.place, measured)?;
+    let (opening, inside) = next_token(tokens);
+    if !is_mark(Mark::OpenParen, sort_at(context.types, opening.kind)) {
+        let operand = read_unary(context, tokens, depth - 1)?;
+        let tree = Expr::sizeof_expr(context.alloc, word.place, operand.tree)?;
         return Ok(Part {
             tree,
-            depth: 1 + name.depth,
-            rest,
+            depth: 1 + operand.depth,
+            rest: operand.rest,
         });
     }
-    let inner = read_level(context, tokens, COMMA, depth - 2)?;
-    let next = expect(context, AlsoAllowed::Nothing, Mark::CloseParen, inner.rest);
-    let (rest, tree) = keeping(next, inner.tree.tree)?;
-    let group = Expr::paren(context.alloc, opening.place, tree)?;
-    let operand = read_suffixes(context, rest, group, 1 + inner.depth, depth - 1)?;
-    let tree = Expr::sizeof_expr(context.alloc, word.place, operand.tree)?;
-    Ok(Part {
-        tree,
-        depth: 1 + operand.depth,
-        rest: operand.rest,
-    })
-}
-
-/// A name, a constant, strings, or an expression in parentheses.
-#[cycle(reader)]
-fn read_primary<'a>(
-    context: Context<'_>,
-    tokens: &'a [Token],
-    depth: u32,
-) -> Result<Part<'a, Expr>, ReadError<'a>>
-    requires { IsEnded tokens.now }
-    ensures { Answers (context_of context.entry) grammar.primary depth tokens.now tree_of result }
-{
-    let (token, rest) = next_token(tokens);
-    let sort = sort_at(context.types, token.kind);
-    if is_mark(Mark::OpenParen, sort) {
-        if depth < 2 {
-            return Err(ReadError::TooDeep(tokens));
-        }
-        let inner = read_level(context, rest, COMMA, depth - 1)?;
-        let next = expect(context, AlsoAllowed::Nothing, Mark::CloseParen, inner.rest);
-        let (rest, grouped) = keeping(next, inner.tree.tree)?;
-        let tree = Expr::paren(context.alloc, token.place, grouped)?;
+    let (token, _) = next_token(inside);
+    if !is_specifier(sort_at(context.types, token.kind)) {
+        let operand = read_grouped(context, inside, opening, depth - 1)?;
+        let tree = Expr::sizeof_expr(context.alloc, word.place, operand.tree)?;
         return Ok(Part {
             tree,
-            depth: 1 + inner.depth,
-            rest,
+            depth: 1 + operand.depth,
+            rest: operand.rest,
         });
     }
-    if !is_operand(sort) {
-        return Err(fault(context, AlsoAllowed::Name, tokens));
-    }
-    if depth < 1 {
-        return Err(ReadError::TooDeep(tokens));
-    }
-    read_leaf(context, rest, token)
+    let name = read_type_name(context, inside, depth - 1)?;
+    let next = expect(context, name.tree.behind, Mark::CloseParen, name.rest);
+    let (rest, measured) = keeping(next, name.tree.tree)?;
+    let tree = Expr::sizeof_type(context.alloc, word.place, measured)?;
+    Ok(Part {
+        tree,
+        depth: 1 + name.depth,
+        rest,
+    })
 }
 
 /// What stands behind a postfix expression, whose depth is given.
@@ -566,16 +404,6 @@ pub fn read_suffixes<'a>(
         part = read_suffix(context, behind, token, part.tree, part.depth, depth)?;
     }
     Ok(part)
-}
-
-/// Whether the token goes on with a postfix expression.
-fn is_suffix(sort: Sort) -> bool
-    ensures { result ≡ is_suffix (sort_seen sort) }
-{
-    matches!(
-        sort,
-        Sort::Mark(Mark::OpenBracket | Mark::OpenParen | Mark::Member | Mark::Step)
-    )
 }
 
 /// One suffix, of which the first token is read: an index, arguments, a member, or a step.
@@ -616,83 +444,18 @@ fn read_suffix<'a>(
         });
     }
     if is_mark(Mark::OpenParen, sort) {
-        return read_call(context, tokens, token, inner, reached, depth);
-    }
-    if is_mark(Mark::Member, sort) {
-        let (name, rest) = next_token(tokens);
-        if !is_name(name.kind) {
-            drop(inner);
-            return Err(fault(context, AlsoAllowed::Nothing, tokens));
-        }
-        let tree = member_of(context.alloc, inner, token, number_of(name.kind))?;
+        let (arguments, called) = keeping(read_arguments(context, tokens, depth - 1), inner)?;
+        let purpose = call_purpose(&arguments.tree);
+        let next = expect(context, purpose, Mark::CloseParen, arguments.rest);
+        let (rest, (called, given)) = keeping(next, (called, arguments.tree))?;
+        let tree = Expr::call(context.alloc, called, token.place, given)?;
         return Ok(Part {
             tree,
-            depth: 1 + reached,
+            depth: 1 + reached.max(arguments.depth),
             rest,
         });
     }
-    let punct = punct_of(token.kind);
-    let tree = Expr::after(context.alloc, inner, token.place, punct)?;
-    Ok(Part {
-        tree,
-        depth: 1 + reached,
-        rest: tokens,
-    })
-}
-
-/// Whether the token is a name, that of a type or not.
-fn is_name(kind: Kind) -> bool
-    ensures { result ≡ sorts_there.is_name (sort_of kind) }
-{
-    matches!(kind, Kind::Name(_))
-}
-
-/// The member of this number, behind a `.` or a `->`.
-fn member_of(alloc: Global, inner: Expr, token: Token, number: u32) -> Result<Expr, AllocError>
-    ensures { IfOk result
-        (λ e. (name : Token) → number ≡ number_of name.kind → tree_of e ≡ make_member
-        (tree_of inner) token name) }
-{
-    match token.kind {
-        Kind::Mark(Punct::Arrow) => Expr::arrow(alloc, inner, token.place, number),
-        _ => Expr::member(alloc, inner, token.place, number),
-    }
-}
-
-/// Behind the `(` of a call: arguments and `)`.
-#[cycle(reader)]
-fn read_call<'a>(
-    context: Context<'_>,
-    tokens: &'a [Token],
-    opening: Token,
-    inner: Expr,
-    reached: u32,
-    depth: u32,
-) -> Result<Part<'a, Expr>, ReadError<'a>>
-    requires ended { IsEnded tokens.now }
-    requires opening { is_mark sorts_there.opening (view context.types.now (sort_of opening.kind)) ≡ true }
-    requires deep { reached ≡ depth_of (tree_of inner) }
-    requires shallow { reached < depth }
-    ensures { MatchResult result
-        (λ part. IsSuffixed (context_of context.entry) (tree_of inner) depth
-        (opening ∷ tokens.now) (tree_of part.tree) part.depth part.rest.now)
-        (IsStop (context_of context.entry) (grammar.suffixes (tree_of inner)) depth
-        (opening ∷ tokens.now)) }
-{
-    let (arguments, called) = keeping(read_arguments(context, tokens, depth - 1), inner)?;
-    let purpose = if arguments.tree.is_empty() {
-        AlsoAllowed::Name
-    } else {
-        AlsoAllowed::Nothing
-    };
-    let next = expect(context, purpose, Mark::CloseParen, arguments.rest);
-    let (rest, (called, given)) = keeping(next, (called, arguments.tree))?;
-    let tree = Expr::call(context.alloc, called, opening.place, given)?;
-    Ok(Part {
-        tree,
-        depth: 1 + reached.max(arguments.depth),
-        rest,
-    })
+    read_member_or_step(context, tokens, token, inner, reached)
 }
 
 /// The arguments of a call. Their depth is that of the deepest, 0 where there are none.

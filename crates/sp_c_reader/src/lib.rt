@@ -3,7 +3,8 @@
 //!
 //! The grammar is the table of `sp_c_tokens`. A *reader* answers one *ask* of that table: a
 //! [`sp_c_tokens::Part`] that the table reads for it, or a [`sp_c_tokens::ReadError`] where that
-//! ends (`Answers`, specs/Reading.antt). A reader sees a token by its *sort*, as the table does.
+//! ends (`Answers`, specs/Reading.antt of `sp_c_steps`). A reader sees a token by its *sort*, as the
+//! table does.
 //! Its *depth* is how deep its part may be; a part says how deep it is. Chains of operators,
 //! suffixes and lists are loops, so that calls lie no deeper inside one another than a small
 //! multiple of the depth. The readers are one cycle, since an expression may hold a type name, a
@@ -13,16 +14,14 @@
 //! `)`; and `(a)` passes a depth of 1 at its `(`.
 //!
 //! The layer above uses the readers that are public here, by the contract `Answers` and those of
-//! specs/Declaring.antt for what waits for the token after it: a declarator and a type name.
+//! specs/Declaring.antt there for what waits for the token after it: a declarator and a type name.
+//! What calls no reader stands in `sp_c_steps`, and what a production does once its parts are read.
 #![tactic(auto)]
 
 mod declarators;
 mod expressions;
-mod kept;
-mod primaries;
 mod specifiers;
 
-pub use declarators::{closed, read_declarator, read_type_name};
-pub use expressions::{ASSIGNMENT, COMMA, CONDITIONAL, read_level, read_suffixes, read_tail};
-pub use kept::{keeping, pushed};
+pub use declarators::{read_declarator, read_type_name};
+pub use expressions::{read_level, read_suffixes, read_tail};
 pub use specifiers::read_specifiers;

@@ -1,62 +1,31 @@
 //! The readers of specifiers, and of the bodies of structures and enumerations (C90 6.5.1 to
 //! 6.5.3).
-ghost use Rattle.std.specs.Prelude.{◌≡◌, ◌≤◌, ◌==◌, ◌&&◌, ◌||◌, MatchResult, ◌∷◌, [], map, None, true};
+ghost use Rattle.std.specs.Prelude.{◌≡◌, ◌≤◌, MatchResult, ◌∷◌, [], map, None, true};
 ghost use Rattle.sp_grammar.specs.CTokens.{view, is_mark as stands_mark};
 ghost use Rattle.sp_grammar.specs.CTokens as sorts_there;
 ghost use Rattle.sp_grammar.specs.CTable as grammar;
-ghost use Rattle.sp_syntax.specs.View.{specifier_of as specifier_tree, declaration_of, declarator_of};
+ghost use Rattle.sp_syntax.specs.View.{declaration_of, declarator_of};
 ghost use Rattle.sp_c_tokens.specs.Sorts.{terminal, sort_of};
-ghost use Rattle.sp_c_tokens.specs.Makers.{make_word, number_of, is_union as is_union_kind};
 ghost use Rattle.sp_c_tokens.specs.Ended.{IsEnded};
-ghost use Rattle.sp_c_tokens.specs.Faults.{is_empty};
-ghost use Rattle.sp_c_tokens.specs.Codes.{sort_seen};
 ghost use Rattle.sp_c_tokens.specs.Scopes.{context_of};
-ghost use Rattle.sp_c_reader.specs.Reading.{Answers, IsRead, IsStop};
-ghost use Rattle.sp_c_reader.specs.Declaring.{AreSpecified, IsSpecifier, IsSpecifierStop, placed, AreItems, item_seen, constant_seen, constant_depth, declared_seen, IsBody, IsBodyStop, AreConstants, IsConstantsStop, typeless};
-ghost use Rattle.sp_syntax.specs.Syntax.{init_declarator, no_init};
+ghost use Rattle.sp_c_steps.specs.Reading.{Answers, IsStop};
+ghost use Rattle.sp_c_steps.specs.Declaring.{AreSpecified, IsSpecifier, IsSpecifierStop, placed, AreItems, constant_seen, constant_depth, declared_seen, IsBody, IsBodyStop, AreConstants, IsConstantsStop};
 ghost use Rattle.sp_syntax.specs.Depth.{declarator_depth, declaration_depth};
-ghost use Rattle.sp_tree.specs.declared.token.Token.{Token};
 
-use crate::declarators::{closed, read_declarator};
-use crate::expressions::{CONDITIONAL, read_level};
-use crate::kept::{keeping, pushed};
+use crate::declarators::read_declarator;
+use crate::expressions::read_level;
+use sp_c_steps::{
+    CONDITIONAL, closed, enumeration, is_either, is_too_deep, item_of, structure,
+    tagged_enumeration, tagged_structure, type_purpose, word_specifier,
+};
 use sp_c_tokens::{
     AlsoAllowed, Context, DeclaratorKind, Declared, Mark, MemberDeclarators, NOTHING, Part,
     ReadError, Scope, Sort, SpecifierList, add_specifier, begins_specifiers, expect, fault,
     is_mark, is_typed, next_token, sort_at,
 };
-use sp_syntax::{
-    Declaration, Declarator, EnumSpec, Expr, InitDeclarator, Specifier, StructSpec, is_qualifier,
-    is_storage,
-};
-use sp_tree::{Keyword, Kind, Place, Token};
-use std::alloc::Global;
-
-/// The specifier that is one word: a storage class, a qualifier, a word of a type, or a type name.
-fn word_specifier(token: Token) -> Specifier
-    ensures { placed result token ≡ make_word token }
-{
-    match token.kind {
-        Kind::Word(word) => {
-            if is_storage(word) {
-                Specifier::Storage(word)
-            } else if is_qualifier(word) {
-                Specifier::Qualifier(word)
-            } else {
-                Specifier::Basic(word)
-            }
-        }
-        Kind::Name(name) | Kind::Text(name) => Specifier::Named(name),
-        _ => Specifier::Named(0),
-    }
-}
-
-/// Whether the token is `union`.
-fn is_union(kind: Kind) -> bool
-    ensures { result ≡ is_union_kind kind }
-{
-    matches!(kind, Kind::Word(Keyword::Union))
-}
+use sp_kept::{keeping, pushed};
+use sp_syntax::{Declaration, Expr, Specifier};
+use sp_tree::{Kind, Place, Token};
 
 /// A list of specifiers. Its depth is that of the deepest, 0 where none of them has a depth.
 #[cycle(reader)]
@@ -96,7 +65,7 @@ pub fn read_specifiers<'a>(
         rest = next.rest;
     }
     if !is_typed(seen) {
-        let purpose = purpose_of(stores, &all);
+        let purpose = type_purpose(stores, &all);
         drop(all);
         return Err(fault(context, purpose, rest));
     }
@@ -105,31 +74,6 @@ pub fn read_specifiers<'a>(
         depth: reached,
         rest,
     })
-}
-
-/// Whether a structure, which is at least one deep, passes the depth.
-fn is_too_deep(depth: u32, sort: Sort) -> bool
-    ensures { result ≡ (stands_mark sorts_there.struct (sort_seen sort) && (depth == 0)) }
-{
-    is_mark(Mark::Struct, sort) && depth == 0
-}
-
-/// Whether one of the two holds. A function of its own, so that the value is known behind it.
-fn is_either(one: bool, other: bool) -> bool
-    ensures { result ≡ (one || other) }
-{
-    one || other
-}
-
-/// What might stand where a specifier of a type is wanted, behind these specifiers.
-fn purpose_of(stores: bool, all: &Vec<Specifier>) -> AlsoAllowed
-    ensures { result ≡ typeless stores (is_empty all.now.items) }
-{
-    if stores && all.is_empty() {
-        AlsoAllowed::Parameter
-    } else {
-        AlsoAllowed::TypeSpecifier
-    }
 }
 
 /// The rest of one specifier, of which the first token is read.
@@ -187,44 +131,17 @@ fn read_structure<'a>(
     let Kind::Name(tag) = first.kind else {
         return Err(fault(context, AlsoAllowed::Nothing, tokens));
     };
-    read_tagged(context, behind, word, tag, depth)
-}
-
-/// Behind `struct` or `union` and a tag: members in braces, or nothing.
-#[cycle(reader)]
-fn read_tagged<'a>(
-    context: Context<'_>,
-    tokens: &'a [Token],
-    word: Token,
-    tag: u32,
-    depth: u32,
-) -> Result<Part<'a, Specifier>, ReadError<'a>>
-    requires ended { IsEnded tokens.now }
-    requires room { 1 ≤ depth }
-    ensures { (name : Token) → number_of name.kind ≡ tag → MatchResult result
-        (λ part. IsRead (context_of context.entry)
-        (grammar.struct_body (terminal word) (terminal name)) depth tokens.now
-        (placed part.tree word) part.depth part.rest.now)
-        (IsStop (context_of context.entry) (grammar.struct_body (terminal word)
-        (terminal name)) depth tokens.now) }
-{
-    let (brace, behind) = next_token(tokens);
+    let (brace, inside) = next_token(behind);
     if is_mark(Mark::OpenBrace, sort_at(context.types, brace.kind)) {
         if depth < 2 {
-            return Err(ReadError::TooDeep(tokens));
+            return Err(ReadError::TooDeep(behind));
         }
-        return read_body(context, behind, word, Some(tag), depth);
+        return read_body(context, inside, word, Some(tag), depth);
     }
-    let spec = StructSpec {
-        union: is_union(word.kind),
-        tag: Some(tag),
-        members: None,
-        place: word.place,
-    };
     Ok(Part {
-        tree: Specifier::Struct(Box::new(context.alloc, spec)?),
+        tree: tagged_structure(context.alloc, word, tag)?,
         depth: 1,
-        rest: tokens,
+        rest: behind,
     })
 }
 
@@ -257,14 +174,8 @@ fn read_body<'a>(
     let purpose = AlsoAllowed::TypeSpecifier;
     let next = expect(inner, purpose, Mark::CloseBrace, members.rest);
     let (rest, all) = keeping(next, members.tree)?;
-    let spec = StructSpec {
-        union: is_union(word.kind),
-        tag,
-        members: Some(all),
-        place: word.place,
-    };
     Ok(Part {
-        tree: Specifier::Struct(Box::new(context.alloc, spec)?),
+        tree: structure(context.alloc, word, tag, all)?,
         depth: 1 + members.depth,
         rest,
     })
@@ -386,16 +297,6 @@ fn read_items<'a>(
     })
 }
 
-/// A member's declarator, which has no initialiser.
-fn item_of(declarator: Declarator) -> InitDeclarator
-    ensures { item_seen result ≡ init_declarator (declarator_of declarator) no_init }
-{
-    InitDeclarator {
-        declarator,
-        start: None,
-    }
-}
-
 /// Behind `enum`: a tag, or constants in braces, or both.
 #[cycle(reader)]
 fn read_enumeration<'a>(
@@ -415,39 +316,14 @@ fn read_enumeration<'a>(
     let Kind::Name(tag) = first.kind else {
         return Err(fault(context, AlsoAllowed::Nothing, tokens));
     };
-    read_named(context, behind, word, tag, depth)
-}
-
-/// Behind `enum` and a tag: constants in braces, or nothing.
-#[cycle(reader)]
-fn read_named<'a>(
-    context: Context<'_>,
-    tokens: &'a [Token],
-    word: Token,
-    tag: u32,
-    depth: u32,
-) -> Result<Part<'a, Specifier>, ReadError<'a>>
-    requires { IsEnded tokens.now }
-    ensures { (name : Token) → number_of name.kind ≡ tag → MatchResult result
-        (λ part. IsRead (context_of context.entry)
-        (grammar.enum_body (terminal word) (terminal name)) depth tokens.now
-        (placed part.tree word) part.depth part.rest.now)
-        (IsStop (context_of context.entry) (grammar.enum_body (terminal word) (terminal name))
-        depth tokens.now) }
-{
-    let (brace, behind) = next_token(tokens);
+    let (brace, inside) = next_token(behind);
     if is_mark(Mark::OpenBrace, sort_at(context.types, brace.kind)) {
-        return read_constants(context, behind, word, Some(tag), depth);
+        return read_constants(context, inside, word, Some(tag), depth);
     }
-    let spec = EnumSpec {
-        tag: Some(tag),
-        constants: None,
-        place: word.place,
-    };
     Ok(Part {
-        tree: Specifier::Enum(Box::new(context.alloc, spec)?),
+        tree: tagged_enumeration(context.alloc, word, tag)?,
         depth: 0,
-        rest: tokens,
+        rest: behind,
     })
 }
 
@@ -475,13 +351,8 @@ fn read_constants<'a>(
         constants.rest,
     );
     let (rest, all) = keeping(next, constants.tree)?;
-    let spec = EnumSpec {
-        tag,
-        constants: Some(all),
-        place: word.place,
-    };
     Ok(Part {
-        tree: Specifier::Enum(Box::new(context.alloc, spec)?),
+        tree: enumeration(context.alloc, word, tag, all)?,
         depth: constants.depth,
         rest,
     })

@@ -12,7 +12,7 @@ use Rattle.sp_c_tokens.specs.Sorts.{sort_of}
 use Rattle.sp_c_tokens.specs.SyntaxTrees.{syntax_trees}
 use Rattle.sp_c_tokens.specs.Ended.{IsEnded}
 use Rattle.sp_c_tokens.proofs.Viewing.{ended_other}
-use Rattle.sp_c_reader.proofs.Faulting.{Begins}
+use Rattle.sp_c_steps.proofs.Faulting.{Begins}
 use Rattle.sp_c_statements.specs.Heads.{head_of, head_of_sort, is_labelled, least_of, takes_first}
 use Rattle.sp_c_statements.specs.Parts.{Rest, condition, clause, three_clauses, do_end, compound}
 use Rattle.sp_c_statements.specs.declared.heads.Head.{Head}

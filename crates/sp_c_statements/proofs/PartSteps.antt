@@ -19,11 +19,11 @@ use Rattle.sp_c_tokens.specs.Ended.{IsEnded}
 use Rattle.sp_c_tokens.specs.Expecting.{IsExpected, IsUnexpected}
 use Rattle.sp_c_tokens.specs.Makers.{first_place}
 use Rattle.sp_c_tokens.specs.Scopes.{there, purpose_seen}
-use Rattle.sp_c_reader.specs.Reading.{IsRead, IsStop}
-use Rattle.sp_c_reader.proofs.Steps.{got, finished}
-use Rattle.sp_c_reader.proofs.Parts.{IsOn, on_mark, stop_mark, stop_part}
-use Rattle.sp_c_reader.proofs.ExpressionSteps.{built, first_same}
-use Rattle.sp_c_reader.proofs.Suffixes.{purposed}
+use Rattle.sp_c_steps.specs.Reading.{IsRead, IsStop}
+use Rattle.sp_c_steps.proofs.Steps.{got, finished}
+use Rattle.sp_c_steps.proofs.Parts.{IsOn, on_mark, stop_mark, stop_part}
+use Rattle.sp_c_steps.proofs.ExpressionSteps.{built, first_same}
+use Rattle.sp_c_steps.proofs.Suffixes.{purposed}
 use Rattle.sp_c_statements.specs.Parts.{Rest, IsLeft, condition, IsCondition, IsConditionStop, clause, IsClause, IsClauseStop, do_end, IsDoEnd, IsDoEndStop}
 
 abbrev Operand : Type 0

@@ -23,11 +23,11 @@ use Rattle.sp_c_tokens.specs.Expecting.{IsExpected, IsUnexpected}
 use Rattle.sp_c_tokens.specs.Makers.{number_of}
 use Rattle.sp_c_tokens.specs.Scopes.{there}
 use Rattle.sp_c_tokens.proofs.Viewing.{ended_mark, mark_viewed}
-use Rattle.sp_c_reader.specs.Reading.{IsRead, IsStop, operand_seen}
-use Rattle.sp_c_reader.proofs.Steps.{enter, took_token, got, last, finished, part_fails, part_nests}
-use Rattle.sp_c_reader.proofs.Parts.{IsOn, chosen, stop_part}
-use Rattle.sp_c_reader.proofs.ExpressionSteps.{first_taken}
-use Rattle.sp_c_reader.proofs.Suffixes.{ended_name}
+use Rattle.sp_c_steps.specs.Reading.{IsRead, IsStop, operand_seen}
+use Rattle.sp_c_steps.proofs.Steps.{enter, took_token, got, last, finished, part_fails, part_nests}
+use Rattle.sp_c_steps.proofs.Parts.{IsOn, chosen, stop_part}
+use Rattle.sp_c_steps.proofs.ExpressionSteps.{first_taken}
+use Rattle.sp_c_steps.proofs.Suffixes.{ended_name}
 use Rattle.sp_c_statements.specs.Heads.{head_of, is_labelled}
 use Rattle.sp_c_statements.specs.Parts.{Rest, IsLeft, IsCondition, IsConditionStop, clause, IsClause, IsClauseStop, HasBody, IsPrefix}
 use Rattle.sp_c_statements.specs.declared.heads.Head.TheVariants.{Prefix as Before}

@@ -23,12 +23,12 @@ use Rattle.sp_c_tokens.specs.Ended.{IsEnded}
 use Rattle.sp_c_tokens.specs.Expecting.{IsExpected, IsUnexpected, IsFaultFor}
 use Rattle.sp_c_tokens.specs.Makers.{number_of, first_place, is_break}
 use Rattle.sp_c_tokens.specs.Scopes.{there}
-use Rattle.sp_c_reader.specs.Reading.{IsRead, IsStop}
-use Rattle.sp_c_reader.proofs.Steps.{enter, took_token, got, last, finished, refused}
-use Rattle.sp_c_reader.proofs.Parts.{IsOn, chosen, stop_part, on_mark, stop_mark}
-use Rattle.sp_c_reader.proofs.ExpressionSteps.{built, first_same, first_taken}
-use Rattle.sp_c_reader.proofs.Suffixes.{ended_name}
-use Rattle.sp_c_reader.proofs.Faulting.{stop_at}
+use Rattle.sp_c_steps.specs.Reading.{IsRead, IsStop}
+use Rattle.sp_c_steps.proofs.Steps.{enter, took_token, got, last, finished, refused}
+use Rattle.sp_c_steps.proofs.Parts.{IsOn, chosen, stop_part, on_mark, stop_mark}
+use Rattle.sp_c_steps.proofs.ExpressionSteps.{built, first_same, first_taken}
+use Rattle.sp_c_steps.proofs.Suffixes.{ended_name}
+use Rattle.sp_c_steps.proofs.Faulting.{stop_at}
 use Rattle.sp_c_declarations.specs.Taking.{IsTaken}
 use Rattle.sp_c_statements.specs.Heads.{head_of, is_labelled}
 use Rattle.sp_c_statements.specs.Parts.{Rest, IsLeft, IsClause, IsClauseStop}

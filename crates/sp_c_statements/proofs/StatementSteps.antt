@@ -26,12 +26,12 @@ use Rattle.sp_c_tokens.specs.Ended.{IsEnded}
 use Rattle.sp_c_tokens.specs.Expecting.{IsExpected, IsUnexpected}
 use Rattle.sp_c_tokens.specs.Makers.{first_place, end_of_branches, some_statement, all_statements}
 use Rattle.sp_c_tokens.specs.Scopes.{there}
-use Rattle.sp_c_reader.specs.Reading.{IsRead, IsStop, IsStep}
-use Rattle.sp_c_reader.proofs.Steps.{got, finished}
-use Rattle.sp_c_reader.proofs.Parts.{IsOn, on_mark, stop_mark, stop_part}
-use Rattle.sp_c_reader.proofs.ExpressionSteps.{built, first_same, first_taken, first_deep}
-use Rattle.sp_c_reader.proofs.ListSteps.{choice_ends, choice_on}
-use Rattle.sp_c_reader.proofs.Faulting.{Begins}
+use Rattle.sp_c_steps.specs.Reading.{IsRead, IsStop, IsStep}
+use Rattle.sp_c_steps.proofs.Steps.{got, finished}
+use Rattle.sp_c_steps.proofs.Parts.{IsOn, on_mark, stop_mark, stop_part}
+use Rattle.sp_c_steps.proofs.ExpressionSteps.{built, first_same, first_taken, first_deep}
+use Rattle.sp_c_steps.proofs.ListSteps.{choice_ends, choice_on}
+use Rattle.sp_c_steps.proofs.Faulting.{Begins}
 use Rattle.sp_c_declarations.specs.Taking.{IsTaken}
 use Rattle.sp_c_statements.specs.Heads.{head_of, is_labelled, least_of, takes_first}
 use Rattle.sp_c_statements.specs.Parts.{Rest, IsLeft, IsCondition, IsConditionStop, do_end, IsDoEnd, IsDoEndStop, prefixed, IsPrefix, IsCompound, IsCompoundStop}

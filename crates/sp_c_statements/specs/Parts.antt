@@ -21,8 +21,8 @@ use Rattle.sp_c_tokens.specs.Faults.{Wanted}
 use Rattle.sp_c_tokens.specs.Makers.{end_of, first_place, all_statements}
 use Rattle.sp_c_tokens.specs.Ended.{IsEnded}
 use Rattle.sp_c_tokens.specs.declared.part.ReadError.{ReadError}
-use Rattle.sp_c_reader.specs.Reading.{IsStop}
-use Rattle.sp_c_reader.specs.States.{Inside}
+use Rattle.sp_c_steps.specs.Reading.{IsStop}
+use Rattle.sp_c_steps.specs.States.{Inside}
 use Rattle.sp_c_statements.specs.declared.prefixes.Prefix.{Prefix}
 use Rattle.sp_c_statements.specs.declared.prefixes.Prefix.TheVariants.{Label, Case, Default, Switch, While, For}
 

@@ -5,10 +5,11 @@ ghost use Rattle.sp_grammar.specs.CTable.{begins_expression as begins_value};
 ghost use Rattle.sp_c_tokens.specs.Codes.{mark_seen, sort_seen};
 ghost use Rattle.sp_c_tokens.specs.Ended.{IsEnded};
 ghost use Rattle.sp_c_tokens.specs.Scopes.{context_of};
-ghost use Rattle.sp_c_reader.specs.Reading.{IsStop};
+ghost use Rattle.sp_c_steps.specs.Reading.{IsStop};
 ghost use Rattle.sp_c_statements.specs.Heads.{head_of, head_of_mark, is_labelled, least_of, takes_first};
 
-use sp_c_reader::{COMMA, read_level};
+use sp_c_reader::read_level;
+use sp_c_steps::COMMA;
 use sp_c_tokens::{
     Context, Mark, ReadError, Sort, TypeNames, begins_expression, is_mark, next_token, sort_at,
 };

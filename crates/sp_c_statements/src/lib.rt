@@ -2,7 +2,7 @@
 //!
 //! They go on from the readers of `sp_c_reader` and `sp_c_declarations`, and answer as those do: the
 //! part that the grammar's table reads for an ask, or the error where that ends (`Answers`,
-//! specs/Reading.antt of `sp_c_reader`). The *head* of a statement says which it is, by its first
+//! specs/Reading.antt of `sp_c_steps`). The *head* of a statement says which it is, by its first
 //! token and of a name by the next one too. A *prefix* is what stands before the body of a label, a
 //! `case`, a `default`, a `switch`, a `while` and a `for`. Only what reads a statement inside
 //! another is in the cycle of calls; lists of statements are a loop. So calls lie no deeper inside

@@ -8,13 +8,15 @@ ghost use Rattle.sp_c_tokens.specs.Codes.{mark_seen};
 ghost use Rattle.sp_c_tokens.specs.Ended.{IsEnded};
 ghost use Rattle.sp_c_tokens.specs.Makers.{first_place};
 ghost use Rattle.sp_c_tokens.specs.Scopes.{context_of, purpose_seen};
-ghost use Rattle.sp_c_reader.specs.Reading.{Answers};
+ghost use Rattle.sp_c_steps.specs.Reading.{Answers};
 ghost use Rattle.sp_c_statements.specs.Parts.{IsCondition, IsConditionStop, IsClause, IsClauseStop, IsDoEnd, IsDoEndStop};
 
-use sp_c_reader::{COMMA, keeping, read_level};
+use sp_c_reader::read_level;
+use sp_c_steps::COMMA;
 use sp_c_tokens::{
     AlsoAllowed, Context, Mark, Part, ReadError, begins_expression, expect, next_token, sort_at,
 };
+use sp_kept::keeping;
 use sp_syntax::Expr;
 use sp_tree::{Place, Token};
 

@@ -3,7 +3,7 @@ ghost use Rattle.std.specs.Prelude.{◌≡◌, ◌≤◌, MatchResult};
 ghost use Rattle.sp_grammar.specs.CTable as grammar;
 ghost use Rattle.sp_c_tokens.specs.Ended.{IsEnded};
 ghost use Rattle.sp_c_tokens.specs.Scopes.{context_of};
-ghost use Rattle.sp_c_reader.specs.Reading.{IsStop};
+ghost use Rattle.sp_c_steps.specs.Reading.{IsStop};
 ghost use Rattle.sp_c_statements.specs.Heads.{head_of};
 ghost use Rattle.sp_c_statements.specs.Parts.{IsPrefix};
 ghost use Rattle.sp_c_statements.specs.declared.heads.Head.TheVariants.{Prefix as Before};
@@ -12,8 +12,10 @@ ghost use Rattle.sp_c_statements.specs.declared.heads.PrefixKind.TheVariants as 
 use crate::heads::PrefixKind;
 use crate::parts::{read_clause, read_condition};
 use crate::simple::number_of;
-use sp_c_reader::{CONDITIONAL, keeping, read_level};
+use sp_c_reader::read_level;
+use sp_c_steps::CONDITIONAL;
 use sp_c_tokens::{AlsoAllowed, Context, Mark, Part, ReadError, expect, next_token};
+use sp_kept::keeping;
 use sp_syntax::Expr;
 use sp_tree::Token;
 

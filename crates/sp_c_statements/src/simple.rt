@@ -22,10 +22,12 @@ ghost use Rattle.sp_c_statements.specs.declared.heads.SimpleKind.TheVariants.{
 use crate::heads::SimpleKind;
 use crate::makers::{empty, expression, goto, jump, return_of};
 use crate::parts::{first_place, read_clause};
-use sp_c_reader::{COMMA, keeping, read_level, read_suffixes, read_tail};
+use sp_c_reader::{read_level, read_suffixes, read_tail};
+use sp_c_steps::COMMA;
 use sp_c_tokens::{
     AlsoAllowed, Context, Mark, Operand, Part, ReadError, expect, fault, next_token,
 };
+use sp_kept::keeping;
 use sp_syntax::{Expr, Statement};
 use sp_tree::{Kind, Token};
 

@@ -4,7 +4,7 @@ ghost use Rattle.sp_grammar.specs.CTable as grammar;
 ghost use Rattle.sp_syntax.specs.View.{statement_of};
 ghost use Rattle.sp_c_tokens.specs.Ended.{IsEnded};
 ghost use Rattle.sp_c_tokens.specs.Scopes.{context_of};
-ghost use Rattle.sp_c_reader.specs.Reading.{Answers};
+ghost use Rattle.sp_c_steps.specs.Reading.{Answers};
 ghost use Rattle.sp_c_declarations.specs.Taking.{Takes};
 ghost use Rattle.sp_c_statements.specs.Heads.{head_of};
 ghost use Rattle.sp_c_statements.specs.Parts.{IsCompound, IsCompoundStop};
@@ -16,10 +16,10 @@ use crate::parts::{first_place, read_condition, read_do_end};
 use crate::prefixes::read_prefix;
 use crate::simple::read_simple;
 use sp_c_declarations::read_declarations;
-use sp_c_reader::{keeping, pushed};
 use sp_c_tokens::{
     AlsoAllowed, Context, Mark, Part, ReadError, expect, is_mark, next_token, sort_at,
 };
+use sp_kept::{keeping, pushed};
 use sp_syntax::Statement;
 use sp_tree::{Place, Token};
 

@@ -24,12 +24,12 @@ use Rattle.sp_c_tokens.specs.Ended.{IsEnded}
 use Rattle.sp_c_tokens.specs.Expecting.{IsExpected, IsUnexpected}
 use Rattle.sp_c_tokens.specs.Scopes.{there, purpose_seen}
 use Rattle.sp_c_tokens.proofs.Viewing.{ended_mark, mark_viewed}
-use Rattle.sp_c_reader.specs.Reading.{IsRead, IsStop}
-use Rattle.sp_c_reader.specs.Declaring.{AreSpecified}
-use Rattle.sp_c_reader.proofs.Steps.{got, last, finished}
-use Rattle.sp_c_reader.proofs.Parts.{IsOn, on_mark, stop_before, stop_mark, stop_part}
-use Rattle.sp_c_reader.proofs.ExpressionSteps.{built, read_before, first_same, first_taken}
-use Rattle.sp_c_reader.proofs.Faulting.{result_before}
+use Rattle.sp_c_steps.specs.Reading.{IsRead, IsStop}
+use Rattle.sp_c_steps.specs.Declaring.{AreSpecified}
+use Rattle.sp_c_steps.proofs.Steps.{got, last, finished}
+use Rattle.sp_c_steps.proofs.Parts.{IsOn, on_mark, stop_before, stop_mark, stop_part}
+use Rattle.sp_c_steps.proofs.ExpressionSteps.{built, read_before, first_same, first_taken}
+use Rattle.sp_c_steps.proofs.Faulting.{result_before}
 use Rattle.sp_c_declarations.specs.Taking.{IsTaken}
 use Rattle.sp_c_statements.specs.Parts.{compound, IsCompound, IsCompoundStop}
 use Rattle.sp_decl_parser.specs.declared.externals.ExternalPart.{ExternalPart}

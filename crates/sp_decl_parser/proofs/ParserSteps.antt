@@ -12,7 +12,7 @@ use Rattle.sp_c_tokens.specs.SyntaxTrees.{c_table}
 use Rattle.sp_c_tokens.specs.Depths.{c_depths}
 use Rattle.sp_c_tokens.specs.Faults.{Wanted, fault_there, sort_there, fault_of}
 use Rattle.sp_c_tokens.specs.Makers.{first_place}
-use Rattle.sp_c_reader.specs.Reading.{kind_at}
+use Rattle.sp_c_steps.specs.Reading.{kind_at}
 use Rattle.sp_c_units.specs.Answers.{UnitsAreParsed, IsUnit, IsUnitFault, IsUnitNested}
 use Rattle.sp_expr_parser.proofs.ParserSteps.{Front, read_front, fault_front_of, nests_front, drop_front, front_taken}
 use Rattle.sp_decl_parser.specs.Units.{IsUnitRead}

@@ -30,9 +30,9 @@ use Rattle.sp_c_tokens.specs.Ended.{IsEnded}
 use Rattle.sp_c_tokens.specs.Expecting.{IsFaultFor, kind_of_first}
 use Rattle.sp_c_tokens.specs.Scopes.{kind_for}
 use Rattle.sp_c_tokens.proofs.Viewing.{mark_viewed}
-use Rattle.sp_c_reader.specs.Reading.{kind_at, IsStop}
-use Rattle.sp_c_reader.specs.States.{Before, Inside}
-use Rattle.sp_c_reader.proofs.Steps.{begun, enter, got, last, finished, part_fails, part_nests, refused}
+use Rattle.sp_c_steps.specs.Reading.{kind_at, IsStop}
+use Rattle.sp_c_steps.specs.States.{Before, Inside}
+use Rattle.sp_c_steps.proofs.Steps.{begun, enter, got, last, finished, part_fails, part_nests, refused}
 use Rattle.sp_c_declarations.specs.Taking.{IsTaken}
 use Rattle.sp_decl_parser.specs.Units.{IsUnitRead, IsUnitStop}
 

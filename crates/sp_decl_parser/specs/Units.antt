@@ -14,7 +14,7 @@ use Rattle.sp_c_tokens.specs.Faults.{Wanted}
 use Rattle.sp_c_tokens.specs.Ended.{IsEnded}
 use Rattle.sp_c_tokens.specs.declared.part.ReadError.{ReadError}
 use Rattle.sp_c_tokens.specs.declared.part.ReadError.TheVariants as stops
-use Rattle.sp_c_reader.specs.Reading.{kind_at}
+use Rattle.sp_c_steps.specs.Reading.{kind_at}
 
 -- External declarations are read up to the end of the text.
 pub record IsUnitRead (depth : ℕ) (text : List Token) (es : List External) (reached : ℕ) : Type 0 where

@@ -9,8 +9,8 @@ ghost use Rattle.sp_syntax.specs.Depth.{specifiers_depth, declarator_depth};
 ghost use Rattle.sp_c_tokens.specs.Ended.{IsEnded};
 ghost use Rattle.sp_c_tokens.specs.Makers.{SpecifierAt, all_specifiers, place_of_first};
 ghost use Rattle.sp_c_tokens.specs.Scopes.{context_of};
-ghost use Rattle.sp_c_reader.specs.Reading.{Answers};
-ghost use Rattle.sp_c_reader.specs.Declaring.{declared_seen, shape_seen, item_seen};
+ghost use Rattle.sp_c_steps.specs.Reading.{Answers};
+ghost use Rattle.sp_c_steps.specs.Declaring.{declared_seen, shape_seen, item_seen};
 ghost use Rattle.sp_c_declarations.specs.Taking.{Takes};
 ghost use Rattle.sp_decl_parser.specs.Seen.{external_part, specified, sort_of_first};
 

@@ -72,7 +72,7 @@ object_told names env class t k n p at start l e =
 
 abbrev pub object_at : List (List ℕ) → Env → List ℕ → Option Keyword → CType → Declarator → MaybeInit → ℕ → Place → Linkage → Option Entity → Checked (List ℕ × Env)
 object_at names env ks class base d start n p l e =
-    and_then (declared_type names (object_reserved env n l p e) base d) (λ x.
+    and_then (declared_type names (object_reserved env n p e) base d) (λ x.
     and_then (object_told names x.1 class x.0 (reserved_number env e) n p (declarator_place d) start l e) (λ env'.
     accepted (with_number ks l (reserved_number env e), env')))
 

@@ -168,7 +168,7 @@ fn object_at(
         (env_of env.new) result }
 {
     let at = declarator.place;
-    let number = object_reserved(alloc, env, name, linkage, place, entry)?;
+    let number = object_reserved(alloc, env, name, place, entry)?;
     let of = check_declarator(alloc, env, base, declarator, names)?;
     object_told(
         alloc, env, names, class, of, number, name, place, at, start, linkage, entry,

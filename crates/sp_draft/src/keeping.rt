@@ -4,6 +4,9 @@ ghost use Rattle.sp_types.specs.Typed.{of, place_of};
 ghost use Rattle.sp_types.specs.View.{type_of};
 ghost use Rattle.sp_types.specs.TypedView.{typed_of};
 ghost use Rattle.sp_ir.specs.View.{command_of, lvalue_of, expression_of};
+ghost use Rattle.sp_types.specs.Types.{pointer};
+ghost use Rattle.sp_types.specs.declared.ctype.IntKind.TheVariants.{Int};
+ghost use Rattle.sp_ir.specs.Commands.{assume, assign, through, read, number};
 ghost use Rattle.sp_draft.specs.Draft.{
   add,
   with_loose,
@@ -14,6 +17,7 @@ ghost use Rattle.sp_draft.specs.Draft.{
   save,
   keep,
   keep_place,
+  temporary,
   opposite,
   evaluated,
 };
@@ -23,9 +27,10 @@ ghost use Rattle.sp_draft.specs.Outcome.{Leaves, Gives, GivesEnds};
 
 use crate::{Draft, Ends, Scope};
 use sp_ir::{Command, Expr, Lvalue};
+use sp_kept::keeping;
 use sp_tree::{Place, Punct};
 use sp_types::{CType, IntKind, TypedExpr};
-use std::alloc::AllocError;
+use std::alloc::{AllocError, Global};
 
 fn opposite(relation: Punct) -> Punct
     ensures { result ≡ opposite relation }
@@ -70,6 +75,7 @@ pub fn stored(to: Lvalue, of: &CType, value: Expr) -> Command
 }
 
 /// A comparison.
+#[derive(Drop)]
 struct Comparison {
     left: Expr,
     relation: Punct,
@@ -118,6 +124,61 @@ pub fn evaluated(
     Ok(())
 }
 
+/// The same comparison once more.
+fn copied(alloc: Global, of: &Comparison) -> Result<Comparison, AllocError>
+    ensures { IfOk result (λ c. (expression_of c.left ≡ expression_of of.now.left)
+        × (c.relation ≡ of.now.relation)
+        × (expression_of c.right ≡ expression_of of.now.right)) }
+{
+    let left = of.left.copy(alloc)?;
+    let (right, left) = keeping(of.right.copy(alloc), left)?;
+    Ok(Comparison {
+        left,
+        relation: of.relation,
+        right,
+    })
+}
+
+/// The commands of a condition of this value: it holds, and it doesn't.
+fn assumed(alloc: Global, value: Expr) -> Result<(Command, Command), AllocError>
+    ensures { IfOk result (λ both.
+        (command_of both.0 ≡ assume (condition (expression_of value)).lhs
+        (condition (expression_of value)).relation (condition (expression_of value)).rhs)
+        × (command_of both.1 ≡ assume (condition (expression_of value)).lhs
+        (opposite (condition (expression_of value)).relation)
+        (condition (expression_of value)).rhs)) }
+{
+    let first = condition(value);
+    let (other, first) = keeping(copied(alloc, &first), first)?;
+    let holds = Command::Assume {
+        left: first.left,
+        op: first.relation,
+        right: first.right,
+    };
+    let fails = Command::Assume {
+        left: other.left,
+        op: opposite(other.relation),
+        right: other.right,
+    };
+    Ok((holds, fails))
+}
+
+/// A node of its own, which is the only loose end, and is taken.
+fn added(
+    scope: &Scope<'_>,
+    draft: &mut Draft,
+    command: Command,
+    place: Place,
+) -> Result<Vec<u32>, AllocError>
+    ensures { IfOk result (λ ends.
+        (draft_of draft.new ≡ with_loose [] (add (context_of scope.now) (command_of command) place
+        (draft_of draft.old)))
+        × (ends.items ≡ length (draft_of draft.old).nodes ∷ [])) }
+{
+    draft.add(scope, command, place)?;
+    Ok(draft.take_loose(scope.alloc))
+}
+
 /// The two nodes of a condition of this value: it holds, and it doesn't.
 pub fn fork(
     scope: &Scope<'_>,
@@ -128,31 +189,31 @@ pub fn fork(
     ensures { GivesEnds result (draft_of draft.new) (fork (context_of scope.now)
         (typed_of e.now) (expression_of value) (draft_of draft.old)) }
 {
-    let place = e.place();
-    let Comparison {
-        left,
-        relation,
-        right,
-    } = condition(value);
-    let other_left = left.copy(scope.alloc)?;
-    let other_right = right.copy(scope.alloc)?;
-    let ends = draft.copy_loose(scope.alloc)?;
-    let holds = Command::Assume {
-        left,
-        op: relation,
-        right,
-    };
-    draft.add(scope, holds, place)?;
-    let yes = draft.take_loose(scope.alloc);
+    let (holds, fails) = assumed(scope.alloc, value)?;
+    let (ends, (holds, fails)) = keeping(draft.copy_loose(scope.alloc), (holds, fails))?;
+    let yes = added(scope, draft, holds, e.place());
+    let (yes, fails) = keeping(yes, fails)?;
     draft.set_loose(ends);
-    let fails = Command::Assume {
-        left: other_left,
-        op: opposite(relation),
-        right: other_right,
-    };
-    draft.add(scope, fails, place)?;
-    let no = draft.take_loose(scope.alloc);
+    let no = added(scope, draft, fails, e.place())?;
     Ok(Ends { yes, no })
+}
+
+/// A new temporary of this type, and the same once more.
+fn temporary(
+    scope: &Scope<'_>,
+    draft: &mut Draft,
+    of: &CType,
+) -> Result<(Lvalue, Lvalue), AllocError>
+    ensures { IfOk result (λ both. (draft_of draft.new ≡
+        (temporary (context_of scope.now) (type_of of.now) (draft_of draft.old)).after)
+        × (lvalue_of both.0 ≡
+        (temporary (context_of scope.now) (type_of of.now) (draft_of draft.old)).pure)
+        × (lvalue_of both.1 ≡
+        (temporary (context_of scope.now) (type_of of.now) (draft_of draft.old)).pure)) }
+{
+    let to = draft.temporary(scope, of)?;
+    let (other, to) = keeping(to.copy(scope.alloc), to)?;
+    Ok((to, other))
 }
 
 /// The value goes to a new temporary.
@@ -166,9 +227,9 @@ pub fn save(
     ensures { Gives lvalue_of result (draft_of draft.new) (save (context_of scope.now)
         (type_of of.now) (expression_of value) place (draft_of draft.old)) }
 {
-    let to = draft.temporary(scope, of)?;
-    let result = to.copy(scope.alloc)?;
-    draft.add(scope, stored(to, of, value), place)?;
+    let ((to, result), value) = keeping(temporary(scope, draft, of), value)?;
+    let node = draft.add(scope, stored(to, of, value), place);
+    let (_, result) = keeping(node, result)?;
     Ok(result)
 }
 
@@ -190,6 +251,22 @@ pub fn keep(
     Ok(value)
 }
 
+/// What the pointer at this lvalue points to, an object of the operand's type.
+fn behind(scope: &Scope<'_>, operand: &TypedExpr, pointer: Lvalue) -> Result<Lvalue, AllocError>
+    ensures { IfOk result (λ to. lvalue_of to ≡ through (read (lvalue_of pointer))
+        (of (typed_of operand.now)) (place_of (typed_of operand.now))) }
+{
+    let (of, pointer) = keeping(operand.of().copy(scope.alloc), pointer)?;
+    Lvalue::through(scope.alloc, Expr::read(pointer), of, operand.place())
+}
+
+/// The type of a pointer to this one.
+fn pointer_to(alloc: Global, of: &CType) -> Result<CType, AllocError>
+    ensures { IfOk result (λ t. type_of t ≡ pointer (type_of of.now)) }
+{
+    CType::pointer(alloc, of.copy(alloc)?)
+}
+
 /// An earlier lvalue, whose address is kept where a later operand adds nodes.
 pub fn keep_place(
     scope: &Scope<'_>,
@@ -202,10 +279,9 @@ pub fn keep_place(
         (typed_of operand.now) (lvalue_of to) (draft_of draft.old)) }
 {
     if later && to.holds_read() {
-        let pointer = CType::pointer(scope.alloc, operand.of().copy(scope.alloc)?)?;
+        let (pointer, to) = keeping(pointer_to(scope.alloc, operand.of()), to)?;
         let saved = save(scope, draft, &pointer, Expr::address(to), operand.place())?;
-        let of = operand.of().copy(scope.alloc)?;
-        return Lvalue::through(scope.alloc, Expr::read(saved), of, operand.place());
+        return behind(scope, operand, saved);
     }
     Ok(to)
 }
@@ -243,9 +319,28 @@ pub fn stored_at(
         (place_of (typed_of e.now)) (draft_of draft.old)))
         × (ends.items ≡ length (draft_of draft.old).nodes ∷ [])) }
 {
-    let to = to.copy(scope.alloc)?;
-    draft.add(scope, stored(to, e.of(), value), e.place())?;
-    Ok(draft.take_loose(scope.alloc))
+    let (to, value) = keeping(to.copy(scope.alloc), value)?;
+    added(scope, draft, stored(to, e.of(), value), e.place())
+}
+
+/// A node that puts a number there, behind these ends. It is the only loose end, and is taken.
+fn marked(
+    scope: &Scope<'_>,
+    draft: &mut Draft,
+    to: Lvalue,
+    value: i128,
+    ends: Vec<u32>,
+    place: Place,
+) -> Result<Vec<u32>, AllocError>
+    ensures { IfOk result (λ made.
+        (draft_of draft.new ≡ with_loose [] (add (context_of scope.now)
+        (assign (lvalue_of to) (number value Int)) place
+        (with_loose ends.items (draft_of draft.old))))
+        × (made.items ≡ length (draft_of draft.old).nodes ∷ [])) }
+{
+    draft.set_loose(ends);
+    let value = Expr::number(value, IntKind::Int);
+    added(scope, draft, Command::Assign { to, value }, place)
 }
 
 /// The value of a short circuit: 1 on the true ends, 0 on the false ends.
@@ -258,19 +353,14 @@ pub fn truth(
     ensures { Gives expression_of result (draft_of draft.new) (truth (context_of scope.now)
         (typed_of e.now) (branch_of ends (draft_of draft.old))) }
 {
-    let place = e.place();
     let Ends { yes, no } = ends;
-    let to = draft.temporary(scope, e.of())?;
-    let other = to.copy(scope.alloc)?;
-    let result = to.copy(scope.alloc)?;
-    draft.set_loose(yes);
-    let value = Expr::number(1, IntKind::Int);
-    draft.add(scope, Command::Assign { to, value }, place)?;
-    let one = draft.take_loose(scope.alloc);
-    draft.set_loose(no);
-    let value = Expr::number(0, IntKind::Int);
-    draft.add(scope, Command::Assign { to: other, value }, place)?;
-    let zero = draft.take_loose(scope.alloc);
-    draft.set_loose(joined(one, zero)?);
+    let (to, other) = temporary(scope, draft, e.of())?;
+    let (result, (to, other)) = keeping(to.copy(scope.alloc), (to, other))?;
+    let one = marked(scope, draft, to, 1, yes, e.place());
+    let (one, (other, result)) = keeping(one, (other, result))?;
+    let zero = marked(scope, draft, other, 0, no, e.place());
+    let (zero, result) = keeping(zero, result)?;
+    let (ends, result) = keeping(joined(one, zero), result)?;
+    draft.set_loose(ends);
     Ok(Expr::read(result))
 }

@@ -1,5 +1,5 @@
 -- Sorts of types, and of what has a type of a sort.
-use Rattle.std.proofs.Common.{◌≡◌, ℕ, List, Option, ◌≤◌, ◌==◌, true, false, refl, ap, sym, subst, arith, eqb-true, eq-eqb}
+use Rattle.std.proofs.Common.{◌≡◌, ℕ, List, Option, ◌≤◌, ◌==◌, true, false, refl, ap, sym, subst, true≢false, arith, eqb-true, eq-eqb}
 use Rattle.std.proofs.lemmas.Bool.Decides.{nat_tests}
 use Rattle.sp_types.specs.declared.ctype.IntKind.{IntKind}
 use Rattle.sp_types.specs.declared.ctype.IntKind.TheVariants.{Char, SChar, UChar, Short, UShort, Int, UInt, Long, ULong}
@@ -8,7 +8,7 @@ use Rattle.sp_ir.specs.Commands.{Expression}
 use Rattle.sp_ir.specs.Formed.{is_struct, is_integer, is_pointer, is_array, is_floating, is_scalar}
 use Rattle.sp_ir.specs.Terrain.{size_of}
 use Rattle.sp_draft.specs.Context.{Context, is_void}
-use Rattle.sp_typing.specs.Refines.{Tells, lays_void, lays_integer, lays_floating, lays_pointer, lays_array, lays_struct, lays_function}
+use Rattle.sp_typing.specs.Refines.{Tells, names_void, names_integer, names_floating, names_pointer, names_array, names_struct, names_open, names_function}
 use Rattle.sp_typing.specs.Sorts.{agrees, same_value, IsStored, IsStepped}
 use Rattle.sp_draft_laws.specs.Uses.{Yields}
 
@@ -98,13 +98,14 @@ agrees_self (function s) h = refl
 
 -- what tells at least as much agrees
 pub tells_agree : (u t : CType) → Tells u t → is_floating t ≡ false → agrees u t ≡ true
-tells_agree u t lays_void h = refl
-tells_agree u t (lays_integer k) h = refl
-tells_agree u t (lays_floating k) h = sym h
-tells_agree u t (lays_pointer a b) h = refl
-tells_agree u t (lays_array a b n m x k) h = refl
-tells_agree u t (lays_struct k) h = eq-eqb k k refl
-tells_agree u t (lays_function a b) h = refl
+tells_agree u t names_void h = refl
+tells_agree u t (names_integer k) h = refl
+tells_agree u t (names_floating k) h = sym h
+tells_agree u t (names_pointer a b) h = refl
+tells_agree u t (names_array a b n m k) h = refl
+tells_agree u t (names_struct k) h = eq-eqb k k refl
+tells_agree u t (names_open k j e) h = absurd (true≢false (sym e))
+tells_agree u t (names_function a b) h = refl
 
 -- ---- sizes
 

@@ -60,27 +60,25 @@ ghost use Rattle.sp_expr_steps.specs.Expressions.{
 
 use sp_env::Env;
 use sp_expr_steps::{
-    call_made, callee_declared, comma, derived, held, is_alone_in, length_told, member_added,
-    names_type, next_enumerator, param_told, pushed, size_of_type, size_of_value, struct_closed,
-    struct_opened, told_types,
+    argument_made, array_derived, as_it_stands, as_value, call_made, callee_declared, cast_of,
+    chosen, derived, function_derived, is_alone_in, length_told, list_told, made_of, member_added,
+    names_type, next_enumerator, operated, paired, param_told, size_of_type, struct_closed,
+    struct_opened,
 };
+use sp_kept::{keeping, pushed};
 use sp_member_rules::{
     declared_name, enumerator, has_parameter_storage, is_lone_void, reserved, with_enum_tag,
 };
 use sp_names::{character_checked, name_checked, number_checked, text_checked};
-use sp_operands::{CheckError, fault, value};
-use sp_rules::{assign, binary, cast_to, choice, not_floating};
+use sp_operands::{CheckError, fault};
 use sp_syntax::{
     Declaration, Declarator, DeclaratorForm, EnumSpec, Expr, ExprForm, InitDeclarator, Param,
     Specifier, StructSpec, TypeName,
 };
 use sp_tree::{FaultKind, Names, Place};
-use sp_type_rules::{Derivation, enum_referred, made, named_checked, struct_referred, words_type};
+use sp_type_rules::{Derivation, enum_referred, named_checked, struct_referred, words_type};
 use sp_types::{CType, IntKind, Signature, TypedExpr};
-use sp_unary_rules::{
-    argument_at, arrow_taken, called_signature, indexed, member_taken, stepped_after, takes_object,
-    unary_object, unary_value,
-};
+use sp_unary_rules::{called_signature, takes_object};
 use std::alloc::Global;
 
 /// An expression as it stands.
@@ -94,8 +92,8 @@ fn checked(
     ensures { AnswersIn typed_of
         (checked names.now (env_of env.old) (tree_of expr.now)) (env_of env.new) result }
 {
-    let e = form(alloc, env, names, expr.place, expr.mark, &expr.form)?;
-    not_floating(expr.place, e)
+    let e = form(alloc, env, names, expr.place, expr.mark, &expr.form);
+    as_it_stands(expr.place, e)
 }
 
 /// An expression as a value (C90 6.2.2.1).
@@ -109,9 +107,8 @@ pub(crate) fn value_checked(
     ensures { AnswersIn typed_of
         (value_checked names.now (env_of env.old) (tree_of expr.now)) (env_of env.new) result }
 {
-    let e = form(alloc, env, names, expr.place, expr.mark, &expr.form)?;
-    let e = not_floating(expr.place, e)?;
-    value(alloc, env.structs(), expr.place, e)
+    let e = form(alloc, env, names, expr.place, expr.mark, &expr.form);
+    as_value(alloc, env, expr.place, e)
 }
 
 /// Names, literals, indices and calls; the other forms are taken in two groups behind.
@@ -137,26 +134,17 @@ fn form(
         ExprForm::Paren(inner) => checked(alloc, env, names, inner),
         ExprForm::Index(a, b) => {
             let a = value_checked(alloc, env, names, a)?;
-            let (a, b) = held(a, value_checked(alloc, env, names, b))?;
-            indexed(alloc, env.structs(), place, mark, a, b)
+            let b = value_checked(alloc, env, names, b);
+            paired(alloc, env, form, place, mark, a, b)
         }
         ExprForm::Call(callee, _) => {
             callee_declared(alloc, env, names, callee)?;
             let at = callee.place;
             let callee = value_checked(alloc, env, names, callee)?;
             let signature = called_signature(alloc, at, callee.of());
-            let (callee, signature) = held(callee, signature)?;
+            let (signature, callee) = keeping(signature, callee)?;
             let arguments = arguments_checked(alloc, form, env, names, &signature);
-            let ((callee, signature), arguments) = held((callee, signature), arguments)?;
-            call_made(
-                alloc,
-                env.structs(),
-                place,
-                mark,
-                signature,
-                callee,
-                arguments,
-            )
+            call_made(alloc, env, place, mark, signature, callee, arguments)
         }
         ExprForm::Binary(_, _, _)
         | ExprForm::Choice(_, _, _)
@@ -189,42 +177,40 @@ fn operation(
         (env_of env.new) result }
 {
     match form {
-        ExprForm::Member(e, name) => {
-            let e = checked(alloc, env, names, e)?;
-            member_taken(alloc, env.structs(), *name, place, mark, e)
+        ExprForm::Member(e, _) => {
+            let e = checked(alloc, env, names, e);
+            operated(alloc, env, form, place, mark, e)
         }
-        ExprForm::Arrow(e, name) => {
-            let e = value_checked(alloc, env, names, e)?;
-            arrow_taken(alloc, env.structs(), *name, place, mark, e)
+        ExprForm::Arrow(e, _) => {
+            let e = value_checked(alloc, env, names, e);
+            operated(alloc, env, form, place, mark, e)
         }
-        ExprForm::After(operator, e) => {
-            let at = e.place;
-            let e = checked(alloc, env, names, e)?;
-            stepped_after(alloc, env.structs(), *operator, place, mark, at, e)
+        ExprForm::After(_, e) => {
+            let e = checked(alloc, env, names, e);
+            operated(alloc, env, form, place, mark, e)
         }
         ExprForm::Unary(operator, e) => {
             if takes_object(*operator) {
-                let at = e.place;
-                let e = checked(alloc, env, names, e)?;
-                unary_object(alloc, env.structs(), *operator, place, mark, at, e)
+                let e = checked(alloc, env, names, e);
+                operated(alloc, env, form, place, mark, e)
             } else {
-                let e = value_checked(alloc, env, names, e)?;
-                unary_value(alloc, *operator, place, mark, e)
+                let e = value_checked(alloc, env, names, e);
+                operated(alloc, env, form, place, mark, e)
             }
         }
         ExprForm::SizeofExpr(e) => {
-            let e = checked(alloc, env, names, e)?;
-            size_of_value(env, place, mark, e)
+            let e = checked(alloc, env, names, e);
+            operated(alloc, env, form, place, mark, e)
         }
         ExprForm::SizeofType(t) => {
-            let of = type_name_checked(alloc, env, names, t)?;
+            let of = type_name_checked(alloc, env, names, t);
             size_of_type(env, place, mark, of)
         }
         ExprForm::Cast(t, e) => {
             let to = type_name_checked(alloc, env, names, t)?;
             let at = e.place;
-            let (to, e) = held(to, value_checked(alloc, env, names, e))?;
-            cast_to(alloc, to, place, mark, at, e)
+            let e = value_checked(alloc, env, names, e);
+            cast_of(alloc, to, place, mark, at, e)
         }
         _ => fault(FaultKind::F14, place),
     }
@@ -247,37 +233,26 @@ fn joined(
         (env_of env.new) result }
 {
     match form {
-        ExprForm::Binary(operator, a, b) => {
+        ExprForm::Binary(_, a, b) => {
             let a = value_checked(alloc, env, names, a)?;
-            let (a, b) = held(a, value_checked(alloc, env, names, b))?;
-            binary(alloc, env.structs(), *operator, place, mark, a, b)
+            let b = value_checked(alloc, env, names, b);
+            paired(alloc, env, form, place, mark, a, b)
         }
         ExprForm::Choice(c, a, b) => {
             let c = value_checked(alloc, env, names, c)?;
-            let (c, a) = held(c, value_checked(alloc, env, names, a))?;
-            let ((c, a), b) = held((c, a), value_checked(alloc, env, names, b))?;
-            choice(alloc, place, mark, c, a, b)
+            let (a, c) = keeping(value_checked(alloc, env, names, a), c)?;
+            let b = value_checked(alloc, env, names, b);
+            chosen(alloc, place, mark, c, a, b)
         }
-        ExprForm::Assign(operator, a, b) => {
-            let (at, there) = (a.place, b.place);
+        ExprForm::Assign(_, a, b) => {
             let a = checked(alloc, env, names, a)?;
-            let (a, b) = held(a, value_checked(alloc, env, names, b))?;
-            assign(
-                alloc,
-                env.structs(),
-                *operator,
-                place,
-                mark,
-                at,
-                there,
-                a,
-                b,
-            )
+            let b = value_checked(alloc, env, names, b);
+            paired(alloc, env, form, place, mark, a, b)
         }
         ExprForm::Comma(a, b) => {
             let a = value_checked(alloc, env, names, a)?;
-            let (a, b) = held(a, value_checked(alloc, env, names, b))?;
-            comma(alloc, place, mark, a, b)
+            let b = value_checked(alloc, env, names, b);
+            paired(alloc, env, form, place, mark, a, b)
         }
         _ => fault(FaultKind::F14, place),
     }
@@ -303,7 +278,7 @@ fn arguments_checked(
     };
     'arguments: for (i, e) in arguments.iter().enumerate() {
         let next = argument_checked(alloc, e, env, names, signature, i);
-        let (before, next) = held(all, next)?;
+        let (next, before) = keeping(next, all)?;
         all = pushed(before, next)?;
     }
     Ok(all)
@@ -325,8 +300,8 @@ fn argument_checked(
         (told (parameters_of (signature_of signature.now))) number (tree_of e.now))
         (env_of env.new) result }
 {
-    let value = value_checked(alloc, env, names, e)?;
-    argument_at(alloc, signature, number, e.place, value)
+    let value = value_checked(alloc, env, names, e);
+    argument_made(alloc, signature, number, e.place, value)
 }
 
 /// The type that a type name names (C90 6.5.5).
@@ -366,8 +341,7 @@ pub(crate) fn declared_type(
         (env_of env.new) result }
 {
     let steps = derivations(alloc, &declarator.form, env, names, declarator.place);
-    let (base, steps) = held(base, steps)?;
-    made(alloc, env.structs(), declarator.place, steps, base)
+    made_of(alloc, env, declarator.place, steps, base)
 }
 
 /// What the form of a declarator at this place derives, from the name outwards.
@@ -387,22 +361,22 @@ fn derivations(
         DeclaratorForm::Absent | DeclaratorForm::Name(_) => Ok(Vec::new(alloc)),
         DeclaratorForm::Paren(inner) => derivations(alloc, &inner.form, env, names, inner.place),
         DeclaratorForm::Pointer(_, inner) => {
-            let all = derivations(alloc, &inner.form, env, names, inner.place)?;
+            let all = derivations(alloc, &inner.form, env, names, inner.place);
             derived(all, Derivation::Pointer)
         }
         DeclaratorForm::Array(inner, None) => {
-            let all = derivations(alloc, &inner.form, env, names, inner.place)?;
+            let all = derivations(alloc, &inner.form, env, names, inner.place);
             derived(all, Derivation::Array(None, place))
         }
         DeclaratorForm::Array(inner, Some(length)) => {
             let all = derivations(alloc, &inner.form, env, names, inner.place)?;
-            let (all, length) = held(all, length_checked(alloc, length, env, names))?;
-            derived(all, Derivation::Array(Some(length), place))
+            let length = length_checked(alloc, length, env, names);
+            array_derived(all, length, place)
         }
         DeclaratorForm::Function(inner, _, variadic) => {
             let all = derivations(alloc, &inner.form, env, names, inner.place)?;
-            let (all, params) = held(all, list_checked(alloc, form, env, names))?;
-            derived(all, Derivation::Function(params, *variadic, place))
+            let params = list_checked(alloc, form, env, names);
+            function_derived(all, params, *variadic, place)
         }
     }
 }
@@ -419,7 +393,7 @@ fn length_checked(
     ensures { AnswersIn (λ n. n)
         (length_checked names.now (env_of env.old) (tree_of length.now)) (env_of env.new) result }
 {
-    let value = value_checked(alloc, env, names, length)?;
+    let value = value_checked(alloc, env, names, length);
     length_told(env, value, length.place)
 }
 
@@ -438,9 +412,8 @@ fn list_checked(
         (env_of env.new) result }
 {
     env.enter(alloc)?;
-    let all = params_checked(alloc, form, env, names)?;
-    env.leave();
-    Ok(told_types(form, all))
+    let all = params_checked(alloc, form, env, names);
+    list_told(env, form, all)
 }
 
 /// The types of the parameters of a declarator of a function, in their scope.
@@ -493,7 +466,7 @@ fn param_checked(
     if alone && is_lone_void(&base, &param.declarator) {
         return Ok(());
     }
-    let of = declared_type(alloc, &param.declarator, env, names, base)?;
+    let of = declared_type(alloc, &param.declarator, env, names, base);
     param_told(alloc, env, number, all, of, &param.declarator)
 }
 
@@ -563,7 +536,7 @@ fn struct_checked(
         return struct_referred(env, alone, spec.union, spec.tag, spec.place);
     }
     let number = struct_opened(env, spec.union, spec.tag, spec.place)?;
-    let members = members_checked(alloc, spec, env, names)?;
+    let members = members_checked(alloc, spec, env, names);
     struct_closed(env, number, spec.union, spec.place, members)
 }
 
@@ -643,8 +616,8 @@ fn item_checked(
         (init_declarator_of item.now))
         (members_seen all.new.items, env_of env.new) result }
 {
-    let of = declared_type(alloc, &item.declarator, env, names, base.copy(alloc)?)?;
-    member_added(env.structs(), all, of, &item.declarator)
+    let of = declared_type(alloc, &item.declarator, env, names, base.copy(alloc)?);
+    member_added(env, all, of, &item.declarator)
 }
 
 /// The type of a specifier of an enumeration (C90 6.5.2.2).
@@ -713,7 +686,7 @@ fn constant_checked(
         }
         Some(value) => {
             let at = value.place;
-            let value = value_checked(alloc, env, names, value)?;
+            let value = value_checked(alloc, env, names, value);
             next_enumerator(env, value, at, name, place)
         }
     }

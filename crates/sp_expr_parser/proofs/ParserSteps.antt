@@ -30,16 +30,16 @@ use Rattle.sp_c_tokens.specs.Ended.{IsEnded}
 use Rattle.sp_c_grammar.specs.Answers.{Language, specifier_lists, specifiers_ask, IsLongest, IsFault, IsNested}
 use Rattle.sp_c_grammar.proofs.Lifts.{Reader, longest_tree, fault_tree, nested_tree}
 use Rattle.sp_c_tokens.specs.Scopes.{there}
-use Rattle.sp_c_reader.specs.Reading.{kind_at, IsStop, IsStep}
+use Rattle.sp_c_steps.specs.Reading.{kind_at, IsStop, IsStep}
 use Rattle.sp_c_tokens.specs.Expecting.{IsFaultFor}
 use Rattle.sp_expr_parser.specs.Parsing.{IsParsed}
 use Rattle.sp_expr_parser.specs.Calling.{sort_of_first}
-use Rattle.sp_c_reader.specs.Declaring.{head_name}
-use Rattle.sp_c_reader.proofs.Steps.{begun, unread, part_fails, last, finished}
-use Rattle.sp_c_reader.proofs.ExpressionSteps.{first_same}
-use Rattle.sp_c_reader.proofs.Faulting.{stop_at}
-use Rattle.sp_c_reader.proofs.DeclaratorSteps.{type_on, direct_on}
-use Rattle.sp_c_reader.proofs.GroupSteps.{direct_begins_none}
+use Rattle.sp_c_steps.specs.Declaring.{head_name}
+use Rattle.sp_c_steps.proofs.Steps.{begun, unread, part_fails, last, finished}
+use Rattle.sp_c_steps.proofs.ExpressionSteps.{first_same}
+use Rattle.sp_c_steps.proofs.Faulting.{stop_at}
+use Rattle.sp_c_steps.proofs.DeclaratorSteps.{type_on, direct_on}
+use Rattle.sp_c_steps.proofs.GroupSteps.{direct_begins_none}
 
 -- ---- the tokens before some others
 

@@ -5,12 +5,13 @@ ghost use Rattle.sp_syntax.specs.View.{type_name_of};
 ghost use Rattle.sp_c_tokens.specs.Ended.{IsEnded};
 ghost use Rattle.sp_c_tokens.specs.Faults.{begins_declarator};
 ghost use Rattle.sp_c_tokens.specs.Codes.{sort_seen};
-ghost use Rattle.sp_c_reader.specs.Reading.{IsStop, IsTypeName};
-ghost use Rattle.sp_c_reader.specs.Declaring.{IsDeclared};
+ghost use Rattle.sp_c_steps.specs.Reading.{IsStop, IsTypeName};
+ghost use Rattle.sp_c_steps.specs.Declaring.{IsDeclared};
 ghost use Rattle.sp_expr_parser.specs.Parsing.{item_of};
 ghost use Rattle.sp_expr_parser.specs.Calling.{AreListed, IsEnd, sort_of_first};
 
-use sp_c_reader::{COMMA, read_declarator, read_level, read_specifiers, read_type_name};
+use sp_c_reader::{read_declarator, read_level, read_specifiers, read_type_name};
+use sp_c_steps::COMMA;
 use sp_c_tokens::{
     AlsoAllowed, Context, DeclaratorKind, Declared, Mark, Part, ReadError, Scope, Sort,
     TypeNamePart, TypeNames, begins_specifiers, fault, next_token, sort_at,

@@ -11,7 +11,7 @@ ghost use Rattle.sp_c_tokens.specs.Sorts.{sort_of};
 ghost use Rattle.sp_grammar.specs.CTokens.{view};
 ghost use Rattle.sp_c_tokens.specs.Ended.{IsEnded};
 ghost use Rattle.sp_c_tokens.specs.Faults.{is_type_name};
-ghost use Rattle.sp_c_reader.specs.Reading.{IsStop};
+ghost use Rattle.sp_c_steps.specs.Reading.{IsStop};
 ghost use Rattle.sp_expr_parser.specs.Parsing.{language_of, item_of, ask_of, CouldBe, IsFree, IsImplicitInt, IsTypeForName, Refused};
 ghost use Rattle.sp_expr_parser.specs.Calling.{IsFront, IsTold, IsUnanswered, NoEnd, Tells, choose, is_wanted};
 ghost use Rattle.sp_c_tokens.specs.declared.part.ReadError.TheVariants as stops;

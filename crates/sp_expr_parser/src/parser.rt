@@ -6,7 +6,8 @@ ghost use Rattle.sp_expr_parser.specs.Parsing.{ExpressionAnswers, TypeNameAnswer
 use crate::call::{Call, OUTSIDE, declarator_part, specifiers_part, type_name_part};
 use crate::error::{ParseError, error_of};
 use crate::parts::{count_before, tokens_from};
-use sp_c_reader::{COMMA, read_level};
+use sp_c_reader::read_level;
+use sp_c_steps::COMMA;
 use sp_c_tokens::{Context, TypeNames};
 use sp_syntax::{Declarator, Expr, Specifier, TypeName};
 use sp_tree::Token;

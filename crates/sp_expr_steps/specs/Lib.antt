@@ -1,4 +1,5 @@
 pub mod Expressions
+pub mod Forms
 pub mod Parameters
 pub mod Resuming
 pub mod Specifiers

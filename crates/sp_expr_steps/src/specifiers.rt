@@ -1,5 +1,5 @@
 //! What a struct, a member or an enumeration constant does once its parts are read (C90 6.5.2).
-ghost use Rattle.std.specs.Prelude.{◌≡◌, map};
+ghost use Rattle.std.specs.Prelude.{◌≡◌, map, MatchResult, Err};
 ghost use Rattle.sp_syntax.specs.View.{
   specifier_of,
   declarator_of,
@@ -19,11 +19,13 @@ ghost use Rattle.sp_expr_steps.specs.Parameters.{
   is_alone,
   is_alone_in,
   told_types,
+  list_told,
   param_told,
 };
 ghost use Rattle.sp_member_rules.specs.Members.{completed};
 ghost use Rattle.sp_expr_steps.specs.SyntaxView.{declarator_form_of};
 ghost use Rattle.sp_expr_steps.specs.Specifiers.{
+  stays,
   names_type,
   struct_opened,
   member_added,
@@ -53,8 +55,8 @@ pub fn names_type(specifier: &Specifier) -> bool
     }
 }
 
-/// The number of the struct or the union whose members are about to be read: F11 where its tag is of
-/// another kind, or where the innermost scope has its members already, or is reading them.
+/// The number of the struct or the union whose members are about to be read: F11 where its tag is
+/// of another kind, or where the innermost scope has its members already, or is reading them.
 pub fn struct_opened(
     env: &mut Env,
     union: bool,
@@ -80,20 +82,22 @@ pub fn struct_closed(
     number: u32,
     union: bool,
     place: Place,
-    members: Vec<(u32, CType)>,
+    members: Result<Vec<(u32, CType)>, CheckError>,
 ) -> Result<CType, CheckError>
-    ensures { AnswersIn type_of
+    ensures { MatchResult members
+        (λ members. AnswersIn type_of
         (and_then (completed (env_of env.old) number union place (members_seen members.items))
-        (λ env. accepted (structure number, env))) (env_of env.new) result }
+        (λ env. accepted (structure number, env))) (env_of env.new) result)
+        (λ error. result ≡ Err error) }
 {
-    completed(env, number, union, place, members)?;
+    completed(env, number, union, place, members?)?;
     Ok(CType::Struct(number))
 }
 
-/// A member of this type behind the others: F13 and F14 stand at its declarator where its type isn't
-/// complete, or it has no name, F9 at its name where another member has it.
+/// A member of this type behind the others: F13 and F14 stand at its declarator where its type
+/// isn't complete, or it has no name, F9 at its name where another member has it.
 #[tactic(auto, using(crate::proofs::Places::places))]
-pub fn member_added(
+fn added(
     structs: &[StructType],
     all: &mut Vec<(u32, CType)>,
     of: CType,
@@ -114,6 +118,23 @@ pub fn member_added(
     }
     all.push((name, of))?;
     Ok(())
+}
+
+/// A member behind the others, of the type that its declarator gives.
+pub fn member_added(
+    env: &Env,
+    all: &mut Vec<(u32, CType)>,
+    of: Result<CType, CheckError>,
+    declarator: &Declarator,
+) -> Result<(), CheckError>
+    ensures { MatchResult of
+        (λ of. LeadsTo
+        (stays (env_of env.now) (member_added (env_of env.now).tables.structs
+        (members_seen all.old.items) (type_of of) (declarator_of declarator.now)))
+        (members_seen all.new.items, env_of env.now) result)
+        (λ error. result ≡ Err error) }
+{
+    added(env.structs(), all, of?, declarator)
 }
 
 /// An enumeration constant whose value this expression gives; `at` is the place of the expression,
@@ -137,7 +158,7 @@ pub(crate) fn enumerator_told(
 
 /// Puts the type of a parameter behind the others; a named one is declared in the innermost scope.
 #[tactic(auto, using(crate::proofs::Places::places))]
-pub fn param_told(
+fn param_added(
     alloc: Global,
     env: &mut Env,
     number: u32,
@@ -158,6 +179,25 @@ pub fn param_told(
     named_parameter(alloc, env, number, name, of.copy(alloc)?)?;
     all.push(of)?;
     Ok(())
+}
+
+/// A parameter behind the others, of the type that its declarator gives.
+pub fn param_told(
+    alloc: Global,
+    env: &mut Env,
+    number: u32,
+    all: &mut Vec<CType>,
+    of: Result<CType, CheckError>,
+    declarator: &Declarator,
+) -> Result<(), CheckError>
+    ensures { MatchResult of
+        (λ of. LeadsTo
+        (param_told (env_of env.old) number (map type_of all.old.items) (type_of of)
+        (declarator_of declarator.now))
+        (map type_of all.new.items, env_of env.new) result)
+        (λ error. result ≡ Err error) }
+{
+    param_added(alloc, env, number, all, of?, declarator)
 }
 
 /// Whether a list has one parameter, and no `...`.
@@ -192,7 +232,7 @@ fn told(params: &[Param], all: Vec<CType>) -> Option<Vec<CType>>
 }
 
 /// The types of the parameters of a declarator of a function.
-pub fn told_types(form: &DeclaratorForm, all: Vec<CType>) -> Option<Vec<CType>>
+fn told_types(form: &DeclaratorForm, all: Vec<CType>) -> Option<Vec<CType>>
     ensures { parameters_seen result ≡
         told_types (params_of (declarator_form_of form.now)) (map type_of all.items) }
 {
@@ -204,4 +244,22 @@ pub fn told_types(form: &DeclaratorForm, all: Vec<CType>) -> Option<Vec<CType>>
         | DeclaratorForm::Pointer(_, _)
         | DeclaratorForm::Array(_, _) => None,
     }
+}
+
+/// The types of the parameters of a declarator of a function, whose scope ends.
+pub fn list_told(
+    env: &mut Env,
+    form: &DeclaratorForm,
+    all: Result<Vec<CType>, CheckError>,
+) -> Result<Option<Vec<CType>>, CheckError>
+    ensures { MatchResult all
+        (λ all. AnswersIn parameters_seen
+        (list_told (params_of (declarator_form_of form.now)) (map type_of all.items)
+        (env_of env.old))
+        (env_of env.new) result)
+        (λ error. result ≡ Err error) }
+{
+    let all = all?;
+    env.leave();
+    Ok(told_types(form, all))
 }

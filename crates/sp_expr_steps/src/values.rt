@@ -1,11 +1,11 @@
 //! What typed parts give: a call or a comma of them, the length of an array, a constant of an
 //! enumeration, a size.
-ghost use Rattle.std.specs.Prelude.{map, pos, unwrap_or};
+ghost use Rattle.std.specs.Prelude.{◌≡◌, map, pos, unwrap_or, MatchResult, Err};
 ghost use Rattle.sp_syntax.specs.View.{tree_of};
 ghost use Rattle.sp_types.specs.Typed.{of, typed};
 ghost use Rattle.sp_types.specs.Typed as tree;
 ghost use Rattle.sp_types.specs.TypedView.{typed_of, typed_list};
-ghost use Rattle.sp_types.specs.View.{type_of, signature_of, struct_of};
+ghost use Rattle.sp_types.specs.View.{type_of, signature_of};
 ghost use Rattle.sp_operands.specs.Answers.{Answers, AnswersIn, accepted};
 ghost use Rattle.sp_rules.specs.Rules.{called};
 ghost use Rattle.sp_env.specs.Declaring.{LeadsTo};
@@ -14,16 +14,16 @@ ghost use Rattle.sp_names.specs.Literals.{size_checked};
 ghost use Rattle.sp_expr_steps.specs.Expressions.{length_told, with_implicit};
 ghost use Rattle.sp_expr_steps.specs.Specifiers.{enumerator_told};
 
-use crate::kept::held;
 use crate::specifiers::enumerator_told;
 use sp_constants::constant;
 use sp_env::Env;
+use sp_kept::keeping;
 use sp_names::{implicit_name, size_checked};
 use sp_operands::CheckError;
 use sp_rules::length_given;
 use sp_syntax::{Expr, ExprForm};
 use sp_tree::{Names, Place};
-use sp_types::{CType, Signature, StructType, TypedExpr};
+use sp_types::{CType, Signature, TypedExpr};
 use sp_unary_rules::called;
 use std::alloc::Global;
 
@@ -46,18 +46,29 @@ pub fn callee_declared(
 /// A call with its arguments (C90 6.3.2.2); the signature is that of its callee.
 pub fn call_made(
     alloc: Global,
-    structs: &[StructType],
+    env: &Env,
     place: Place,
     mark: Place,
     signature: Signature,
     callee: TypedExpr,
-    arguments: Vec<TypedExpr>,
+    arguments: Result<Vec<TypedExpr>, CheckError>,
 ) -> Result<TypedExpr, CheckError>
-    ensures { Answers typed_of
-        (called (map struct_of structs.now) place mark (signature_of signature) (typed_of callee)
-        (typed_list (map typed_of arguments.items))) result }
+    ensures { MatchResult arguments
+        (λ arguments. Answers typed_of
+        (called (env_of env.now).tables.structs place mark (signature_of signature)
+        (typed_of callee) (typed_list (map typed_of arguments.items))) result)
+        (λ error. result ≡ Err error) }
 {
-    called(alloc, structs, place, mark, &signature, callee, arguments)
+    let (arguments, callee) = keeping(arguments, callee)?;
+    called(
+        alloc,
+        env.structs(),
+        place,
+        mark,
+        &signature,
+        callee,
+        arguments,
+    )
 }
 
 /// `a, b`, which has the type of `b` (C90 6.3.17).
@@ -73,7 +84,7 @@ pub fn comma(
         result }
 {
     let of = b.of().copy(alloc);
-    let ((a, b), of) = held((a, b), of)?;
+    let (of, (a, b)) = keeping(of, (a, b))?;
     Ok(TypedExpr::comma(alloc, a, b, of, place, mark)?)
 }
 
@@ -88,11 +99,17 @@ fn length_of(env: &mut Env, value: &TypedExpr, at: Place) -> Result<u64, CheckEr
 }
 
 /// The length of an array that this expression gives (C90 6.5.4.2); `at` is its place.
-pub fn length_told(env: &mut Env, value: TypedExpr, at: Place) -> Result<u64, CheckError>
-    ensures { AnswersIn (λ n. n) (length_told at (typed_of value) (env_of env.old))
-        (env_of env.new) result }
+pub fn length_told(
+    env: &mut Env,
+    value: Result<TypedExpr, CheckError>,
+    at: Place,
+) -> Result<u64, CheckError>
+    ensures { MatchResult value
+        (λ value. AnswersIn (λ n. n) (length_told at (typed_of value) (env_of env.old))
+        (env_of env.new) result)
+        (λ error. result ≡ Err error) }
 {
-    length_of(env, &value, at)
+    length_of(env, &value?, at)
 }
 
 /// The value behind which the next constant follows, where this expression gives it.
@@ -114,29 +131,18 @@ fn enumerator_of(
 /// next; `at` is the place of the expression, `place` that of the name.
 pub fn next_enumerator(
     env: &mut Env,
-    value: TypedExpr,
+    value: Result<TypedExpr, CheckError>,
     at: Place,
     name: u32,
     place: Place,
 ) -> Result<Option<i128>, CheckError>
-    ensures { AnswersIn (λ z. unwrap_or z (pos 0))
+    ensures { MatchResult value
+        (λ value. AnswersIn (λ z. unwrap_or z (pos 0))
         (enumerator_told (env_of env.old) (typed_of value) at name place)
-        (env_of env.new) result }
+        (env_of env.new) result)
+        (λ error. result ≡ Err error) }
 {
-    enumerator_of(env, &value, at, name, place)
-}
-
-/// The size of the type that an expression has (C90 6.3.3.4).
-pub fn size_of_value(
-    env: &mut Env,
-    place: Place,
-    mark: Place,
-    e: TypedExpr,
-) -> Result<TypedExpr, CheckError>
-    ensures { AnswersIn typed_of (size_checked (env_of env.old) place mark (of (typed_of e)))
-        (env_of env.new) result }
-{
-    size_checked(env, place, mark, e.of())
+    enumerator_of(env, &value?, at, name, place)
 }
 
 /// The size of a type that is named (C90 6.3.3.4).
@@ -144,10 +150,12 @@ pub fn size_of_type(
     env: &mut Env,
     place: Place,
     mark: Place,
-    of: CType,
+    of: Result<CType, CheckError>,
 ) -> Result<TypedExpr, CheckError>
-    ensures { AnswersIn typed_of (size_checked (env_of env.old) place mark (type_of of))
-        (env_of env.new) result }
+    ensures { MatchResult of
+        (λ of. AnswersIn typed_of (size_checked (env_of env.old) place mark (type_of of))
+        (env_of env.new) result)
+        (λ error. result ≡ Err error) }
 {
-    size_checked(env, place, mark, &of)
+    size_checked(env, place, mark, &of?)
 }

@@ -1,1 +1,1 @@
-mod Structs
+pub mod Structs

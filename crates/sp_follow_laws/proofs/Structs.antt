@@ -1,5 +1,5 @@
 -- The structs of a program follow those of its units.
-use Rattle.std.proofs.Common.{◌≡◌, ℕ, zero, suc, ◌<◌, Bool, true, false, ◌&&◌, ◌==◌, List, [], ◌∷◌, Option, Some, None, is_some, option_map, inl, inr, refl, ap, sym, subst, ◌∙◌, true≢false, eqb-true, eq-eqb}
+use Rattle.std.proofs.Common.{◌≡◌, ℕ, zero, suc, ◌<◌, Bool, true, false, ◌&&◌, ◌==◌, List, [], ◌∷◌, Option, Some, None, is_some, option_map, refl, ap, sym, subst, ◌∙◌, true≢false, eqb-true, eq-eqb}
 use Rattle.std.specs.Prelude.{slice_get, slice_index_or, ⊤}
 use Rattle.sp_types.specs.declared.ctype.IntKind.{IntKind}
 use Rattle.sp_types.specs.Types.{Signature, CType, void, integer, floating, pointer, array, structure, function, Struct}
@@ -8,18 +8,18 @@ use Rattle.sp_types.specs.Structs.{IsWhole, with_member, with_members}
 use Rattle.sp_types.specs.declared.extents.Extent.{Extent}
 use Rattle.sp_renaming.specs.Renaming.{number_in, renamed_type}
 use Rattle.sp_matching.specs.Matching.{Matching}
-use Rattle.sp_struct_agree.specs.Agreement.{compatible_by, members_agree, contents_agree, same_head, structs_agree}
+use Rattle.sp_struct_agree.specs.Agreement.{compatible_by, members_agree}
 use Rattle.sp_struct_agree.specs.Depths.{struct_of_table, struct_at, found_agree, agrees_within, TypesAgree}
 use Rattle.sp_struct_match.specs.Joined.{has_members, is_complete, IsStep, Joined, itself, onward, backward}
-use Rattle.sp_struct_match.specs.Matched.{of_units, IsFirst, AreMatched}
+use Rattle.sp_struct_match.specs.Matched.{of_units, AreMatched}
 use Rattle.sp_struct_match.specs.Laws.{number_of, StructsAreNumbered, JoinedAreOne, StructsAreThere}
 use Rattle.sp_link.specs.Making.{renamed_members, renamed_struct, struct_told}
 use Rattle.sp_ir.specs.Formed.{is_floating}
 use Rattle.sp_typing.specs.Sorts.{agrees}
 use Rattle.sp_table_laws.specs.Tables.{program_struct, program_structs, AreTables}
-use Rattle.sp_table_laws.proofs.Lists.{some_is, none_some, map_got, map_from, index_got, and_left, and_right}
-use Rattle.sp_table_laws.proofs.Same.{struct_some, member_some, whole_members}
-use Rattle.sp_table_laws.proofs.Stays.{table_there, types_kept, types_formed}
+use Rattle.sp_table_laws.proofs.Lists.{first_there, some_is, none_some, map_got, map_from, index_got, and_left, and_right}
+use Rattle.sp_table_laws.proofs.Same.{contents, struct_some, member_some, whole_members}
+use Rattle.sp_table_laws.proofs.Stays.{found_some, table_there, types_kept, types_formed}
 use Rattle.sp_layout_laws.specs.Laws.{HaveMembers}
 use Rattle.sp_renamed_laws.specs.Follows.{AreMembers, HasMembers, StructsFollow}
 
@@ -62,16 +62,6 @@ agrees_on (function r) (function q) c h g = function_on r q c g
 agrees_on (structure j) (structure k) c h g =
     subst (λ i. agrees (structure i) c ≡ true) (sym (eqb-true j k h)) g
 agrees_on a b c h g = absurd (true≢false (sym h))
-
--- a renamed type is of the sort of the type
-floating_renamed : (ns : List ℕ) (t : CType) → is_floating (renamed_type ns t) ≡ is_floating t
-floating_renamed ns void = refl
-floating_renamed ns (integer k) = refl
-floating_renamed ns (floating k) = refl
-floating_renamed ns (pointer t) = refl
-floating_renamed ns (array t n) = refl
-floating_renamed ns (structure k) = refl
-floating_renamed ns (function s) = refl
 
 -- ---- members that are alike, in the program
 
@@ -143,7 +133,7 @@ module _ (us : List (List Struct)) (m : Matching) (matched : AreMatched us m) (t
   numbers u = slice_index_or m.numbers u []
 
   -- a struct with an extent has members
-  complete_here : (u : ℕ) (ss : List Struct) (k : ℕ) (s : Struct) (e : Extent) → slice_get us u ≡ Some ss
+  pub complete_here : (u : ℕ) (ss : List Struct) (k : ℕ) (s : Struct) (e : Extent) → slice_get us u ≡ Some ss
       → slice_get ss k ≡ Some s → s.extent ≡ Some e → is_complete us (u, k) ≡ true
   complete_here u ss k s e at there whole =
       let v : (l : List (ℕ × CType)) × (s.members ≡ Some l) × IsWhole ss s (Some l) =
@@ -151,7 +141,7 @@ module _ (us : List (List Struct)) (m : Matching) (matched : AreMatched us m) (t
       ap has_members (ap (λ o. struct_of_table o k) at ∙ there) ∙ ap is_some v.1
 
   -- structs that are joined have one number
-  one_number : (x y : ℕ × ℕ) (s t : Struct) → struct_at us x ≡ Some s → struct_at us y ≡ Some t
+  pub one_number : (x y : ℕ × ℕ) (s t : Struct) → struct_at us x ≡ Some s → struct_at us y ≡ Some t
       → is_complete us x ≡ true → is_complete us y ≡ true → Joined us x y
       → number_in (numbers x.0) x.1 ≡ number_in (numbers y.0) y.1
   one_number x y s t a b c d j =
@@ -221,12 +211,6 @@ module _ (us : List (List Struct)) (m : Matching) (matched : AreMatched us m) (t
       let w : (ss : List Struct) × (slice_get us x.0 ≡ Some ss) × (slice_get ss x.1 ≡ Some s) = table_there us x s a in
       (w.0, w.1, subst (IsWhole w.0 s) e (tables x.0 w.0 w.1 x.1 s w.2))
 
-  contents : (agree : ℕ → ℕ → Bool) (s t : Struct) (ms ks : List (ℕ × CType)) → s.members ≡ Some ms
-      → t.members ≡ Some ks → structs_agree agree s t ≡ true → members_agree agree ms ks ≡ true
-  contents agree s t ms ks a b h =
-      (λ i. contents_agree agree (sym a i) (sym b i))
-      ∙ and_right (same_head s t) (contents_agree agree s.members t.members) h
-
   step_alike : (x y : ℕ × ℕ) (s t : Struct) (ms ks : List (ℕ × CType)) → IsStep us x y
       → struct_at us x ≡ Some s → struct_at us y ≡ Some t → s.members ≡ Some ms → t.members ≡ Some ks
       → AreAlike (numbers x.0) (numbers y.0) ms ks
@@ -270,11 +254,6 @@ module _ (us : List (List Struct)) (m : Matching) (matched : AreMatched us m) (t
   joined_full x y (itself e) h = subst (λ z. is_complete us z ≡ true) e h
   joined_full x y (onward z j step) h = step.1
   joined_full x y (backward z j step) h = step.0
-
-  first_there : {A : Type 0} (P : A → Type 0) (xs : List A) (r : A) → IsFirst P xs (Some r) → P r
-  first_there P [] r h = absurd (none_some r (sym h))
-  first_there P (x ∷ xs) r (inl h) = subst P (some_is x r (sym h.1)) h.0
-  first_there P (x ∷ xs) r (inr h) = first_there P xs r h.1
 
   -- ---- the structs of a unit
 
@@ -332,7 +311,3 @@ members_there us m matched are_there have n s at none =
     (none_renamed (slice_index_or m.numbers r.0.0 []) t.0.members
     (ap (λ o. (struct_told (slice_index_or m.numbers r.0.0 []) o).members) (sym t.1)
     ∙ ap (λ z. z.members) r.2 ∙ none))
-  where
-    found_some : (o : Option Struct) → is_some o ≡ true → (s : Struct) × (o ≡ Some s)
-    found_some None h = absurd (true≢false (sym h))
-    found_some (Some s) h = (s, refl)

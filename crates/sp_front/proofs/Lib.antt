@@ -1,3 +1,4 @@
 pub mod EndedLaws
 pub mod FileSteps
+pub mod TypedFiles
 pub mod ProgramSteps

@@ -2,21 +2,22 @@
 use Rattle.std.proofs.Common.{◌≡◌, ℕ, Bool, List, [], ◌∷◌, map, Err, inr, refl, ap, subst}
 use Rattle.std.specs.Prelude.{◌||◌}
 use Rattle.std.specs.List.{list_any}
-use Rattle.sp_tree.specs.declared.fault.Fault.{Fault}
 use Rattle.sp_types.specs.Programs.{Program}
 use Rattle.sp_operands.specs.Answers.{accepted, refused}
 use Rattle.sp_operands.specs.declared.error.CheckError.{CheckError}
 use Rattle.sp_operands.specs.declared.error.CheckError.TheVariants as check
 use Rattle.sp_units.specs.Units.{CheckedUnit}
 use Rattle.sp_program.specs.Links.{Links, LinksTo}
+use Rattle.sp_lower.specs.declared.program.LowerError.{LowerError}
+use Rattle.sp_lower.specs.declared.program.LowerError.TheVariants as lower
 use Rattle.sp_lower.specs.Programs.{start_place}
+use Rattle.sp_lower.specs.Answers.{Lowers}
 use Rattle.sp_front.specs.declared.front.FrontError.{FrontError}
 use Rattle.sp_front.specs.declared.front.FrontError.TheVariants as errors
 use Rattle.sp_front.specs.Sources.{Source}
-use Rattle.sp_front.specs.Answers as specs
-use Rattle.sp_front.specs.Answers.{IsProgramOf, IsRefusedAt, IsUnlinked, AreRefused, in_file, unlinked, Answers}
-use Rattle.sp_front.specs.inner.Errors.{of_check}
-use Rattle.sp_front.specs.inner.Steps.{AreUnits, MakesProgram, IsRefusedProgram, past_limit, unbuilt, LowersProgram}
+use Rattle.sp_front.specs.Answers.{IsProgramOf, past_limit, whole, AnswersWhole, Answers}
+use Rattle.sp_front.specs.inner.Errors.{of_check, of_lower}
+use Rattle.sp_front.specs.inner.Steps.{AreUnits, MakesProgram}
 
 -- units that are linked are a program
 pub linked : (sources : List Source) (names : List (List ℕ)) (units seen : List CheckedUnit) (p : Program)
@@ -41,16 +42,17 @@ not_linked sources names units seen (check.Fault f) read same links = inr (recor
 })
 not_linked sources names units seen check.NoMemory read same links = tt
 
-refused_whole : (sources : List Source) (names : List (List ℕ)) (p : Program) (fault : Fault)
-    → IsProgramOf sources names p → IsRefusedProgram p names fault → AreRefused sources names fault
-refused_whole sources names p fault is (past_limit past place) = specs.past_limit p is past place
-refused_whole sources names p fault is (unbuilt l lowering fits calls e) = specs.unbuilt p l is lowering fits calls e
+-- files are refused as a program past a limit is
+pub past : (sources : List Source) (names : List (List ℕ)) (p : Program) (e : LowerError)
+    → IsProgramOf sources names p → Lowers p names (Err e) → AnswersWhole sources names (Err (of_lower e))
+past sources names p (lower.Fault f) is stands = past_limit p is stands.0 stands.1
+past sources names p lower.NoMemory is stands = tt
 
--- files are refused as their program is
-pub not_lowered : (sources : List Source) (names : List (List ℕ)) (p : Program) (e : FrontError)
-    → IsProgramOf sources names p → LowersProgram p names (Err e) → Answers sources names (Err e)
-not_lowered sources names p (errors.Fault f) is stands = refused_whole sources names p f is stands
-not_lowered sources names p errors.NoMemory is stands = tt
+-- or as they are before a form is looked for that isn't built
+pub refused_whole : (sources : List Source) (names : List (List ℕ)) (e : FrontError)
+    → AnswersWhole sources names (Err e) → Answers sources names (Err e)
+refused_whole sources names (errors.Fault f) stands = whole stands
+refused_whole sources names errors.NoMemory stands = tt
 
 -- a test of what a list stands for
 pub any_of : {A B : Type 0} (p : B → Bool) (f : A → B) (xs : List A)

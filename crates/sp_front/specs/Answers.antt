@@ -48,13 +48,17 @@ abbrev pub calls_library : Lowered → Bool
 calls_library l = list_any (λ (n : Node). is_library n.command) l.nodes
 
 -- the lowering of the files' program, within the limits, and formed
-pub record IsLoweredOf (sources : List Source) (names : List (List ℕ)) (l : Lowered) : Type 0 where
+pub record IsLoweringOf (sources : List Source) (names : List (List ℕ)) (l : Lowered) : Type 0 where
   pub program : Program
   pub is : IsProgramOf sources names program
   pub lowering : IsLowering program names l
   pub fits : Fits l
-  pub built : calls_library l ≡ false
   pub formed : IsFormed l
+
+-- which has no form that isn't built
+pub record IsLoweredOf (sources : List Source) (names : List (List ℕ)) (l : Lowered) : Type 0 where
+  pub whole : IsLoweringOf sources names l
+  pub built : calls_library l ≡ false
 
 -- ---- faults
 
@@ -77,20 +81,27 @@ pub record IsUnlinked (sources : List Source) (names : List (List ℕ)) (fault :
   pub linked : Links names start_place units (refused fault.kind fault.place)
 
 -- The files are refused: at the fault of the first that has one; else at one of the whole program;
--- else since that is past a limit; else since it has a form that isn't built.
-pub data AreRefused (sources : List Source) (names : List (List ℕ)) (fault : Fault) : Type 0 where
-  in_file : IsRefusedAt sources names fault → AreRefused sources names fault
-  unlinked : IsUnlinked sources names fault → AreRefused sources names fault
+-- else since that is past a limit.
+pub data AreRefusedWhole (sources : List Source) (names : List (List ℕ)) (fault : Fault) : Type 0 where
+  in_file : IsRefusedAt sources names fault → AreRefusedWhole sources names fault
+  unlinked : IsUnlinked sources names fault → AreRefusedWhole sources names fault
   past_limit :
       (program : Program) → IsProgramOf sources names program → Refuses program names fault.kind
-      → fault.place ≡ start_place → AreRefused sources names fault
-  unbuilt :
-      (program : Program) (l : Lowered) → IsProgramOf sources names program
-      → IsLowering program names l → Fits l → calls_library l ≡ true
-      → fault ≡ record { kind = Unbuilt; place = start_place }
-      → AreRefused sources names fault
+      → fault.place ≡ start_place → AreRefusedWhole sources names fault
 
--- that as an answer of the code; want of memory says nothing
+-- Else since it has a form that isn't built.
+pub data AreRefused (sources : List Source) (names : List (List ℕ)) (fault : Fault) : Type 0 where
+  whole : AreRefusedWhole sources names fault → AreRefused sources names fault
+  unbuilt :
+      (l : Lowered) → IsLoweringOf sources names l → calls_library l ≡ true
+      → fault ≡ record { kind = Unbuilt; place = start_place } → AreRefused sources names fault
+
+-- Each as an answer of the code; want of memory says nothing.
+abbrev pub AnswersWhole : List Source → List (List ℕ) → Result CodeLowered FrontError → Type 0
+AnswersWhole sources names (Ok l) = IsLoweringOf sources names (lowered_of l)
+AnswersWhole sources names (Err (errors.Fault f)) = AreRefusedWhole sources names f
+AnswersWhole sources names (Err errors.NoMemory) = ⊤
+
 abbrev pub Answers : List Source → List (List ℕ) → Result CodeLowered FrontError → Type 0
 Answers sources names (Ok l) = IsLoweredOf sources names (lowered_of l)
 Answers sources names (Err (errors.Fault f)) = AreRefused sources names f

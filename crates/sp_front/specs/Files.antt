@@ -12,7 +12,7 @@ use Rattle.sp_decl_parser.specs.Parsing.{IsUnitRefused}
 use Rattle.sp_operands.specs.Answers.{accepted, refused}
 use Rattle.sp_units.specs.Units.{CheckedUnit}
 use Rattle.sp_decl_check.specs.Units.{unit_checked}
-use Rattle.sp_front.specs.Sources.{Source}
+use Rattle.sp_front.specs.Sources.{Source, IsOfBytes}
 
 -- how many expressions, declarators, initialisers and statements may be inside one another
 abbrev pub max_depth : ℕ
@@ -30,10 +30,11 @@ pub record Progress : Type 0 where
 abbrev pub beginning : Progress
 beginning = record { names = []; room = max_tokens }
 
--- A file has these tokens, or this first fault as text. Its name is added before it is scanned, and
--- the names that its tokens tell by number while it is, in their order; nothing else is added to the
--- names of a file with tokens.
+-- A file of bytes has these tokens, or this first fault as text. Its name is added before it is
+-- scanned, and the names that its tokens tell by number while it is, in their order; nothing else is
+-- added to the names of a file with tokens.
 pub record IsScanned (before : Progress) (s : Source) (names : List (List ℕ)) (found : Result (List Token) Fault) : Type 0 where
+  pub bytes : IsOfBytes s
   pub number : ℕ
   pub own : slice_get names number ≡ Some s.name
   pub kept : Extends (with_name before.names s.name) names

@@ -1,5 +1,5 @@
 -- Files as they are read: their names and their texts.
-use Rattle.std.specs.Prelude.{◌+◌, ◌≤◌, ℕ, List, [], ◌∷◌, length}
+use Rattle.std.specs.Prelude.{◌+◌, ◌<◌, ◌≤◌, ℕ, List, [], ◌∷◌, length, All}
 use Rattle.sp_front.specs.declared.sources.Source.{Source as CodeSource}
 
 pub record Source : Type 0 where
@@ -8,6 +8,11 @@ pub record Source : Type 0 where
 
 abbrev pub source_of : CodeSource → Source
 source_of s = record { name = s.name.items; text = s.text.items }
+
+-- its name and its text are bytes
+pub record IsOfBytes (s : Source) : Type 0 where
+  pub name : All (λ b. b < 256) s.name
+  pub text : All (λ b. b < 256) s.text
 
 -- the bytes of all files
 abbrev pub total_length : List Source → ℕ

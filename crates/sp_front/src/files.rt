@@ -1,7 +1,7 @@
 //! Files: each is scanned, parsed and checked before the next.
-ghost use Rattle.std.specs.Prelude.{◌+◌, ◌-◌, ◌^◌, ◌<◌, ◌≤◌, ◌≡◌, [], length, map, IfOk};
+ghost use Rattle.std.specs.Prelude.{◌+◌, ◌-◌, ◌^◌, ◌<◌, ◌≤◌, ◌≡◌, [], length, map, All, IfOk};
 ghost use Rattle.sp_c_tokens.specs.Ended.{IsEnded};
-ghost use Rattle.sp_front.specs.Sources.{source_of, AreWithin};
+ghost use Rattle.sp_front.specs.Sources.{source_of, IsOfBytes, AreWithin};
 ghost use Rattle.sp_front.specs.inner.Steps.{Scans, GivesUnit, ReadsFile, ReadsFiles};
 
 use crate::front::FrontError;
@@ -23,6 +23,19 @@ pub struct ReadFile {
     pub room: u64,
 }
 
+/// Bytes are below 256: a clause knows it of a slice, but not of a field. The call does nothing.
+fn are_bytes(bytes: &[u8])
+    ensures { All (λ b. b < 256) bytes.now }
+{}
+
+/// The same of a file's name and text.
+fn is_of_bytes(source: &Source)
+    ensures { IsOfBytes (source_of source.now) }
+{
+    are_bytes(&source.name);
+    are_bytes(&source.text);
+}
+
 /// The tokens of a file, before which the names are these, and which may have so many.
 fn tokens_of(
     alloc: Global,
@@ -37,6 +50,7 @@ fn tokens_of(
     ensures few { IfOk result (λ tokens. length tokens.items ≤ room + 1) }
     ensures count { length names.new ≤ length names.old + length (source_of source.now).text + 1 }
 {
+    is_of_bytes(source);
     let number = names.add(&source.name)?;
     let tokens = scan(alloc, &source.text, number, room, names)?;
     Ok(tokens)

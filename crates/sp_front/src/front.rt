@@ -15,8 +15,7 @@ use std::alloc::{AllocError, AllocFailed};
 pub enum FrontError {
     /// The first fault of the files, or of their program.
     Fault(Fault),
-    /// Memory ran out. This comes too where the lowering isn't formed; no program is known for
-    /// which it isn't.
+    /// Memory ran out.
     NoMemory,
 }
 

@@ -4,14 +4,16 @@
 //! scanned, parsed and checked before the next is begun; then their units are linked, and the
 //! program is lowered. Out comes the lowered program, which is formed, or the first fault: that of
 //! the first file that is refused, else one of the whole program, which stands where the first file
-//! begins. The *room* is how many tokens the files that are left may have.
+//! begins. That it is formed isn't tested: it is a law (`sp_program_laws`). The *room* is how many
+//! tokens the files that are left may have.
 //!
 //! So the files a.c, `int x[3];`, and b.c, `int main(void) { return 1; }`, are one program. Without
 //! the second semicolon b.c is refused at b.c:1:27, and a.c alone at a.c:1:1, since it has no
 //! `main`.
 //!
 //! The layer above uses [`lowered_of`] alone. Its contract (`Answers` of `specs/Answers.antt`) says
-//! which program it is, or which fault.
+//! which program it is, or which fault. A program that calls the library is refused there, since
+//! its effects aren't built yet; [`lowering_of`] gives its lowering too, for the programs of rows.
 #![tactic(auto)]
 
 mod files;
@@ -20,5 +22,5 @@ mod program;
 mod sources;
 
 pub use front::FrontError;
-pub use program::lowered_of;
+pub use program::{lowered_of, lowering_of};
 pub use sources::Source;

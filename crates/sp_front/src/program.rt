@@ -5,16 +5,16 @@ ghost use Rattle.sp_types.specs.Programs.{program_of};
 ghost use Rattle.sp_ir.specs.View.{command_of};
 ghost use Rattle.sp_ir.specs.Programs as ir;
 ghost use Rattle.sp_front.specs.Sources.{source_of, AreWithin};
-ghost use Rattle.sp_front.specs.Answers.{Answers, is_library, calls_library};
-ghost use Rattle.sp_front.specs.inner.Steps.{MakesProgram, LowersProgram};
+ghost use Rattle.sp_front.specs.Answers.{Answers, AnswersWhole, is_library, calls_library};
+ghost use Rattle.sp_front.specs.inner.Steps.{MakesProgram};
 
 use crate::files::read_files;
 use crate::front::FrontError;
 use crate::sources::Source;
-use sp_formed::is_formed;
 use sp_ir::{Command, Lowered, Node};
 use sp_lower::lower;
 use sp_program::link;
+use sp_program_laws::programs_are_typed;
 use sp_tree::{Fault, FaultKind, Names, Place};
 use sp_types::Program;
 use std::alloc::Global;
@@ -58,24 +58,25 @@ fn calls_library(lowered: &Lowered) -> bool
     call_library(&lowered.nodes)
 }
 
-/// The lowering of a program.
-fn lowering(alloc: Global, program: &Program, names: &Names) -> Result<Lowered, FrontError>
-    ensures { LowersProgram (program_of program.now) names.now result }
+/// The lowering of the program that files make, which may call the library, or the first fault.
+/// `names` then holds the names that places tell by number: those of the program, or that of the
+/// fault.
+pub fn lowering_of(
+    alloc: Global,
+    sources: &[Source],
+    names: &mut Names,
+) -> Result<Lowered, FrontError>
+    requires empty { names.old ≡ [] }
+    requires within { AreWithin (map source_of sources.now) }
+    ensures { AnswersWhole (map source_of sources.now) names.new result }
 {
-    let lowered = lower(alloc, program, names)?;
-    if calls_library(&lowered) {
-        let kind = FaultKind::Unbuilt;
-        let place = START;
-        return Err(FrontError::Fault(Fault { kind, place }));
-    }
-    if !is_formed(alloc, &lowered)? {
-        return Err(FrontError::NoMemory);
-    }
+    programs_are_typed();
+    let program = program_of(alloc, sources, names)?;
+    let lowered = lower(alloc, &program, names)?;
     Ok(lowered)
 }
 
-/// The lowering of the program that files make, or the first fault. `names` then holds the names
-/// that places tell by number: those of the program, or that of the fault.
+/// The same, but a program that calls the library is refused, where the first file begins.
 pub fn lowered_of(
     alloc: Global,
     sources: &[Source],
@@ -85,7 +86,11 @@ pub fn lowered_of(
     requires within { AreWithin (map source_of sources.now) }
     ensures { Answers (map source_of sources.now) names.new result }
 {
-    let program = program_of(alloc, sources, names)?;
-    let lowered = lowering(alloc, &program, names)?;
+    let lowered = lowering_of(alloc, sources, names)?;
+    if calls_library(&lowered) {
+        let kind = FaultKind::Unbuilt;
+        let place = START;
+        return Err(FrontError::Fault(Fault { kind, place }));
+    }
     Ok(lowered)
 }

@@ -14,7 +14,7 @@ use Rattle.sp_unit_laws.proofs.Longer.{type_longer}
 use Rattle.sp_unit_laws.proofs.Stays.{Stays, type_stays, member_some}
 use Rattle.sp_typed_laws.specs.Sound.{HasExtent, IsSound, AreSoundIn, AreSoundMembers}
 use Rattle.sp_typed_laws.proofs.Types.{IsSoundTable, IsLaid, type_laid}
-use Rattle.sp_leaf_laws.proofs.Shapes.{shape_stays}
+use Rattle.sp_typed_laws.proofs.Shapes.{shape_stays}
 use Rattle.sp_leaf_laws.proofs.Counts.{IsCounted, counted, HasMembers, has_members}
 
 pub record IsWholeType (ss : List Struct) (t : CType) (s : Shape) : Type 0 where

@@ -26,15 +26,14 @@ use Rattle.sp_typing.specs.Trees.{Scene}
 use Rattle.sp_unit_laws.proofs.Lists.{none_some}
 use Rattle.sp_unit_laws.proofs.After.{Gives, gives, gives_then, gives_met}
 use Rattle.sp_written_laws.specs.Written.{IsWritten, IsWrittenInit, AreWrittenInits}
-use Rattle.sp_typed_laws.specs.Sound.{scene_of}
+use Rattle.sp_typed_laws.specs.Sound.{scene_of, AreBytes}
 use Rattle.sp_typed_laws.proofs.Trees.{IsValued, IsOf, tree_converted}
 use Rattle.sp_typed_laws.proofs.Envs.{IsFit, Reaches, reaches_nowhere, grows_of, fit_table}
 use Rattle.sp_typed_laws.proofs.After.{After, done, next, given as given_part, either, staying, taken as taken_then}
 use Rattle.sp_typed_laws.proofs.Expressions.{checked_value}
-use Rattle.sp_leaf_laws.specs.Leaves.{AreBytes}
 use Rattle.sp_leaf_laws.proofs.Initialisers.{only_written}
 use Rattle.sp_leaf_laws.proofs.Values.{kept_type}
-use Rattle.sp_leaf_laws.proofs.Characters.{text_low}
+use Rattle.sp_typed_laws.proofs.Characters.{text_low}
 use Rattle.sp_leaf_laws.proofs.Literals.{ended_low, ended_fits}
 use Rattle.sp_leaf_laws.proofs.Spans.{Precedes, Places, AreAlike, CoversShape, CoversElements}
 use Rattle.sp_leaf_laws.proofs.Complete.{IsWholeType, whole_stays, HasElements, elements_of}
@@ -213,7 +212,7 @@ module _ (names : List (List ℕ)) (bytes : AreBytes names) (own : ℕ → Bool)
       → IsFit own env → IsWritten e → is_structure t ≡ false → IsAtIn env vs t k end
       → After own env (AreValuesIn end) (leaf_given names env w vs t k e)
   leaf_given_values env w vs t k end e f r plain h =
-      next (checked_value names own env e f r) (λ x g q. staying g.fit
+      next (checked_value names bytes own env e f r) (λ x g q. staying g.fit
       (leaf_values P (scene_of own x.1) x.1.tables.objects w (place_of e) vs t k end x.0
       (at_kept env x.1 vs t k end f g h) plain q))
 

@@ -28,15 +28,16 @@ use Rattle.sp_typing.specs.Starts.{leaf_type, IsLeafValue, AreApart, AreLeafValu
 use Rattle.sp_unit_laws.proofs.Lists.{Each, none_some, some_is, get_below}
 use Rattle.sp_unit_laws.proofs.After.{Gives, gives, gives_none, gives_then, gives_met, gives_given}
 use Rattle.sp_written_laws.specs.Written.{AreWrittenInits}
-use Rattle.sp_typed_laws.specs.Sound.{IsSound, scene_of}
+use Rattle.sp_typed_laws.specs.Sound.{IsSound, scene_of, AreBytes}
 use Rattle.sp_typed_laws.proofs.Types.{IsSoundTable, complete_sized, size_laid}
 use Rattle.sp_typed_laws.proofs.Envs.{IsFit, Reaches, grows_of, fit_table}
-use Rattle.sp_typed_laws.proofs.After.{Any, After}
+use Rattle.sp_typed_laws.proofs.After.{After}
 use Rattle.sp_typed_laws.proofs.Law.{fit_of}
-use Rattle.sp_leaf_laws.specs.Leaves.{AreBytes, LeavesAreTyped}
+use Rattle.sp_leaf_laws.specs.Leaves.{LeavesAreTyped}
 use Rattle.sp_leaf_laws.proofs.Values.{gives_after}
 use Rattle.sp_leaf_laws.proofs.Literals.{added_typed}
-use Rattle.sp_leaf_laws.proofs.Initialisers.{filled_sound}
+use Rattle.sp_leaf_laws.proofs.Initialisers.{none_set, filled_sound}
+use Rattle.sp_leaf_laws.proofs.Sets.{AreSetIn}
 use Rattle.sp_leaf_laws.proofs.Spans.{limit, Places, AreAlike, CoversShape, CoversElements}
 use Rattle.sp_leaf_laws.proofs.Counts.{IsCounted}
 use Rattle.sp_leaf_laws.proofs.Complete.{IsWholeType, whole_type, whole_stays, leaves_counted, leaves_low}
@@ -329,7 +330,8 @@ module _ (names : List (List ℕ)) (bytes : AreBytes names) (own : ℕ → Bool)
       → Gives (AreLeavesIn own) (and_then (elements_filled t is) (measured_then w (array t None)))
   open_elements t is r h =
       by (elements_filled t is)
-      (filled_sound names own env w (record { runs = elements t 0 None ∷ []; values = [] }) is f r)
+      (filled_sound names bytes own env w (record { runs = elements t 0 None ∷ []; values = [] })
+      is f r (none_set w env))
       (λ g. open_filled names env w f.formed.table
       (record { runs = elements t 0 None ∷ []; values = [] }) is (g, tt))
     where
@@ -342,7 +344,7 @@ module _ (names : List (List ℕ)) (bytes : AreBytes names) (own : ℕ → Bool)
           (grows_of own env later f g).stays t e h p) in
           none_some e (sym h ∙ ap (λ (x : Env). layout x.tables.structs t) (sym is) ∙ p)
 
-      by : (c : Checked (List (ℕ × Typed) × Env)) → After own env Any c
+      by : (c : Checked (List (ℕ × Typed) × Env)) → After own env (AreSetIn w) c
           → (IsOpen env.tables.structs t → Gives (λ y. (y.0 ≡ []) × (y.1 ≡ env)) c)
           → Gives (AreLeavesIn own) (and_then c (measured_then w (array t None)))
       by (refused k p) a same = gives_none

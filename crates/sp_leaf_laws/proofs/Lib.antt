@@ -1,5 +1,7 @@
 pub mod Values
-pub mod Shapes
+pub mod Alone
+pub mod Constants
+pub mod Sets
 pub mod Counts
 pub mod Spans
 pub mod Complete

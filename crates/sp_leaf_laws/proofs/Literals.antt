@@ -23,9 +23,9 @@ use Rattle.sp_initialisers.specs.Initialisers.{leaf_number, last_leaf, how_many,
 use Rattle.sp_typing.specs.Starts.{AreLeafValues}
 use Rattle.sp_unit_laws.proofs.Lists.{each_pushed, pushed_length}
 use Rattle.sp_unit_laws.proofs.After.{Gives, gives, gives_none, gives_then, gives_met}
-use Rattle.sp_typed_laws.specs.Sound.{scene_of}
-use Rattle.sp_leaf_laws.specs.Leaves.{AreBytes}
-use Rattle.sp_leaf_laws.proofs.Characters.{AreLow, text_low, characters_typed}
+use Rattle.sp_typed_laws.specs.Sound.{scene_of, AreBytes}
+use Rattle.sp_typed_laws.proofs.Characters.{AreLow, text_low, characters_typed}
+use Rattle.sp_leaf_laws.proofs.Characters.{character_held}
 
 -- ---- the bytes with their zero
 
@@ -94,7 +94,8 @@ module _ (names : List (List ℕ)) (bytes : AreBytes names) (own : ℕ → Bool)
         },
         env,
       )}
-      (characters_typed (scene_of own env) k n p kind (ended (Some n) bs) (ended_fits n bs room)
+      (characters_typed (scene_of own env) k n p (character_held k kind) (ended (Some n) bs)
+      (ended_fits n bs room)
       (ended_low (Some n) bs low))
   told_typed k None p bs kind low room =
       let n : ℕ = how_many (last_leaf (characters k p 0 (bs ++ 0 ∷ []))) 1 in
@@ -108,7 +109,7 @@ module _ (names : List (List ℕ)) (bytes : AreBytes names) (own : ℕ → Bool)
       )}
       (subst (λ u. AreLeafValues (scene_of own (with_length env true u)) u
       (characters k p 0 (bs ++ 0 ∷ []))) (sym is)
-      (characters_typed (scene_of own env) k n p kind (bs ++ 0 ∷ [])
+      (characters_typed (scene_of own env) k n p (character_held k kind) (bs ++ 0 ∷ [])
       (let last : last_leaf (characters k p 0 (bs ++ 0 ∷ [])) ≡ 0 + length bs =
       last_of k p 0 bs 0 in
       omega (arith, last, pushed_length bs 0)) (ended_low None bs low))))

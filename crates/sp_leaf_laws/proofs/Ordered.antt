@@ -14,7 +14,8 @@ use Rattle.sp_typing.specs.Sorts.{same_value}
 use Rattle.sp_typing.specs.Trees.{Scene, IsTyped}
 use Rattle.sp_unit_laws.proofs.Lists.{Each, each_none, each_pushed, each_behind, none_some, some_is, get_below}
 use Rattle.sp_typed_laws.proofs.Grows.{Grows, typed_stays}
-use Rattle.sp_leaf_laws.proofs.Characters.{AreLow, character_held}
+use Rattle.sp_typed_laws.proofs.Characters.{AreLow}
+use Rattle.sp_leaf_laws.proofs.Characters.{character_held}
 use Rattle.sp_leaf_laws.proofs.Spans.{Precedes, Places, precedes_through}
 
 -- the value of a leaf that is there
@@ -114,7 +115,7 @@ module _ (P : Places) (s : Scene) where
     character_value_of : (i b : ℕ) → P i (integer k) → b < 256
         → IsValue P s (i, typed (tree.constant (character_value k b)) (integer k) p p)
     character_value_of i b there low = record {
-      typed = (refl, tt, character_held k b kind low);
+      typed = (refl, tt, character_held k kind b low);
       leaf = integer k;
       there = there;
       scalar = refl;

@@ -14,7 +14,7 @@ use Rattle.sp_typing.specs.Starts.{leaf_type, member_leaf_type}
 use Rattle.sp_unit_laws.proofs.Lists.{none_some, some_is}
 use Rattle.sp_unit_laws.proofs.Stays.{Stays}
 use Rattle.sp_typed_laws.proofs.Types.{IsSoundTable}
-use Rattle.sp_leaf_laws.proofs.Shapes.{struct_same}
+use Rattle.sp_typed_laws.proofs.Shapes.{struct_same}
 use Rattle.sp_leaf_laws.proofs.Spans.{Precedes, Places, AreAlike, CoversShape, CoversShapes, CoversElements, HasCount, IsEnd, HasType, leaf_there, one_there, one_more, plus_below, end_behind, precedes_through, precedes_end, precedes_plus, first_element, other_elements, first_member, other_members, covers_plus}
 use Rattle.sp_leaf_laws.proofs.Complete.{IsWholeType, AreWholeTypes, leaves_told, leaves_some, leaves_low, whole_stays, all_whole_stay}
 

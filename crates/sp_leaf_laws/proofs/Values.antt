@@ -4,9 +4,8 @@ use Rattle.sp_types.specs.Types.{CType, integer, pointer, structure, Struct}
 use Rattle.sp_types.specs.Compatible.{convertible}
 use Rattle.sp_operands.specs.Answers.{Checked, accepted, refused, and_then}
 use Rattle.sp_env.specs.Env.{Env}
-use Rattle.sp_typing.specs.Sorts.{same_value, IsStored}
+use Rattle.sp_typing.specs.Sorts.{same_value, IsStored, IsKnown}
 use Rattle.sp_unit_laws.proofs.After.{Gives, gives_none}
-use Rattle.sp_typed_laws.specs.Laws.{IsKnown}
 use Rattle.sp_typed_laws.proofs.Types.{number_equals}
 use Rattle.sp_typed_laws.proofs.Envs.{Reaches}
 use Rattle.sp_typed_laws.proofs.After.{After}

@@ -1,5 +1,5 @@
 -- The values between the braces of an array or a struct are well typed start values (C90 6.5.7).
-use Rattle.std.specs.Prelude.{◌≡◌, ℕ, ◌<◌, Bool, true, false, List, Some, slice_get}
+use Rattle.std.specs.Prelude.{◌≡◌, ℕ, Bool, true, false, List}
 use Rattle.sp_syntax.specs.Syntax.{Init, list}
 use Rattle.sp_types.specs.Types.{CType, array, structure}
 use Rattle.sp_types.specs.Structs.{IsFormed}
@@ -10,12 +10,7 @@ use Rattle.sp_initialisers.specs.declared.targets.Target.{Target}
 use Rattle.sp_initialisers.specs.Initialisers.{Started, started}
 use Rattle.sp_typing.specs.Starts.{AreLeafValues}
 use Rattle.sp_written_laws.specs.Written.{IsWrittenInit}
-use Rattle.sp_typed_laws.specs.Sound.{IsSound, IsSoundEnv, scene_of}
-
--- names and literals are bytes
-abbrev pub AreBytes : List (List ℕ) → Type 0
-AreBytes names = (i j b : ℕ) (bytes : List ℕ) → slice_get names i ≡ Some bytes
-    → slice_get bytes j ≡ Some b → b < 256
+use Rattle.sp_typed_laws.specs.Sound.{AreBytes, IsSound, IsSoundEnv, scene_of}
 
 -- values that go to the leaves of an object: those of an array or a struct between braces
 abbrev pub goes_to_leaves : CType → Init → Bool

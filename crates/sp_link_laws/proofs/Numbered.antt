@@ -137,7 +137,7 @@ module _ (sss : List (List ℕ)) where
   units_extend (x ∷ xs) y n r h =
       units_extend xs (next_unit sss y x) n r (unit_extends (slice_index_or sss (length y.0) []) (length y.0) y.1 x n r h)
 
-  units_keep : (xs : List CheckedUnit) (y : List Numbers × Joined) (i : ℕ) (m : Numbers) → slice_get y.0 i ≡ Some m → slice_get (units_joined sss y xs).0 i ≡ Some m
+  pub units_keep : (xs : List CheckedUnit) (y : List Numbers × Joined) (i : ℕ) (m : Numbers) → slice_get y.0 i ≡ Some m → slice_get (units_joined sss y xs).0 i ≡ Some m
   units_keep [] y i m h = h
   units_keep (x ∷ xs) y i m h =
       units_keep xs (next_unit sss y x) i m (pushed_before y.0 (unit_joined (slice_index_or sss (length y.0) []) (length y.0) y.1 x).0 m i h)

@@ -59,11 +59,11 @@ no_object k n e = absurd (cc)
 -- ---- what stays
 
 abbrev pub Keeps : Joined → Joined → Type 0
-Keeps j i = (n u : ℕ) (o : TypedObject) → HasOwnEntry j n u o → HasOwnEntry i n u o
+Keeps j i = (n : ℕ) (x : ObjectEntry) → HasOwnEntry j n x → HasOwnEntry i n x
 
 module _ (j : Joined) (e : ObjectEntry) where
   pushed_keeps : Keeps j (object_apart j e).1
-  pushed_keeps n u o h = record { there = h.there; at = pushed_before j.objects e h.there n h.at; source = h.source; unit = h.unit; unlinked = h.unlinked }
+  pushed_keeps n x h = record { at = pushed_before j.objects e x n h.at; unlinked = h.unlinked }
 
   first_unlinked : (n : ℕ) → n < length j.objects → ((m : ℕ) → entry j.links m ≡ Some (Object n) → ⊥)
       → (m : ℕ) → entry (insert_entry nat_eq j.links e.source.name (Object (length j.objects))) m ≡ Some (Object n) → ⊥
@@ -74,33 +74,30 @@ module _ (j : Joined) (e : ObjectEntry) where
       by (inr f) = let same : length j.objects ≡ n = object_is (length j.objects) n f in absurd (omega arith)
 
   met_keeps : (k : ℕ) (old : Option ObjectEntry) → entry j.links e.source.name ≡ Some (Object k) → Keeps j (object_met j k e old)
-  met_keeps k None g n u o h = h
-  met_keeps k (Some old) g n u o h =
+  met_keeps k None g n x h = h
+  met_keeps k (Some old) g n x h =
       let other : k ≢ n = (λ same. h.unlinked e.source.name (g ∙ ap (λ z. Some (Object z)) same)) in
-      record { there = h.there; at = set_other j.objects k (object_composed old e) n other ∙ h.at; source = h.source; unit = h.unit; unlinked = h.unlinked }
+      record { at = set_other j.objects k (object_composed old e) n other ∙ h.at; unlinked = h.unlinked }
 
   linked_keeps : (l : Option Entity) → linked j e.source.name ≡ l → Keeps j (object_linked j e l).1
-  linked_keeps None g n u o h = record {
-    there = h.there;
-    at = pushed_before j.objects e h.there n h.at;
-    source = h.source;
-    unit = h.unit;
-    unlinked = first_unlinked n (get_below j.objects n h.there h.at) h.unlinked;
+  linked_keeps None g n x h = record {
+    at = pushed_before j.objects e x n h.at;
+    unlinked = first_unlinked n (get_below j.objects n x h.at) h.unlinked;
   }
-  linked_keeps (Some (Object k)) g n u o h = met_keeps k (slice_get j.objects k) g n u o h
-  linked_keeps (Some (Function k)) g n u o h = pushed_keeps n u o h
+  linked_keeps (Some (Object k)) g n x h = met_keeps k (slice_get j.objects k) g n x h
+  linked_keeps (Some (Function k)) g n x h = pushed_keeps n x h
 
   choice_keeps : (b : Bool) → Keeps j (if b then object_linked j e (linked j e.source.name) else object_apart j e).1
-  choice_keeps true n u o h = linked_keeps (linked j e.source.name) refl n u o h
-  choice_keeps false n u o h = pushed_keeps n u o h
+  choice_keeps true n x h = linked_keeps (linked j e.source.name) refl n x h
+  choice_keeps false n x h = pushed_keeps n x h
 
   object_keeps : Keeps j (object_joined j e).1
   object_keeps = choice_keeps (is_external e.source.linkage)
 
 module _ (j : Joined) (e : FunctionEntry) where
   function_met_keeps : (k : ℕ) (old : Option FunctionEntry) → Keeps j (function_met j k e old)
-  function_met_keeps k None n u o h = h
-  function_met_keeps k (Some old) n u o h = record { there = h.there; at = h.at; source = h.source; unit = h.unit; unlinked = h.unlinked }
+  function_met_keeps k None n x h = h
+  function_met_keeps k (Some old) n x h = record { at = h.at; unlinked = h.unlinked }
 
   function_unlinked : (n : ℕ) → ((m : ℕ) → entry j.links m ≡ Some (Object n) → ⊥)
       → (m : ℕ) → entry (insert_entry nat_eq j.links e.source.name (Function (length j.functions))) m ≡ Some (Object n) → ⊥
@@ -111,16 +108,16 @@ module _ (j : Joined) (e : FunctionEntry) where
       by (inr f) = no_object (length j.functions) n f
 
   function_apart_keeps : Keeps j (function_apart j e).1
-  function_apart_keeps n u o h = record { there = h.there; at = h.at; source = h.source; unit = h.unit; unlinked = h.unlinked }
+  function_apart_keeps n x h = record { at = h.at; unlinked = h.unlinked }
 
   function_linked_keeps : (l : Option Entity) → Keeps j (function_linked j e l).1
-  function_linked_keeps None n u o h = record { there = h.there; at = h.at; source = h.source; unit = h.unit; unlinked = function_unlinked n h.unlinked }
-  function_linked_keeps (Some (Function k)) n u o h = function_met_keeps k (slice_get j.functions k) n u o h
-  function_linked_keeps (Some (Object k)) n u o h = function_apart_keeps n u o h
+  function_linked_keeps None n x h = record { at = h.at; unlinked = function_unlinked n h.unlinked }
+  function_linked_keeps (Some (Function k)) n x h = function_met_keeps k (slice_get j.functions k) n x h
+  function_linked_keeps (Some (Object k)) n x h = function_apart_keeps n x h
 
   function_choice_keeps : (b : Bool) → Keeps j (if b then function_linked j e (linked j e.source.name) else function_apart j e).1
-  function_choice_keeps true n u o h = function_linked_keeps (linked j e.source.name) n u o h
-  function_choice_keeps false n u o h = function_apart_keeps n u o h
+  function_choice_keeps true n x h = function_linked_keeps (linked j e.source.name) n x h
+  function_choice_keeps false n x h = function_apart_keeps n x h
 
   function_keeps : Keeps j (function_joined j e).1
   function_keeps = function_choice_keeps (is_external e.source.linkage)
@@ -129,13 +126,13 @@ module _ (j : Joined) (e : FunctionEntry) where
 
 module _ (ts : List Struct) (ss fs : List ℕ) (u : ℕ) where
   next_keeps_own : (y : List ℕ × Joined) (b : Bool) (o : TypedObject) → Keeps y.1 (next_object ts ss u y b o).1
-  next_keeps_own y true o n v x h = h
-  next_keeps_own y false o n v x h = object_keeps y.1 (object_entry ts ss u o) n v x h
+  next_keeps_own y true o n x h = h
+  next_keeps_own y false o n x h = object_keeps y.1 (object_entry ts ss u o) n x h
 
   objects_keep_own : (os : List TypedObject) (y : List ℕ × Joined) → Keeps y.1 (objects_joined ts ss fs u y os).1
-  objects_keep_own [] y n v x h = h
-  objects_keep_own (o ∷ os) y n v x h =
-      objects_keep_own os (next_object ts ss u y (is_dropped fs (length y.0) o.storage) o) n v x (next_keeps_own y (is_dropped fs (length y.0) o.storage) o n v x h)
+  objects_keep_own [] y n x h = h
+  objects_keep_own (o ∷ os) y n x h =
+      objects_keep_own os (next_object ts ss u y (is_dropped fs (length y.0) o.storage) o) n x (next_keeps_own y (is_dropped fs (length y.0) o.storage) o n x h)
 
 -- ---- links lead to entries that are there
 
@@ -182,21 +179,18 @@ module _ (j : Joined) (e : ObjectEntry) (b : AreBounded j) where
   object_bounded = choice_bounded (is_external e.source.linkage)
 
   -- one that isn't external has its own entry
-  apart_own : HasOwnEntry (object_apart j e).1 (length j.objects) e.unit e.source
+  apart_own : HasOwnEntry (object_apart j e).1 (length j.objects) e
   apart_own = record {
-    there = e;
     at = pushed_last j.objects e;
-    source = refl;
-    unit = refl;
     unlinked = λ m g. (let low : length j.objects < length j.objects = b m (length j.objects) g in absurd (omega arith));
   }
 
   choice_own : (c : Bool) → c ≡ false
-      → HasOwnEntry (if c then object_linked j e (linked j e.source.name) else object_apart j e).1 (if c then object_linked j e (linked j e.source.name) else object_apart j e).0 e.unit e.source
+      → HasOwnEntry (if c then object_linked j e (linked j e.source.name) else object_apart j e).1 (if c then object_linked j e (linked j e.source.name) else object_apart j e).0 e
   choice_own true f = absurd (true≢false f)
   choice_own false f = apart_own
 
-  object_own : is_external e.source.linkage ≡ false → HasOwnEntry (object_joined j e).1 (object_joined j e).0 e.unit e.source
+  object_own : is_external e.source.linkage ≡ false → HasOwnEntry (object_joined j e).1 (object_joined j e).0 e
   object_own f = choice_own (is_external e.source.linkage) f
 
 module _ (j : Joined) (e : FunctionEntry) (b : AreBounded j) where
@@ -232,25 +226,25 @@ module _ (ts : List Struct) (ss fs : List ℕ) (u : ℕ) where
   objects_bounded (o ∷ os) y h = objects_bounded os (next_object ts ss u y (is_dropped fs (length y.0) o.storage) o) (next_bounded y (is_dropped fs (length y.0) o.storage) o h)
 
   own_here : (o : TypedObject) (os : List TypedObject) (y : List ℕ × Joined) (k : ℕ) (b : Bool) → AreBounded y.1 → b ≡ false → is_external o.linkage ≡ false
-      → slice_get (objects_joined ts ss fs u (next_object ts ss u y b o) os).0 (length y.0) ≡ Some k → HasOwnEntry (objects_joined ts ss fs u (next_object ts ss u y b o) os).1 k u o
+      → slice_get (objects_joined ts ss fs u (next_object ts ss u y b o) os).0 (length y.0) ≡ Some k → HasOwnEntry (objects_joined ts ss fs u (next_object ts ss u y b o) os).1 k (object_entry ts ss u o)
   own_here o os y k true h f t e = absurd (true≢false f)
   own_here o os y k false h f t e =
       let z : ℕ × Joined = object_joined y.1 (object_entry ts ss u o) in
       let now : slice_get (objects_joined ts ss fs u (next_object ts ss u y false o) os).0 (length y.0) ≡ Some z.0 =
       objects_keep ts ss fs u os (next_object ts ss u y false o) (length y.0) z.0 (pushed_last y.0 z.0) in
       let same : z.0 ≡ k = some_is z.0 k (sym now ∙ e) in
-      objects_keep_own ts ss fs u os (next_object ts ss u y false o) k u o
-      (subst (λ n. HasOwnEntry z.1 n u o) same (object_own y.1 (object_entry ts ss u o) h t))
+      objects_keep_own ts ss fs u os (next_object ts ss u y false o) k (object_entry ts ss u o)
+      (subst (λ n. HasOwnEntry z.1 n (object_entry ts ss u o)) same (object_own y.1 (object_entry ts ss u o) h t))
 
   objects_own : (os : List TypedObject) (y : List ℕ × Joined) (i : ℕ) (o : TypedObject) (k at : ℕ) → AreBounded y.1 → at ≡ length y.0 + i → slice_get os i ≡ Some o → is_external o.linkage ≡ false → is_dropped fs at o.storage ≡ false
-      → slice_get (objects_joined ts ss fs u y os).0 at ≡ Some k → HasOwnEntry (objects_joined ts ss fs u y os).1 k u o
+      → slice_get (objects_joined ts ss fs u y os).0 at ≡ Some k → HasOwnEntry (objects_joined ts ss fs u y os).1 k (object_entry ts ss u o)
   objects_own [] y i o k at h p e t d n = absurd (cc)
   objects_own (x ∷ xs) y zero o k at h p e t d n =
       let same : x ≡ o = some_is x o e in
       let place : at ≡ length y.0 = omega arith in
       let dropped : is_dropped fs (length y.0) x.storage ≡ false = subst (λ z. is_dropped fs z x.storage ≡ false) place (subst (λ z. is_dropped fs at z.storage ≡ false) (sym same) d) in
       let number : slice_get (objects_joined ts ss fs u y (x ∷ xs)).0 (length y.0) ≡ Some k = subst (λ z. slice_get (objects_joined ts ss fs u y (x ∷ xs)).0 z ≡ Some k) place n in
-      subst (λ z. HasOwnEntry (objects_joined ts ss fs u y (x ∷ xs)).1 k u z) same
+      subst (λ z. HasOwnEntry (objects_joined ts ss fs u y (x ∷ xs)).1 k (object_entry ts ss u z)) same
       (own_here x xs y k (is_dropped fs (length y.0) x.storage) h dropped (subst (λ z. is_external z.linkage ≡ false) (sym same) t) number)
   objects_own (x ∷ xs) y (suc i) o k at h p e t d n =
       let longer : length (next_object ts ss u y (is_dropped fs (length y.0) x.storage) x).0 ≡ length y.0 + 1 = next_longer ts ss fs u y (is_dropped fs (length y.0) x.storage) x in
@@ -261,8 +255,8 @@ module _ (ts : List Struct) (ss fs : List ℕ) (u : ℕ) where
 
 module _ (ss : List ℕ) (u : ℕ) where
   functions_keep_own : (fs : List TypedFunction) (y : List ℕ × Joined) → Keeps y.1 (functions_joined ss u y fs).1
-  functions_keep_own [] y n v x h = h
-  functions_keep_own (f ∷ fs) y n v x h = functions_keep_own fs (next_function ss u y f) n v x (function_keeps y.1 (function_entry ss u f) n v x h)
+  functions_keep_own [] y n x h = h
+  functions_keep_own (f ∷ fs) y n x h = functions_keep_own fs (next_function ss u y f) n x (function_keeps y.1 (function_entry ss u f) n x h)
 
   functions_bounded : (fs : List TypedFunction) (y : List ℕ × Joined) → AreBounded y.1 → AreBounded (functions_joined ss u y fs).1
   functions_bounded [] y h = h
@@ -270,13 +264,13 @@ module _ (ss : List ℕ) (u : ℕ) where
 
 module _ (ss : List ℕ) (u : ℕ) (j : Joined) (x : CheckedUnit) where
   functions_behind_keep : Keeps (behind_objects ss u j x).1 (unit_joined ss u j x).1
-  functions_behind_keep n v o h = texts (functions_keep_own ss u x.functions ([], (behind_objects ss u j x).1) n v o h)
+  functions_behind_keep n o h = texts (functions_keep_own ss u x.functions ([], (behind_objects ss u j x).1) n o h)
     where
-      texts : HasOwnEntry (functions_joined ss u ([], (behind_objects ss u j x).1) x.functions).1 n v o → HasOwnEntry (unit_joined ss u j x).1 n v o
-      texts w = record { there = w.there; at = w.at; source = w.source; unit = w.unit; unlinked = w.unlinked }
+      texts : HasOwnEntry (functions_joined ss u ([], (behind_objects ss u j x).1) x.functions).1 n o → HasOwnEntry (unit_joined ss u j x).1 n o
+      texts w = record { at = w.at; unlinked = w.unlinked }
 
   unit_keeps_own : Keeps j (unit_joined ss u j x).1
-  unit_keeps_own n v o h = functions_behind_keep n v o (objects_keep_own x.structs ss (owned_by x.functions x.definitions) u x.objects ([], j) n v o h)
+  unit_keeps_own n o h = functions_behind_keep n o (objects_keep_own x.structs ss (owned_by x.functions x.definitions) u x.objects ([], j) n o h)
 
   unit_bounded : AreBounded j → AreBounded (unit_joined ss u j x).1
   unit_bounded b m k g =
@@ -284,21 +278,21 @@ module _ (ss : List ℕ) (u : ℕ) (j : Joined) (x : CheckedUnit) where
       (objects_bounded x.structs ss (owned_by x.functions x.definitions) u x.objects ([], j) b) m k g
 
 abbrev HaveOwn : ℕ → CheckedUnit → Numbers → Joined → Type 0
-HaveOwn u x m j = (k : ℕ) (o : TypedObject) (n : ℕ) → slice_get x.objects k ≡ Some o → slice_get m.objects k ≡ Some n → is_external o.linkage ≡ false → is_dropped (owned_by x.functions x.definitions) k o.storage ≡ false → HasOwnEntry j n u o
+HaveOwn u x m j = (k : ℕ) (o : TypedObject) (n : ℕ) → slice_get x.objects k ≡ Some o → slice_get m.objects k ≡ Some n → is_external o.linkage ≡ false → is_dropped (owned_by x.functions x.definitions) k o.storage ≡ false → HasOwnEntry j n (object_entry x.structs m.structs u o)
 
 unit_own : (ss : List ℕ) (u : ℕ) (j : Joined) (x : CheckedUnit) → AreBounded j → HaveOwn u x (unit_joined ss u j x).0 (unit_joined ss u j x).1
 unit_own ss u j x b k o n e number t d =
-    functions_behind_keep ss u j x n u o (objects_own x.structs ss (owned_by x.functions x.definitions) u x.objects ([], j) k o n k b (omega arith) e t d number)
+    functions_behind_keep ss u j x n (object_entry x.structs ss u o) (objects_own x.structs ss (owned_by x.functions x.definitions) u x.objects ([], j) k o n k b (omega arith) e t d number)
 
 units_keep_own : (sss : List (List ℕ)) (xs : List CheckedUnit) (y : List Numbers × Joined) → Keeps y.1 (units_joined sss y xs).1
-units_keep_own sss [] y n v o h = h
-units_keep_own sss (x ∷ xs) y n v o h =
-    units_keep_own sss xs (next_unit sss y x) n v o (unit_keeps_own (slice_index_or sss (length y.0) []) (length y.0) y.1 x n v o h)
+units_keep_own sss [] y n o h = h
+units_keep_own sss (x ∷ xs) y n o h =
+    units_keep_own sss xs (next_unit sss y x) n o (unit_keeps_own (slice_index_or sss (length y.0) []) (length y.0) y.1 x n o h)
 
 none_bounded : AreBounded nothing_joined
 none_bounded m k e = absurd (cc)
 
 pub others_stay_apart : OthersStayApart
 others_stay_apart sss xs u x m k o n at numbers e number t d =
-    at_each sss HaveOwn Keeps AreBounded unit_bounded unit_own (λ u x m j i y p. λ k o n e v t d. y n u o (p k o n e v t d)) (units_keep_own sss)
+    at_each sss HaveOwn Keeps AreBounded unit_bounded unit_own (λ u x m j i y p. λ k o n e v t d. y n (object_entry x.structs m.structs u o) (p k o n e v t d)) (units_keep_own sss)
     xs ([], nothing_joined) none_bounded u x m u (omega arith) at numbers k o n e number t d

@@ -25,7 +25,7 @@ use Rattle.sp_link_laws.proofs.Numbered.{some_is, behind_objects, object_or_func
 
 -- ---- where the entry of a name comes from
 
-inserted_key : (es : List (ℕ × Entity)) (n : ℕ) (v : Entity) (m : ℕ) (r : Entity) → entry (insert_entry nat_eq es n v) m ≡ Some r → (entry es m ≡ Some r) ⊎ ((m ≡ n) × (v ≡ r))
+pub inserted_key : (es : List (ℕ × Entity)) (n : ℕ) (v : Entity) (m : ℕ) (r : Entity) → entry (insert_entry nat_eq es n v) m ≡ Some r → (entry es m ≡ Some r) ⊎ ((m ≡ n) × (v ≡ r))
 inserted_key [] n v m r h = by (nat_eq m n) refl h
   where
     by : (b : Bool) → nat_eq m n ≡ b → cond b (Some v) None ≡ Some r → (None ≡ Some r) ⊎ ((m ≡ n) × (v ≡ r))
@@ -145,19 +145,19 @@ module _ (P Q : ℕ → Type 0) where
 
 -- ---- declarations are in the list
 
-abbrev There : {A : Type 0} → List A → A → Type 0
+abbrev pub There : {A : Type 0} → List A → A → Type 0
 There xs x = (i : ℕ) × (slice_get xs i ≡ Some x)
 
-there_left : {A : Type 0} (xs ys : List A) (x : A) (i : ℕ) → slice_get xs i ≡ Some x → There (xs ++ ys) x
+pub there_left : {A : Type 0} (xs ys : List A) (x : A) (i : ℕ) → slice_get xs i ≡ Some x → There (xs ++ ys) x
 there_left [] ys x i e = absurd (cc)
 there_left (z ∷ zs) ys x zero e = (zero, e)
 there_left (z ∷ zs) ys x (suc i) e = let w : There (zs ++ ys) x = there_left zs ys x i e in (suc w.0, w.1)
 
-there_right : {A : Type 0} (xs ys : List A) (x : A) (i : ℕ) → slice_get ys i ≡ Some x → There (xs ++ ys) x
+pub there_right : {A : Type 0} (xs ys : List A) (x : A) (i : ℕ) → slice_get ys i ≡ Some x → There (xs ++ ys) x
 there_right [] ys x i e = (i, e)
 there_right (z ∷ zs) ys x i e = let w : There (zs ++ ys) x = there_right zs ys x i e in (suc w.0, w.1)
 
-there_kept : {A B : Type 0} (f : A → B) (p : A → Bool) (xs : List A) (x : A) (i : ℕ) → slice_get xs i ≡ Some x → p x ≡ true → There (map f (filter p xs)) (f x)
+pub there_kept : {A B : Type 0} (f : A → B) (p : A → Bool) (xs : List A) (x : A) (i : ℕ) → slice_get xs i ≡ Some x → p x ≡ true → There (map f (filter p xs)) (f x)
 there_kept f p [] x i e t = absurd (cc)
 there_kept f p (z ∷ zs) x zero e t =
     let same : z ≡ x = some_is z x e in
@@ -181,18 +181,26 @@ declared_there (z ∷ zs) u (suc i) at x d p e w =
     let later : There (declared_from (suc u) zs) d = declared_there zs (suc u) i at x d (omega arith) e w in
     there_right (unit_declared u z) (declared_from (suc u) zs) d later.0 later.1
 
-object_there : (xs : List CheckedUnit) (u : ℕ) (x : CheckedUnit) (k : ℕ) (o : TypedObject) → slice_get xs u ≡ Some x → slice_get x.objects k ≡ Some o → is_external o.linkage ≡ true → There (declarations xs) (object_declared u o)
-object_there xs u x k o at e t =
+pub object_in_unit : (u : ℕ) (x : CheckedUnit) (k : ℕ) (o : TypedObject) → slice_get x.objects k ≡ Some o → is_external o.linkage ≡ true
+    → There (unit_declared u x) (object_declared u o)
+object_in_unit u x k o e t =
     let own : There (objects_declared u x.objects) (object_declared u o) = there_kept (object_declared u) (λ z. is_external z.linkage) x.objects o k e t in
     let two : There (typings_declared u x.typings ++ objects_declared u x.objects) (object_declared u o) = there_right (typings_declared u x.typings) (objects_declared u x.objects) (object_declared u o) own.0 own.1 in
-    declared_there xs 0 u u x (object_declared u o) (omega arith) at
-    (there_left (typings_declared u x.typings ++ objects_declared u x.objects) (functions_declared u x.functions) (object_declared u o) two.0 two.1)
+    there_left (typings_declared u x.typings ++ objects_declared u x.objects) (functions_declared u x.functions) (object_declared u o) two.0 two.1
+
+object_there : (xs : List CheckedUnit) (u : ℕ) (x : CheckedUnit) (k : ℕ) (o : TypedObject) → slice_get xs u ≡ Some x → slice_get x.objects k ≡ Some o → is_external o.linkage ≡ true → There (declarations xs) (object_declared u o)
+object_there xs u x k o at e t =
+    declared_there xs 0 u u x (object_declared u o) (omega arith) at (object_in_unit u x k o e t)
+
+pub function_in_unit : (u : ℕ) (x : CheckedUnit) (k : ℕ) (f : TypedFunction) → slice_get x.functions k ≡ Some f → is_external f.linkage ≡ true
+    → There (unit_declared u x) (function_declared u f)
+function_in_unit u x k f e t =
+    let own : There (functions_declared u x.functions) (function_declared u f) = there_kept (function_declared u) (λ z. is_external z.linkage) x.functions f k e t in
+    there_right (typings_declared u x.typings ++ objects_declared u x.objects) (functions_declared u x.functions) (function_declared u f) own.0 own.1
 
 function_there : (xs : List CheckedUnit) (u : ℕ) (x : CheckedUnit) (k : ℕ) (f : TypedFunction) → slice_get xs u ≡ Some x → slice_get x.functions k ≡ Some f → is_external f.linkage ≡ true → There (declarations xs) (function_declared u f)
 function_there xs u x k f at e t =
-    let own : There (functions_declared u x.functions) (function_declared u f) = there_kept (function_declared u) (λ z. is_external z.linkage) x.functions f k e t in
-    declared_there xs 0 u u x (function_declared u f) (omega arith) at
-    (there_right (typings_declared u x.typings ++ objects_declared u x.objects) (functions_declared u x.functions) (function_declared u f) own.0 own.1)
+    declared_there xs 0 u u x (function_declared u f) (omega arith) at (function_in_unit u x k f e t)
 
 -- ---- no name is an object and a function
 
@@ -214,7 +222,7 @@ function_first agree (array t m) s n c = true≢false (sym c)
 function_first agree (structure k) s n c = true≢false (sym c)
 function_first agree (function r) s n c = true≢false n
 
-order : (a b : ℕ) → (a < b) ⊎ ((b < a) ⊎ (a ≡ b))
+pub order : (a b : ℕ) → (a < b) ⊎ ((b < a) ⊎ (a ≡ b))
 order zero zero = inr (inr refl)
 order zero (suc b) = inl (omega arith)
 order (suc a) zero = inr (inl (omega arith))

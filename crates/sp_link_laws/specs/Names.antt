@@ -8,7 +8,8 @@ use Rattle.sp_units.specs.Units.{CheckedUnit}
 use Rattle.sp_conflicts.specs.Declarations.{is_external}
 use Rattle.sp_conflicts.specs.Conflicts.{AgreeOnNames}
 use Rattle.sp_joining.specs.Entries.{ObjectEntry, FunctionEntry, Joined, Numbers, nothing_joined}
-use Rattle.sp_joining.specs.Objects.{owned_by, is_dropped}
+use Rattle.sp_joining.specs.Objects.{owned_by, is_dropped, object_entry}
+use Rattle.sp_joining.specs.Functions.{function_entry}
 use Rattle.sp_joining.specs.Units.{units_joined}
 
 -- the units joined, with these numbers of their structs in the program
@@ -41,13 +42,9 @@ NamesHaveOneFunction =
     → is_external f.linkage ≡ true
     → entry (all_joined sss xs).1.links f.name ≡ Some (entities.Function n)
 
--- the program's entry of this number is told by this object of the unit of a number, and by no
--- external name
-pub record HasOwnEntry (j : Joined) (n u : ℕ) (o : Object) : Type 0 where
-  pub there : ObjectEntry
-  pub at : slice_get j.objects n ≡ Some there
-  pub source : there.source ≡ o
-  pub unit : there.unit ≡ u
+-- this is the program's entry of this number, and no external name's
+pub record HasOwnEntry (j : Joined) (n : ℕ) (e : ObjectEntry) : Type 0 where
+  pub at : slice_get j.objects n ≡ Some e
   pub unlinked : (m : ℕ) → entry j.links m ≡ Some (entities.Object n) → ⊥
 
 -- An object of a unit without external linkage has an entry of its own (6.1.2.2): static objects of
@@ -58,15 +55,11 @@ OthersStayApart =
     → slice_get xs u ≡ Some x → slice_get (all_joined sss xs).0 u ≡ Some m
     → slice_get x.objects k ≡ Some o → slice_get m.objects k ≡ Some n
     → is_external o.linkage ≡ false → is_dropped (owned_by x.functions x.definitions) k o.storage ≡ false
-    → HasOwnEntry (all_joined sss xs).1 n u o
+    → HasOwnEntry (all_joined sss xs).1 n (object_entry x.structs m.structs u o)
 
--- the same of functions: the program's entry of this number is told by this function of the unit of
--- a number, and by no external name
-pub record HasOwnFunction (j : Joined) (n u : ℕ) (f : Function) : Type 0 where
-  pub there : FunctionEntry
-  pub at : slice_get j.functions n ≡ Some there
-  pub source : there.source ≡ f
-  pub unit : there.unit ≡ u
+-- the same of functions
+pub record HasOwnFunction (j : Joined) (n : ℕ) (e : FunctionEntry) : Type 0 where
+  pub at : slice_get j.functions n ≡ Some e
   pub unlinked : (m : ℕ) → entry j.links m ≡ Some (entities.Function n) → ⊥
 
 -- Static functions of two units stay apart.
@@ -76,4 +69,4 @@ StaticFunctionsStayApart =
     → slice_get xs u ≡ Some x → slice_get (all_joined sss xs).0 u ≡ Some m
     → slice_get x.functions k ≡ Some f → slice_get m.functions k ≡ Some n
     → is_external f.linkage ≡ false
-    → HasOwnFunction (all_joined sss xs).1 n u f
+    → HasOwnFunction (all_joined sss xs).1 n (function_entry m.structs u f)

@@ -20,7 +20,7 @@ use Rattle.sp_lower_objects.specs.Objects.{kind_of_storage, owner_of, start_of, 
 use Rattle.sp_lower_objects.specs.Owners.{mark_at}
 use Rattle.sp_lower.specs.Programs.{first_local, declared_with, made_with, IsNumbered}
 use Rattle.sp_typing.specs.Programs.{Lists, IsTypedObject, IsTypedProgram}
-use Rattle.sp_typing.specs.Statements.{is_static}
+use Rattle.sp_typing.specs.Statements.{is_lasting}
 use Rattle.sp_draft_laws.specs.Stands.{site_kind}
 use Rattle.sp_draft_laws.specs.Sound.{IsFormedSite}
 use Rattle.sp_value_laws.specs.Starts.{StartsStand}
@@ -71,7 +71,7 @@ module _ (p : Program) (names : List (List ℕ)) (typed : IsTypedProgram p) (w :
           (starting.static n o there k)),
     )
 
-    owned_by : is_local (kind_of_storage o.storage) ≡ true → is_static o.storage ≡ false → owner_of o.storage (mark_at (owners p names typed w numbered) n) ≡ mark_at (owners p names typed w numbered) n
+    owned_by : is_local (kind_of_storage o.storage) ≡ true → is_lasting o.storage ≡ false → owner_of o.storage (mark_at (owners p names typed w numbered) n) ≡ mark_at (owners p names typed w numbered) n
         → HasOwner low x (is_local x.kind)
     owned_by k local same =
         let own : (j : ℕ) × Lists p j n = given.owned local in
@@ -91,9 +91,9 @@ module _ (p : Program) (names : List (List ℕ)) (typed : IsTypedProgram p) (w :
     plain_owner : (s : Storage) → o.storage ≡ s → is_local (kind_of_storage s) ≡ false → owner_of s (mark_at (owners p names typed w numbered) n) ≡ None → HasOwner low x (is_local x.kind)
     plain_owner s e k a = no_owner p names typed w numbered starting x (kind_of_storage s) (h.kind ∙ ap kind_of_storage e) k (h.function ∙ ap (λ t. owner_of t (mark_at (owners p names typed w numbered) n)) e ∙ a)
 
-    local_owner : (s : Storage) → o.storage ≡ s → is_local (kind_of_storage s) ≡ true → is_static s ≡ false → owner_of s (mark_at (owners p names typed w numbered) n) ≡ mark_at (owners p names typed w numbered) n
+    local_owner : (s : Storage) → o.storage ≡ s → is_local (kind_of_storage s) ≡ true → is_lasting s ≡ false → owner_of s (mark_at (owners p names typed w numbered) n) ≡ mark_at (owners p names typed w numbered) n
         → HasOwner low x (is_local x.kind)
-    local_owner s e k a b = owned_by (ap (λ t. is_local (kind_of_storage t)) e ∙ k) (ap is_static e ∙ a)
+    local_owner s e k a b = owned_by (ap (λ t. is_local (kind_of_storage t)) e ∙ k) (ap is_lasting e ∙ a)
         (ap (λ t. owner_of t (mark_at (owners p names typed w numbered) n)) e ∙ b)
 
     unit_formed : (s : Storage) → o.storage ≡ s → IsObject low n x

@@ -28,8 +28,8 @@ use Rattle.sp_lower_objects.specs.Owners.{owners_of, codes_of, mark_at}
 use Rattle.sp_lower_objects.specs.Regions.{all_regions}
 use Rattle.sp_lower.specs.Programs.{defined, first_local, local_count, start_due, counts_in, context_of_lowered, objects_with, declared_with, made_with, IsNumbered}
 use Rattle.sp_lower_laws.proofs.Pointers.{pointers-hold}
-use Rattle.sp_typing.specs.Statements.{is_static, IsTypedBody}
-use Rattle.sp_typing.specs.Programs.{is_static_object, sees, scene_of, Lists, IsTypedFunction, IsTypedProgram}
+use Rattle.sp_typing.specs.Statements.{is_lasting, IsTypedBody}
+use Rattle.sp_typing.specs.Programs.{lasts, sees, scene_of, Lists, IsTypedFunction, IsTypedProgram}
 use Rattle.sp_draft_laws.specs.Stands.{scene, Stands, Fits}
 use Rattle.sp_draft_laws.proofs.Sorts.{false_true, stored_there}
 use Rattle.sp_body_laws.specs.Frames.{FitsFrame}
@@ -84,7 +84,7 @@ any_in n (m ∷ ms) h = by (nat_eq n m) refl h (λ q. any_in n ms q)
     by true e h rest = (0, ap (λ x. Some x) (sym (eqb-true n m e)))
     by false e h rest = let r : IsIn ms n = rest h in (suc r.0, r.1)
 
-pub local_storage : (s : Storage) → is_local (kind_of_storage s) ≡ true → (is_static s ≡ false) × ((o : Option ℕ) → owner_of s o ≡ o)
+pub local_storage : (s : Storage) → is_local (kind_of_storage s) ≡ true → (is_lasting s ≡ false) × ((o : Option ℕ) → owner_of s o ≡ o)
 local_storage storage.Auto h = (refl, λ o. refl)
 local_storage storage.Formal h = (refl, λ o. refl)
 local_storage storage.Static h = false_true h
@@ -215,10 +215,10 @@ module _ (p : Program) (names : List (List ℕ)) (typed : IsTypedProgram p) (w :
       let s : k ≡ 0 + k = omega arith in
       h.1 ∙ ap (λ j. Some j) (typed.owners h.0 k n (lists_of n h.0 h.2) (lists_of n k (record { index = k; function = g; there = e; number = s; own = own })))
 
-  seen_own : (k n : ℕ) (g : Function) (o : program.Object) → slice_get gs k ≡ Some g → slice_get p.objects n ≡ Some o → v k n ≡ true → is_static o.storage ≡ false → IsIn (listed g) n
+  seen_own : (k n : ℕ) (g : Function) (o : program.Object) → slice_get gs k ≡ Some g → slice_get p.objects n ≡ Some o → v k n ≡ true → is_lasting o.storage ≡ false → IsIn (listed g) n
   seen_own k n g o e there seen local =
-      any_in n (listed g) (sym (ap (λ b. b || list_any (nat_eq n) (listed g)) (ap is_static_object there ∙ local))
-      ∙ sym (ap (λ f. is_static_object (slice_get p.objects n) || list_any (nat_eq n) (own_of f)) e) ∙ seen)
+      any_in n (listed g) (sym (ap (λ b. b || list_any (nat_eq n) (listed g)) (ap lasts there ∙ local))
+      ∙ sym (ap (λ f. lasts (slice_get p.objects n) || list_any (nat_eq n) (own_of f)) e) ∙ seen)
 
   pub names_fit : (k from : ℕ) (g : Function) → slice_get gs k ≡ Some g → Fits (record c { function = k; first_temporary = from }) os (v k)
   names_fit k from g e = record {
@@ -237,13 +237,13 @@ module _ (p : Program) (names : List (List ℕ)) (typed : IsTypedProgram p) (w :
             there = x.1;
             of = x.2.of;
             no_site = ap is_site x.2.kind ∙ storage_site o.storage;
-            own = λ local. let s : (is_static o.storage ≡ false) × ((m : Option ℕ) → owner_of o.storage m ≡ m) = local_storage o.storage (sym (ap is_local x.2.kind) ∙ local) in
+            own = λ local. let s : (is_lasting o.storage ≡ false) × ((m : Option ℕ) → owner_of o.storage m ≡ m) = local_storage o.storage (sym (ap is_local x.2.kind) ∙ local) in
                 x.2.function ∙ s.1 (mark_at owners n) ∙ owner_is k n g o e (seen_own k n g o e there seen s.0) there;
           }
 
   -- ---- frames
 
-  auto_kind : (s : Storage) → is_automatic s ≡ true → (kind_of_storage s ≡ kinds.Auto) × (is_static s ≡ false)
+  auto_kind : (s : Storage) → is_automatic s ≡ true → (kind_of_storage s ≡ kinds.Auto) × (is_lasting s ≡ false)
   auto_kind storage.Auto h = (refl, refl)
   auto_kind storage.Static h = false_true h
   auto_kind storage.Outside h = false_true h

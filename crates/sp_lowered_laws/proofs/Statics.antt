@@ -10,8 +10,8 @@ use Rattle.sp_draft.specs.Draft.{Left}
 use Rattle.sp_lower_functions.specs.Functions.{Part}
 use Rattle.sp_lower.specs.Programs.{first_site, counts_in, IsNumbered}
 use Rattle.sp_lower_laws.proofs.Pointers.{pointers-hold}
-use Rattle.sp_typing.specs.Programs.{is_static_object, sees, IsTypedProgram}
-use Rattle.sp_typing.specs.Statements.{is_static}
+use Rattle.sp_typing.specs.Programs.{lasts, sees, IsTypedProgram}
+use Rattle.sp_typing.specs.Statements.{is_lasting}
 use Rattle.sp_draft_laws.specs.Stands.{Stands, Fits}
 use Rattle.sp_draft_laws.proofs.Sorts.{false_true}
 use Rattle.sp_value_laws.specs.Starts.{StartsStand}
@@ -30,7 +30,7 @@ module _ (p : Program) (names : List (List ℕ)) (typed : IsTypedProgram p) (w :
   static_stands k n o there seen =
       let x : (x : Object) × (slice_get (os p names typed w numbered) n ≡ Some x) × IsProgramObject (c p names typed w numbered) (owners p names typed w numbered) (is p names typed w numbered) n o x =
       unit_object p names typed w numbered n o there in
-      let static : is_static o.storage ≡ true = sym (ap is_static_object there) ∙ or_none (is_static_object (slice_get p.objects n)) seen in
+      let static : is_lasting o.storage ≡ true = sym (ap lasts there) ∙ or_none (lasts (slice_get p.objects n)) seen in
       record {
         object = x.0;
         there = x.1;

@@ -1,6 +1,6 @@
 -- Literals (C90 6.1.3, 6.1.4) and `sizeof` (6.3.3.4): what they are as expressions, and what they leave in the tables.
-use Rattle.std.specs.Prelude.{ℕ, ◌+◌, ℤ, pos, neg_ℤ, ◌+ℤ◌, nat_le, List, [], ◌∷◌, ◌++◌, length, Some, if◌then◌else◌}
-use Rattle.sp_tree.specs.declared.fault.FaultKind.TheVariants.{F13}
+use Rattle.std.specs.Prelude.{ℕ, ◌+◌, ◌^◌, ℤ, pos, neg_ℤ, ◌+ℤ◌, nat_le, List, [], ◌∷◌, ◌++◌, length, Some, if◌then◌else◌}
+use Rattle.sp_tree.specs.declared.fault.FaultKind.TheVariants.{F13, F21}
 use Rattle.sp_tree.specs.declared.fault.Place.{Place}
 use Rattle.sp_tree.specs.declared.token.Number.{Number}
 use Rattle.sp_types.specs.declared.ctype.IntKind.{IntKind}
@@ -14,7 +14,7 @@ use Rattle.sp_types.specs.Typed.{Typed, typed}
 use Rattle.sp_types.specs.Typed as tree
 use Rattle.sp_types.specs.TypedView.{typed_of}
 use Rattle.sp_types.specs.declared.typed.TypedExpr.{TypedExpr}
-use Rattle.sp_operands.specs.Answers.{Checked, accepted, where_given}
+use Rattle.sp_operands.specs.Answers.{Checked, accepted, where_met, where_given}
 use Rattle.sp_operands.specs.Operands.{int}
 use Rattle.sp_constants.specs.Constants.{literal_kind}
 use Rattle.sp_env.specs.Env.{Env, with_object, with_constant}
@@ -63,5 +63,8 @@ text_object bytes p = record { name = 0; of = text_type bytes; storage = Text; l
 abbrev pub with_text : Env → List ℕ → Place → Env
 with_text env bytes p = with_constant (with_object env (text_object bytes p)) (pos (length bytes + 1))
 
+-- what is larger than an object may be is none
 abbrev pub text_checked : List (List ℕ) → Env → List ℕ → Place → Place → Checked (Typed × Env)
-text_checked names env ns p m = accepted (typed (tree.object (length env.tables.objects)) (text_type (text_bytes names ns)) p m, with_text env (text_bytes names ns) p)
+text_checked names env ns p m =
+    where_met (nat_le (length (text_bytes names ns) + 1) (2 ^ 40)) F21 p
+    (accepted (typed (tree.object (length env.tables.objects)) (text_type (text_bytes names ns)) p m, with_text env (text_bytes names ns) p))

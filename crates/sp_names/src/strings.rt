@@ -15,9 +15,9 @@ ghost use Rattle.sp_names.specs.Literals.{
 
 use crate::names::bytes_of;
 use sp_env::Env;
-use sp_operands::CheckError;
-use sp_tree::{Names, Place};
-use sp_types::{CType, IntKind, Linkage, ObjectDef, Storage, TypedExpr, TypedForm};
+use sp_operands::{CheckError, fault};
+use sp_tree::{FaultKind, Names, Place};
+use sp_types::{CType, IntKind, Linkage, MAX_SIZE, ObjectDef, Storage, TypedExpr, TypedForm};
 use std::alloc::{AllocError, Global};
 
 /// The bytes of adjacent literals.
@@ -78,7 +78,8 @@ fn text_object(alloc: Global, mut bytes: Vec<u8>, place: Place) -> Result<Object
     })
 }
 
-/// A string literal: an object of its own, and its length a constant of the ladder.
+/// A string literal: an object of its own, and its length a constant of the ladder. F21 stands at the
+/// literal where it is larger than an object may be.
 pub fn text_checked(
     alloc: Global,
     env: &mut Env,
@@ -92,6 +93,9 @@ pub fn text_checked(
 {
     let bytes = text_bytes(alloc, names, parts)?;
     let length = bytes.len() as u64 + 1;
+    if length > MAX_SIZE {
+        return fault(FaultKind::F21, place);
+    }
     let of = CType::array(alloc, CType::Int(IntKind::Char), Some(length))?;
     let number = env.add_object(text_object(alloc, bytes, place)?)?;
     env.add_constant(length as i128)?;

@@ -1,7 +1,7 @@
 -- Declarations of objects (C90 6.1.2.2, 6.1.2.4, 6.5, 6.7.2): a name with linkage has one entry in
 -- the tables, and its declarations are compatible. `class` is the storage class of a declaration,
 -- where it has one; `valued` says that an initialiser follows.
-use Rattle.std.specs.Prelude.{ℕ, Bool, true, false, not, ◌&&◌, ◌||◌, List, [], ◌∷◌, length, Option, Some, None, if◌then◌else◌, slice_get}
+use Rattle.std.specs.Prelude.{ℕ, Bool, true, false, not, ◌&&◌, ◌||◌, List, [], ◌∷◌, length, Option, Some, None, is_some, if◌then◌else◌, slice_get}
 use Rattle.sp_tree.specs.declared.fault.FaultKind.TheVariants.{F9, F13}
 use Rattle.sp_tree.specs.declared.fault.Place.{Place}
 use Rattle.sp_tree.specs.declared.token.Keyword.{Keyword}
@@ -65,10 +65,10 @@ abbrev pub entry_for : Env → ℕ → Linkage → Option Entity
 entry_for env n l = if has_linkage l then linked env n else None
 
 -- a new one stands in the table before its type is read, so that entries come in the order of the
--- names
-abbrev pub object_reserved : Env → ℕ → Linkage → Place → Option Entity → Env
-object_reserved env n l p (Some (entities.Object k)) = env
-object_reserved env n l p e = with_object env (new_object n void Outside l p)
+-- names; it has no linkage until then
+abbrev pub object_reserved : Env → ℕ → Place → Option Entity → Env
+object_reserved env n p (Some (entities.Object k)) = env
+object_reserved env n p e = with_object env (new_object n void Outside Inner p)
 
 abbrev pub reserved_number : Env → Option Entity → ℕ
 reserved_number env (Some (entities.Object k)) = k
@@ -79,9 +79,12 @@ reserved_number env e = length env.tables.objects
 abbrev pub linked_to : Env → ℕ → Linkage → ℕ → Env
 linked_to env n l k = if has_linkage l then with_link env n (entities.Object k) else env
 
--- the first declaration
+-- the first declaration; its own type may have declared the name as a function, by a call of it
+-- (6.3.2.2)
 abbrev pub object_added : Env → ℕ → ℕ → CType → Storage → Linkage → Place → Checked Env
-object_added env k n t s l p = declared (with_typing (linked_to (set_object env k (new_object n t s l p)) n l k) l n t p) n (means.object k) p
+object_added env k n t s l p =
+    where_met (not (is_some (entry_for env n l))) F9 p
+    (declared (with_typing (linked_to (set_object env k (new_object n t s l p)) n l k) l n t p) n (means.object k) p)
 
 -- an initialiser gives at least one value
 abbrev pub is_valued : List (ℕ × Typed) → Bool

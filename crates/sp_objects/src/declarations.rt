@@ -25,7 +25,7 @@ ghost use Rattle.sp_objects.specs.Objects.{
 };
 
 use crate::copies::copy_values;
-use crate::{has_linkage, is_outside};
+use crate::{entry_for, has_linkage, is_outside};
 use sp_env::{Entity, Env};
 use sp_names::{composite, is_retyped, retype};
 use sp_operands::{CheckError, fault, is_complete, is_void};
@@ -60,13 +60,12 @@ pub fn object_reserved(
     alloc: Global,
     env: &mut Env,
     name: u32,
-    linkage: Linkage,
     place: Place,
     entry: Option<Entity>,
 ) -> Result<u32, AllocError>
     ensures number { IfOk result (λ k. k ≡ reserved_number (env_of env.old) entry) }
     ensures ok { OnOk result (env_of env.new ≡
-        object_reserved (env_of env.old) name linkage place entry) }
+        object_reserved (env_of env.old) name place entry) }
 {
     match entry {
         Some(Entity::Object(number)) => Ok(number),
@@ -75,7 +74,7 @@ pub fn object_reserved(
             name,
             CType::Void,
             Storage::Outside,
-            linkage,
+            Linkage::Inner,
             place,
         )),
     }
@@ -91,7 +90,8 @@ fn linked_to(env: &mut Env, name: u32, linkage: Linkage, number: u32) -> Result<
     Ok(())
 }
 
-/// The first declaration of an object.
+/// The first declaration of an object. F9 stands at the name where its own type has declared it as
+/// a function.
 fn object_added(
     alloc: Global,
     env: &mut Env,
@@ -106,6 +106,9 @@ fn object_added(
         (object_added (env_of env.old) number name (type_of of) storage linkage place)
         (env_of env.new) result }
 {
+    if entry_for(env, name, linkage).is_some() {
+        return fault(FaultKind::F9, place);
+    }
     let typing = of.copy(alloc)?;
     env.set_object(number, new_object(alloc, name, of, storage, linkage, place));
     linked_to(env, name, linkage, number)?;
@@ -236,8 +239,8 @@ fn object_joined(
 
 /// A declaration of a name as an object of this type: its number is that of the entry, or that of
 /// the new object. F9 stands at the name where it has another linkage, is a function, has a type
-/// that isn't compatible or an initialiser already, or where its scope has the name as something
-/// else.
+/// that isn't compatible or an initialiser already, or where its scope, or its own type by a call,
+/// has the name as something else.
 pub fn object_declared(
     alloc: Global,
     env: &mut Env,

@@ -2,3 +2,4 @@ pub mod Types
 pub mod Operators
 pub mod Trees
 pub mod Statements
+pub mod Constants

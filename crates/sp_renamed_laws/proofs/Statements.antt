@@ -1,5 +1,5 @@
 -- Well-typed bodies of a unit's functions are well typed in its program.
-use Rattle.std.proofs.Common.{◌≡◌, ℕ, List, [], ◌∷◌, ◌++◌, map, Option, Some, None, refl, sym, ap, ap₂, subst}
+use Rattle.std.proofs.Common.{◌≡◌, ℕ, Bool, List, [], ◌∷◌, ◌++◌, map, Option, Some, None, refl, sym, ap, ap₂, subst}
 use Rattle.std.specs.Prelude.{option_map}
 use Rattle.sp_types.specs.declared.ctype.IntKind.{IntKind}
 use Rattle.sp_types.specs.Types.{CType}
@@ -9,9 +9,9 @@ use Rattle.sp_renaming.specs.Renaming.{Renaming, number_in, renamed, renamed_sta
 use Rattle.sp_typing.specs.Trees.{Scene}
 use Rattle.sp_typing.specs.Statements.{labels_in, form_labels, other_labels, all_labels, Setting, IsCondition, IsMaybeTyped, IsMaybeCondition, IsReturned, IsDeclared, AreDeclared, IsTypedStatement, IsTypedForm, IsMaybeTypedStatement, AreTypedStatements}
 use Rattle.sp_typing.specs.Refines.{Refines}
-use Rattle.sp_renamed_laws.specs.Follows.{Follows}
+use Rattle.sp_renamed_laws.specs.Follows.{lacks_layout, Follows}
 use Rattle.sp_renamed_laws.specs.Laws.{IsRenamed, BodiesAreRenamed}
-use Rattle.sp_renamed_laws.proofs.Types.{integer_is, scalar_kept, value_kept, stored_kept}
+use Rattle.sp_renamed_laws.proofs.Types.{integer_is, scalar_kept, value_kept, stored_kept, known_closed, stored_known}
 use Rattle.sp_renamed_laws.proofs.Trees.{renamed_tree}
 
 -- ---- labels
@@ -48,8 +48,14 @@ module _ (r : Renaming) where
 
 -- ---- statements
 
-module _ (r : Renaming) (s p : Scene) (w : Follows r s p) (t u : CType) (told : Refines (number_in r.structs) t u)
+module _ (r : Renaming) (s p : Scene) (w : Follows r s p) (t u : CType) (told : Refines (lacks_layout s.structs) (number_in r.structs) t u)
     (entered : (n : ℕ) → IsDeclared s n → IsDeclared p (number_in r.objects n)) (labels : List ℕ) where
+  abbrev o : ℕ → Bool
+  o = lacks_layout s.structs
+
+  abbrev f : ℕ → ℕ
+  f = number_in r.structs
+
   abbrev before : Setting
   before = record { scene = s; labels = labels; result = t }
 
@@ -62,8 +68,8 @@ module _ (r : Renaming) (s p : Scene) (w : Follows r s p) (t u : CType) (told : 
 
   condition_kept : (e : Typed) → IsCondition s e → IsCondition p (renamed r e)
   condition_kept e h =
-      let x : IsRenamed r p e = renamed_tree r s p w e h.0 in
-      (x.typed, scalar_kept (number_in r.structs) (of e) (of (renamed r e)) x.refines h.1)
+      let x : IsRenamed o r p e = renamed_tree r s p w e h.0 in
+      (x.typed, scalar_kept o f (of e) (of (renamed r e)) x.refines h.1)
 
   maybe_kept : (e : Option Typed) → IsMaybeTyped s e → IsMaybeTyped p (option_map (renamed r) e)
   maybe_kept None h = tt
@@ -76,8 +82,12 @@ module _ (r : Renaming) (s p : Scene) (w : Follows r s p) (t u : CType) (told : 
   returned_kept : (e : Option Typed) → IsReturned before e → IsReturned later (option_map (renamed r) e)
   returned_kept None h = tt
   returned_kept (Some e) h =
-      let x : IsRenamed r p e = renamed_tree r s p w e h.0 in
-      (x.typed, stored_kept r s p w t u told h.1, value_kept (number_in r.structs) (of e) (of (renamed r e)) t u x.refines told h.2)
+      let x : IsRenamed o r p e = renamed_tree r s p w e h.0 in (
+        x.typed,
+        stored_kept r s p w t u told h.1,
+        value_kept o f (of e) (of (renamed r e)) t u x.refines told
+            (known_closed r s p w t (stored_known r s p w t h.1)) h.2,
+      )
 
   mutual
     statement_kept : (k : Option IntKind) (x : TypedStatement) → IsTypedStatement before k x
@@ -95,11 +105,11 @@ module _ (r : Renaming) (s p : Scene) (w : Follows r s p) (t u : CType) (told : 
     form_kept k (if_else e x other) h =
         (condition_kept e h.0, statement_kept k x h.1, other_kept k other h.2)
     form_kept k (switch_on e x) h =
-        let y : IsRenamed r p e = renamed_tree r s p w e h.0 in (
+        let y : IsRenamed o r p e = renamed_tree r s p w e h.0 in (
           y.typed,
           (
             h.1.0,
-            integer_is (number_in r.structs) h.1.0 (of e) (of (renamed r e)) y.refines h.1.1,
+            integer_is o f h.1.0 (of e) (of (renamed r e)) y.refines h.1.1,
             statement_kept (Some h.1.0) x h.1.2,
           ),
         )

@@ -1,6 +1,7 @@
 -- Types of a unit, and those that stand for them in its program.
-use Rattle.std.proofs.Common.{cond, ◌*◌, nat_le, leb-true, ◌≡◌, ℕ, ◌≤◌, ◌^◌, Bool, true, false, ◌==◌, List, Option, Some, None, is_some, refl, sym, ap, subst, ◌∙◌, true≢false, eqb-true, ◌||◌, arith}
+use Rattle.std.proofs.Common.{cond, ◌*◌, nat_le, leb-true, ◌≡◌, ℕ, ◌≤◌, ◌^◌, Bool, true, false, ◌==◌, List, Option, Some, None, is_some, is_none, refl, sym, ap, subst, ◌∙◌, true≢false, eqb-true, ◌||◌, arith}
 use Rattle.std.proofs.lemmas.Bool.{eqb-false}
+use Rattle.std.specs.Prelude.{⊤}
 use Rattle.sp_types.specs.declared.extents.Extent.{Extent}
 use Rattle.sp_types.specs.declared.ctype.IntKind.{IntKind}
 use Rattle.sp_types.specs.Types.{CType, void, integer, floating, pointer, array, structure, function, Signature, signature, Parameters, untold, listed, CTypes, no_types, next_type}
@@ -10,10 +11,10 @@ use Rattle.sp_types.specs.Compatible.{convertible}
 use Rattle.sp_ir.specs.Terrain.{size_in, size_of}
 use Rattle.sp_ir.specs.Formed.{is_integer, is_pointer, is_struct, is_array, is_floating, is_scalar}
 use Rattle.sp_renaming.specs.Renaming.{Renaming, number_in, told_by, renamed_type, renamed_signature, renamed_parameters, renamed_types}
-use Rattle.sp_typing.specs.Sorts.{is_function, agrees, same_value, IsExact, IsSized, IsStored, IsStepped}
+use Rattle.sp_typing.specs.Sorts.{is_function, agrees, same_value, IsExact, IsSized, IsKnown, IsStored, IsStepped}
 use Rattle.sp_typing.specs.Trees.{Scene}
-use Rattle.sp_typing.specs.Refines.{KeepsLength, LaysOut, lays_void, lays_integer, lays_floating, lays_pointer, lays_array, lays_struct, lays_function, Refines, of_void, of_integer, of_floating, of_pointer, of_array, of_struct, of_function}
-use Rattle.sp_renamed_laws.specs.Follows.{Follows}
+use Rattle.sp_typing.specs.Refines.{KeepsLength, MayName, names_void, names_integer, names_floating, names_pointer, names_array, names_struct, names_open, names_function, Refines, of_void, of_integer, of_floating, of_pointer, of_array, of_struct, of_open, of_function}
+use Rattle.sp_renamed_laws.specs.Follows.{lacks_layout, Follows}
 
 none_some : {A : Type 0} (x : A) → None ≡ Some x → ⊥
 none_some x e = true≢false (sym (ap is_some e))
@@ -41,139 +42,172 @@ keeps_through : (n m o : Option ℕ) → KeepsLength n m → KeepsLength m o →
 keeps_through None m o h k = tt
 keeps_through (Some n) m o h k = subst (λ x. KeepsLength x o) h k
 
-pub refines_self : (ns : List ℕ) (t : CType) → Refines (number_in ns) t (renamed_type ns t)
-refines_self ns void = of_void
-refines_self ns (integer k) = of_integer k
-refines_self ns (floating k) = of_floating k
-refines_self ns (pointer t) = of_pointer t (renamed_type ns t) (refines_self ns t)
-refines_self ns (array t n) = of_array t (renamed_type ns t) n n (refines_self ns t) (keeps_self n)
-refines_self ns (structure k) = of_struct k
-refines_self ns (function s) = of_function s (renamed_signature ns s)
+pub refines_self : (o : ℕ → Bool) (ns : List ℕ) (t : CType) → Refines o (number_in ns) t (renamed_type ns t)
+refines_self o ns void = of_void
+refines_self o ns (integer k) = of_integer k
+refines_self o ns (floating k) = of_floating k
+refines_self o ns (pointer t) = of_pointer t (renamed_type ns t) (refines_self o ns t)
+refines_self o ns (array t n) = of_array t (renamed_type ns t) n n (refines_self o ns t) (keeps_self n)
+refines_self o ns (structure k) = of_struct k
+refines_self o ns (function s) = of_function s (renamed_signature ns s)
 
--- an object is laid out as a further type tells
-pub lays_through : (f : ℕ → ℕ) (t u v : CType) → LaysOut (λ k. k) t u → LaysOut f u v → LaysOut f t v
-lays_through f t u v lays_void lays_void = lays_void
-lays_through f t u v (lays_integer k) (lays_integer _) = lays_integer k
-lays_through f t u v (lays_floating k) (lays_floating _) = lays_floating k
-lays_through f t u v (lays_pointer a b) (lays_pointer _ c) = lays_pointer a c
-lays_through f t u v (lays_array a b n m x k) (lays_array _ c _ o y l) =
-    lays_array a c n o (lays_through f a b c x y) (keeps_through n m o k l)
-lays_through f t u v (lays_struct k) (lays_struct _) = lays_struct k
-lays_through f t u v (lays_function a b) (lays_function _ c) = lays_function a c
-
--- as the unit's type does in the program
-pub lays_here : (ns : List ℕ) (t u : CType) → LaysOut (number_in ns) t u → LaysOut (λ k. k) (renamed_type ns t) u
-lays_here ns t u lays_void = lays_void
-lays_here ns t u (lays_integer k) = lays_integer k
-lays_here ns t u (lays_floating k) = lays_floating k
-lays_here ns t u (lays_pointer a b) = lays_pointer (renamed_type ns a) b
-lays_here ns t u (lays_array a b n m x k) = lays_array (renamed_type ns a) b n m (lays_here ns a b x) k
-lays_here ns t u (lays_struct k) = lays_struct (number_in ns k)
-lays_here ns t u (lays_function a b) = lays_function (renamed_signature ns a) b
+-- an object may be named with what a further type may be named with
+pub named_through : (o : ℕ → Bool) (f : ℕ → ℕ) (t u v : CType) → MayName (λ k. false) (λ k. k) t u
+    → MayName o f u v → MayName o f t v
+named_through o f t u v names_void names_void = names_void
+named_through o f t u v (names_integer k) (names_integer _) = names_integer k
+named_through o f t u v (names_floating k) (names_floating _) = names_floating k
+named_through o f t u v (names_pointer a b) (names_pointer _ c) = names_pointer a c
+named_through o f t u v (names_array a b n m k) (names_array _ c _ i l) =
+    names_array a c n i (keeps_through n m i k l)
+named_through o f t u v (names_struct k) (names_struct _) = names_struct k
+named_through o f t u v (names_struct k) (names_open _ j e) = names_open k j e
+named_through o f t u v (names_open k j e) x = absurd (true≢false (sym e))
+named_through o f t u v (names_function a b) (names_function _ c) = names_function a c
 
 -- what names an object stands for its type in the unit
-pub told_refines : (ns : List ℕ) (t u : CType) → LaysOut (number_in ns) t u → Refines (number_in ns) t (told_by (Some u) (renamed_type ns t))
-told_refines ns t u lays_void = of_void
-told_refines ns t u (lays_integer k) = of_integer k
-told_refines ns t u (lays_floating k) = of_floating k
-told_refines ns t u (lays_pointer a b) = refines_self ns (pointer a)
-told_refines ns t u (lays_array a b n m x k) = of_array a (renamed_type ns a) n m (refines_self ns a) k
-told_refines ns t u (lays_struct k) = of_struct k
-told_refines ns t u (lays_function a b) = of_function a (renamed_signature ns a)
+pub told_refines : (o : ℕ → Bool) (ns : List ℕ) (t u : CType) → MayName o (number_in ns) t u
+    → Refines o (number_in ns) t (told_by (Some u) (renamed_type ns t))
+told_refines o ns t u names_void = of_void
+told_refines o ns t u (names_integer k) = of_integer k
+told_refines o ns t u (names_floating k) = of_floating k
+told_refines o ns t u (names_pointer a b) = refines_self o ns (pointer a)
+told_refines o ns t u (names_array a b n m k) = of_array a (renamed_type ns a) n m (refines_self o ns a) k
+told_refines o ns t u (names_struct k) = of_struct k
+told_refines o ns t u (names_open k j e) = of_open k j e
+told_refines o ns t u (names_function a b) = of_function a (renamed_signature ns a)
 
-pub told_lays : (ns : List ℕ) (t u : CType) → LaysOut (number_in ns) t u → LaysOut (λ k. k) (told_by (Some u) (renamed_type ns t)) u
-told_lays ns t u lays_void = lays_void
-told_lays ns t u (lays_integer k) = lays_integer k
-told_lays ns t u (lays_floating k) = lays_floating k
-told_lays ns t u (lays_pointer a b) = lays_pointer (renamed_type ns a) b
-told_lays ns t u (lays_array a b n m x k) = lays_array (renamed_type ns a) b m m (lays_here ns a b x) (keeps_self m)
-told_lays ns t u (lays_struct k) = lays_struct (number_in ns k)
-told_lays ns t u (lays_function a b) = lays_function (renamed_signature ns a) b
+pub told_named : (o : ℕ → Bool) (ns : List ℕ) (t u : CType) → MayName o (number_in ns) t u
+    → MayName (λ k. false) (λ k. k) (told_by (Some u) (renamed_type ns t)) u
+told_named o ns t u names_void = names_void
+told_named o ns t u (names_integer k) = names_integer k
+told_named o ns t u (names_floating k) = names_floating k
+told_named o ns t u (names_pointer a b) = names_pointer (renamed_type ns a) b
+told_named o ns t u (names_array a b n m k) = names_array (renamed_type ns a) b m m (keeps_self m)
+told_named o ns t u (names_struct k) = names_struct (number_in ns k)
+told_named o ns t u (names_open k j e) = names_struct j
+told_named o ns t u (names_function a b) = names_function (renamed_signature ns a) b
 
 -- ---- sorts
 
-module _ (f : ℕ → ℕ) where
-  pub integer_kept : (t u : CType) → Refines f t u → is_integer t ≡ true → is_integer u ≡ true
+-- no struct that the first table has without members
+abbrev pub IsClosed : (ℕ → Bool) → CType → Type 0
+IsClosed o (structure k) = o k ≡ false
+IsClosed o t = ⊤
+
+module _ (o : ℕ → Bool) (f : ℕ → ℕ) where
+  pub integer_kept : (t u : CType) → Refines o f t u → is_integer t ≡ true → is_integer u ≡ true
   integer_kept t u of_void h = h
   integer_kept t u x h = h
 
-  pub pointer_kept : (t u : CType) → Refines f t u → is_pointer t ≡ true → is_pointer u ≡ true
+  pub pointer_kept : (t u : CType) → Refines o f t u → is_pointer t ≡ true → is_pointer u ≡ true
   pointer_kept t u of_void h = h
   pointer_kept t u x h = h
 
-  pub scalar_kept : (t u : CType) → Refines f t u → is_scalar t ≡ true → is_scalar u ≡ true
+  pub scalar_kept : (t u : CType) → Refines o f t u → is_scalar t ≡ true → is_scalar u ≡ true
   scalar_kept t u of_void h = h
   scalar_kept t u x h = h
 
-  pub function_kept : (t u : CType) → Refines f t u → is_function t ≡ true → is_function u ≡ true
+  pub function_kept : (t u : CType) → Refines o f t u → is_function t ≡ true → is_function u ≡ true
   function_kept t u of_void h = h
   function_kept t u x h = h
 
-  pub decayed_kept : (t u : CType) → Refines f t u → (is_array t || is_function t) ≡ true → (is_array u || is_function u) ≡ true
+  pub decayed_kept : (t u : CType) → Refines o f t u → (is_array t || is_function t) ≡ true → (is_array u || is_function u) ≡ true
   decayed_kept t u of_void h = h
   decayed_kept t u x h = h
 
-  pub struct_kept : (t u : CType) → Refines f t u → is_struct t ≡ true → is_struct u ≡ true
+  pub struct_kept : (t u : CType) → Refines o f t u → is_struct t ≡ true → is_struct u ≡ true
   struct_kept t u of_void h = h
   struct_kept t u x h = h
 
-  pub floating_kept : (t u : CType) → Refines f t u → is_floating t ≡ false → is_floating u ≡ false
+  pub floating_kept : (t u : CType) → Refines o f t u → is_floating t ≡ false → is_floating u ≡ false
   floating_kept t u of_void h = h
   floating_kept t u x h = h
 
-  pub agrees_kept : (a b t u : CType) → Refines f a b → Refines f t u → agrees a t ≡ true → agrees b u ≡ true
-  agrees_kept a b t u (of_struct j) (of_struct k) h = same_numbers f j k h
-  agrees_kept a b t u of_void of_void h = h
-  agrees_kept a b t u (of_integer j) (of_integer k) h = h
-  agrees_kept a b t u (of_floating j) (of_floating k) h = h
-  agrees_kept a b t u (of_pointer c d x) (of_pointer e g y) h = h
-  agrees_kept a b t u (of_array c d n m x l) (of_array e g n2 m2 y l2) h = h
-  agrees_kept a b t u (of_function c d) (of_function e g) h = h
-  agrees_kept a b t u x y h = h
+  pub agrees_kept : (a b t u : CType) → Refines o f a b → Refines o f t u → IsClosed o t
+      → agrees a t ≡ true → agrees b u ≡ true
+  agrees_kept a b t u (of_struct j) (of_struct k) closed h = same_numbers f j k h
+  agrees_kept a b t u (of_struct j) (of_open k i e) closed h = absurd (true≢false (sym e ∙ closed))
+  agrees_kept a b t u (of_open j i e) (of_struct k) closed h =
+      absurd (true≢false (sym (subst (λ n. o n ≡ true) (eqb-true j k h) e) ∙ closed))
+  agrees_kept a b t u (of_open j i e) (of_open k l d) closed h = absurd (true≢false (sym d ∙ closed))
+  agrees_kept a b t u of_void of_void closed h = h
+  agrees_kept a b t u (of_integer j) (of_integer k) closed h = h
+  agrees_kept a b t u (of_floating j) (of_floating k) closed h = h
+  agrees_kept a b t u (of_pointer c d x) (of_pointer e g y) closed h = h
+  agrees_kept a b t u (of_array c d n m x l) (of_array e g n2 m2 y l2) closed h = h
+  agrees_kept a b t u (of_function c d) (of_function e g) closed h = h
+  agrees_kept a b t u x y closed h = h
 
-  pub agrees_through : (a b c : CType) → agrees a b ≡ true → agrees b c ≡ true → agrees a c ≡ true
-  agrees_through void void void h k = refl
-  agrees_through (integer i) (integer j) (integer k) h l = refl
-  agrees_through (pointer a) (pointer b) (pointer c) h l = refl
-  agrees_through (array a i) (array b j) (array c k) h l = refl
-  agrees_through (structure i) (structure j) (structure k) h l = subst (λ x. (i == x) ≡ true) (eqb-true j k l) h
-  agrees_through (function a) (function b) (function c) h l = refl
-  agrees_through void void c h k = k
-  agrees_through (integer i) (integer j) c h k = k
-  agrees_through (pointer a) (pointer b) c h k = k
-  agrees_through (array a i) (array b j) c h k = k
-  agrees_through (function a) (function b) c h k = k
-  agrees_through (structure i) (structure j) c h k = k
-  agrees_through a b c h k = absurd (true≢false (sym h))
+  pub value_kept : (a b t u : CType) → Refines o f a b → Refines o f t u → IsClosed o t
+      → same_value a t ≡ true → same_value b u ≡ true
+  value_kept a b t u (of_struct j) (of_struct k) closed h = same_numbers f j k h
+  value_kept a b t u (of_struct j) (of_open k i e) closed h = absurd (true≢false (sym e ∙ closed))
+  value_kept a b t u (of_open j i e) (of_struct k) closed h =
+      absurd (true≢false (sym (subst (λ n. o n ≡ true) (eqb-true j k h) e) ∙ closed))
+  value_kept a b t u (of_open j i e) (of_open k l d) closed h = absurd (true≢false (sym d ∙ closed))
+  value_kept a b t u of_void of_void closed h = h
+  value_kept a b t u (of_integer j) (of_integer k) closed h = h
+  value_kept a b t u (of_floating j) (of_floating k) closed h = h
+  value_kept a b t u (of_pointer c d x) (of_pointer e g y) closed h = h
+  value_kept a b t u (of_array c d n m x l) (of_array e g n2 m2 y l2) closed h = h
+  value_kept a b t u (of_function c d) (of_function e g) closed h = h
+  value_kept a b t u x y closed h = h
 
-  pub value_kept : (a b t u : CType) → Refines f a b → Refines f t u → same_value a t ≡ true → same_value b u ≡ true
-  value_kept a b t u (of_struct j) (of_struct k) h = same_numbers f j k h
-  value_kept a b t u of_void of_void h = h
-  value_kept a b t u (of_integer j) (of_integer k) h = h
-  value_kept a b t u (of_floating j) (of_floating k) h = h
-  value_kept a b t u (of_pointer c d x) (of_pointer e g y) h = h
-  value_kept a b t u (of_array c d n m x l) (of_array e g n2 m2 y l2) h = h
-  value_kept a b t u (of_function c d) (of_function e g) h = h
-  value_kept a b t u x y h = h
+  pub convertible_kept : (a b t u : CType) → Refines o f a b → Refines o f t u → IsClosed o t
+      → convertible a t ≡ true → convertible b u ≡ true
+  convertible_kept a b t u (of_struct j) (of_struct k) closed h = same_numbers f j k h
+  convertible_kept a b t u (of_struct j) (of_open k i e) closed h = absurd (true≢false (sym e ∙ closed))
+  convertible_kept a b t u (of_open j i e) (of_struct k) closed h =
+      absurd (true≢false (sym (subst (λ n. o n ≡ true) (eqb-true j k h) e) ∙ closed))
+  convertible_kept a b t u (of_open j i e) (of_open k l d) closed h = absurd (true≢false (sym d ∙ closed))
+  convertible_kept a b t u of_void of_void closed h = h
+  convertible_kept a b t u (of_integer j) (of_integer k) closed h = h
+  convertible_kept a b t u (of_floating j) (of_floating k) closed h = h
+  convertible_kept a b t u (of_pointer c d x) (of_pointer e g y) closed h = h
+  convertible_kept a b t u (of_array c d n m x l) (of_array e g n2 m2 y l2) closed h = h
+  convertible_kept a b t u (of_function c d) (of_function e g) closed h = h
+  convertible_kept a b t u x y closed h = h
 
-  pub convertible_kept : (a b t u : CType) → Refines f a b → Refines f t u → convertible a t ≡ true → convertible b u ≡ true
-  convertible_kept a b t u (of_struct j) (of_struct k) h = same_numbers f j k h
-  convertible_kept a b t u of_void of_void h = h
-  convertible_kept a b t u (of_integer j) (of_integer k) h = h
-  convertible_kept a b t u (of_floating j) (of_floating k) h = h
-  convertible_kept a b t u (of_pointer c d x) (of_pointer e g y) h = h
-  convertible_kept a b t u (of_array c d n m x l) (of_array e g n2 m2 y l2) h = h
-  convertible_kept a b t u (of_function c d) (of_function e g) h = h
-  convertible_kept a b t u x y h = h
-
-  pub integer_is : (k : IntKind) (t u : CType) → Refines f t u → t ≡ integer k → u ≡ integer k
+  pub integer_is : (k : IntKind) (t u : CType) → Refines o f t u → t ≡ integer k → u ≡ integer k
   integer_is k t u of_void h = h
   integer_is k t u (of_integer j) h = h
   integer_is k t u x h = absurd (true≢false (sym (ap is_integer h)))
 
-  pub exact_kept : (t u a b : CType) → Refines f t u → Refines f a b → IsExact t a → IsExact u b
+  pub exact_kept : (t u a b : CType) → Refines o f t u → Refines o f a b → IsExact t a → IsExact u b
   exact_kept t u a b (of_integer k) y h = integer_is k a b y h
   exact_kept t u a b x y h = tt
+
+all_closed : (t : CType) → IsClosed (λ k. false) t
+all_closed void = tt
+all_closed (integer k) = tt
+all_closed (floating k) = tt
+all_closed (pointer t) = tt
+all_closed (array t n) = tt
+all_closed (structure k) = refl
+all_closed (function s) = tt
+
+pub agrees_renamed : (ns : List ℕ) (a t : CType) → agrees a t ≡ true
+    → agrees (renamed_type ns a) (renamed_type ns t) ≡ true
+agrees_renamed ns a t h =
+    agrees_kept (λ k. false) (number_in ns) a (renamed_type ns a) t (renamed_type ns t)
+    (refines_self (λ k. false) ns a) (refines_self (λ k. false) ns t) (all_closed t) h
+
+-- the sort of a type through another
+pub agrees_through : (a b c : CType) → agrees a b ≡ true → agrees b c ≡ true → agrees a c ≡ true
+agrees_through void void void h k = refl
+agrees_through (integer i) (integer j) (integer k) h l = refl
+agrees_through (pointer a) (pointer b) (pointer c) h l = refl
+agrees_through (array a i) (array b j) (array c k) h l = refl
+agrees_through (structure i) (structure j) (structure k) h l = subst (λ x. (i == x) ≡ true) (eqb-true j k l) h
+agrees_through (function a) (function b) (function c) h l = refl
+agrees_through void void c h k = k
+agrees_through (integer i) (integer j) c h k = k
+agrees_through (pointer a) (pointer b) c h k = k
+agrees_through (array a i) (array b j) c h k = k
+agrees_through (function a) (function b) c h k = k
+agrees_through (structure i) (structure j) c h k = k
+agrees_through a b c h k = absurd (true≢false (sym h))
 
 -- what agrees with a type is not of floating type
 pub not_floating : (t u : CType) → agrees t u ≡ true → is_floating t ≡ false
@@ -198,7 +232,10 @@ repeated_small n None = tt
 repeated_small n (Some e) = small_by (nat_le (e.size * n) (2 ^ 40)) e n refl
 
 module _ (r : Renaming) (s p : Scene) (w : Follows r s p) where
-  pub layout_kept : (t u : CType) (e : Extent) → Refines (number_in r.structs) t u → layout s.structs t ≡ Some e → layout p.structs u ≡ Some e
+  abbrev R : CType → CType → Type 0
+  R t u = Refines (lacks_layout s.structs) (number_in r.structs) t u
+
+  pub layout_kept : (t u : CType) (e : Extent) → R t u → layout s.structs t ≡ Some e → layout p.structs u ≡ Some e
   layout_kept t u e of_void h = absurd (none_some e h)
   layout_kept t u e (of_integer k) h = h
   layout_kept t u e (of_floating k) h = h
@@ -214,30 +251,74 @@ module _ (r : Renaming) (s p : Scene) (w : Follows r s p) where
       by None is f g = absurd (none_some e g)
       by (Some d) is f g = subst (λ o. repeated n o ≡ Some e) (sym (f d is)) g
   layout_kept t u e (of_struct k) h = w.table.layouts k e h
+  layout_kept t u e (of_open k j c) h = absurd (true≢false (sym c ∙ ap is_none h))
   layout_kept t u e (of_function a b) h = absurd (none_some e h)
+
+  -- what has a size isn't open
+  size_closed : (o : Option Extent) → 1 ≤ size_in o → is_none o ≡ false
+  size_closed None h = absurd (omega (arith, h))
+  size_closed (Some e) h = refl
+
+  pub known_closed : (t : CType) → IsKnown s.structs t → IsClosed (lacks_layout s.structs) t
+  known_closed void h = tt
+  known_closed (integer k) h = tt
+  known_closed (floating k) h = tt
+  known_closed (pointer t) h = tt
+  known_closed (array t n) h = tt
+  known_closed (structure k) h = size_closed (layout s.structs (structure k)) h
+  known_closed (function g) h = tt
+
+  pub stored_known : (t : CType) → IsStored s.structs t → IsKnown s.structs t
+  stored_known (structure k) h = h
+  stored_known void h = absurd h
+  stored_known (integer k) h = tt
+  stored_known (floating k) h = absurd h
+  stored_known (pointer t) h = tt
+  stored_known (array t n) h = absurd h
+  stored_known (function g) h = absurd h
+
+  pub stepped_known : (t : CType) → IsStepped s.structs t → IsKnown s.structs t
+  stepped_known (structure k) h = absurd h
+  stepped_known void h = absurd h
+  stepped_known (integer k) h = tt
+  stepped_known (floating k) h = absurd h
+  stepped_known (pointer t) h = tt
+  stepped_known (array t n) h = absurd h
+  stepped_known (function g) h = absurd h
 
   size_laid : (o : Option Extent) → 1 ≤ size_in o → (e : Extent) × (o ≡ Some e)
   size_laid None h = absurd (omega (arith, h))
   size_laid (Some e) h = (e, refl)
 
-  pub size_kept : (t u : CType) → Refines (number_in r.structs) t u → 1 ≤ size_of s.structs t → size_of p.structs u ≡ size_of s.structs t
+  pub size_kept : (t u : CType) → R t u → 1 ≤ size_of s.structs t → size_of p.structs u ≡ size_of s.structs t
   size_kept t u x h =
       let l : (e : Extent) × (layout s.structs t ≡ Some e) = size_laid (layout s.structs t) h in
       ap size_in (layout_kept t u l.0 x l.1 ∙ sym l.1)
 
-  pub some_size : (t u : CType) → Refines (number_in r.structs) t u → 1 ≤ size_of s.structs t → 1 ≤ size_of p.structs u
+  pub some_size : (t u : CType) → R t u → 1 ≤ size_of s.structs t → 1 ≤ size_of p.structs u
   some_size t u x h = subst (λ n. 1 ≤ n) (sym (size_kept t u x h)) h
 
-  pub sized_kept : (t u : CType) → Refines (number_in r.structs) t u → IsSized s.structs t → IsSized p.structs u
+  pub sized_kept : (t u : CType) → R t u → IsSized s.structs t → IsSized p.structs u
   sized_kept t u x h = (some_size t u x h.0, subst (λ n. n ≤ 2 ^ 40) (sym (size_kept t u x h.0)) h.1)
 
-  pub stored_kept : (t u : CType) → Refines (number_in r.structs) t u → IsStored s.structs t → IsStored p.structs u
+  pub stored_kept : (t u : CType) → R t u → IsStored s.structs t → IsStored p.structs u
   stored_kept t u (of_integer k) h = tt
   stored_kept t u (of_pointer a b x) h = tt
   stored_kept t u (of_struct k) h = some_size (structure k) (structure (number_in r.structs k)) (of_struct k) h
+  stored_kept t u (of_open k j c) h = some_size (structure k) (structure j) (of_open k j c) h
   stored_kept t u x h = absurd h
 
-  pub stepped_kept : (t u : CType) → Refines (number_in r.structs) t u → IsStepped s.structs t → IsStepped p.structs u
+  pub known_kept : (t u : CType) → R t u → IsKnown s.structs t → IsKnown p.structs u
+  known_kept t u (of_struct k) h = some_size (structure k) (structure (number_in r.structs k)) (of_struct k) h
+  known_kept t u (of_open k j c) h = some_size (structure k) (structure j) (of_open k j c) h
+  known_kept t u of_void h = tt
+  known_kept t u (of_integer k) h = tt
+  known_kept t u (of_floating k) h = tt
+  known_kept t u (of_pointer a b x) h = tt
+  known_kept t u (of_array a b n m x k) h = tt
+  known_kept t u (of_function a b) h = tt
+
+  pub stepped_kept : (t u : CType) → R t u → IsStepped s.structs t → IsStepped p.structs u
   stepped_kept t u (of_integer k) h = tt
   stepped_kept t u (of_pointer a b x) h = sized_kept a b x h
   stepped_kept t u x h = absurd h

@@ -1,5 +1,5 @@
 -- When a program has what a unit of it names (C90 6.1.2.6, 6.7).
-use Rattle.std.specs.Prelude.{◌≡◌, ℕ, ◌<◌, true, List, [], ◌∷◌, length, Some, slice_get, ⊤, false}
+use Rattle.std.specs.Prelude.{◌≡◌, ℕ, ◌<◌, Bool, true, is_none, List, [], ◌∷◌, length, Some, slice_get, ⊤, false}
 use Rattle.sp_types.specs.declared.extents.Extent.{Extent}
 use Rattle.sp_types.specs.Types.{CType, structure, Struct}
 use Rattle.sp_types.specs.Layout.{layout}
@@ -9,7 +9,7 @@ use Rattle.sp_ir.specs.Formed.{is_floating}
 use Rattle.sp_renaming.specs.Renaming.{Renaming, number_in, renamed_type}
 use Rattle.sp_typing.specs.Sorts.{agrees}
 use Rattle.sp_typing.specs.Trees.{Scene}
-use Rattle.sp_typing.specs.Refines.{LaysOut}
+use Rattle.sp_typing.specs.Refines.{MayName}
 
 -- the same names in the same order, with types of the sorts that those of the unit have
 abbrev pub AreMembers : List ℕ → List (ℕ × CType) → List (ℕ × CType) → Type 0
@@ -27,13 +27,17 @@ pub record HasMembers (ns : List ℕ) (ss : List Struct) (k : ℕ) (ms : List (�
   pub told : struct.members ≡ Some members
   pub same : AreMembers ns ms members
 
--- an object of the unit, of the type t there, is one of the program
-pub record IsObjectIn (r : Renaming) (p : Scene) (n : ℕ) (t : CType) : Type 0 where
+-- the structs of a unit that are incomplete there; a further unit may have another for one of them
+abbrev pub lacks_layout : List Struct → ℕ → Bool
+lacks_layout ss k = is_none (layout ss (structure k))
+
+-- an object of the unit, whose structs are `ss`, of the type t there, is one of the program
+pub record IsObjectIn (r : Renaming) (ss : List Struct) (p : Scene) (n : ℕ) (t : CType) : Type 0 where
   pub object : Object
   pub there : slice_get p.objects (number_in r.objects n) ≡ Some object
   pub visible : p.is_visible (number_in r.objects n) ≡ true
   pub told : slice_get r.types n ≡ Some object.of
-  pub laid_out : LaysOut (number_in r.structs) t object.of
+  pub named : MayName (lacks_layout ss) (number_in r.structs) t object.of
   pub formed : IsFormed p.structs object.of
 
 -- the structs `ps` have what the unit's structs `ss` have, under the numbers `ns`
@@ -47,5 +51,5 @@ pub record StructsFollow (ns : List ℕ) (ss ps : List Struct) : Type 0 where
 -- the program `p` has what may be named in the unit's scene `s`
 pub record Follows (r : Renaming) (s p : Scene) : Type 0 where
   pub table : StructsFollow r.structs s.structs p.structs
-  pub objects : (n : ℕ) (o : Object) → slice_get s.objects n ≡ Some o → s.is_visible n ≡ true → IsObjectIn r p n o.of
+  pub objects : (n : ℕ) (o : Object) → slice_get s.objects n ≡ Some o → s.is_visible n ≡ true → IsObjectIn r s.structs p n o.of
   pub functions : (n : ℕ) → n < s.functions → number_in r.functions n < p.functions

@@ -42,7 +42,7 @@ module _ (sss : List (List ℕ)) where
   units_keep (x ∷ xs) y i m h =
       units_keep xs (next_unit sss y x) i m (pushed_before y.0 (unit_joined (slice_index_or sss (length y.0) []) (length y.0) y.1 x).0 m i h)
 
-  joined_structs : (xs : List CheckedUnit) (y : List Numbers × Joined) (i at : ℕ) (x : CheckedUnit) → at ≡ length y.0 + i → slice_get xs i ≡ Some x
+  pub joined_structs : (xs : List CheckedUnit) (y : List Numbers × Joined) (i at : ℕ) (x : CheckedUnit) → at ≡ length y.0 + i → slice_get xs i ≡ Some x
       → (m : Numbers) × (slice_get (units_joined sss y xs).0 at ≡ Some m) × (m.structs ≡ slice_index_or sss at [])
   joined_structs [] y i at x p e = absurd (cc)
   joined_structs (w ∷ ws) y zero at x p e =
@@ -57,7 +57,7 @@ module _ (sss : List (List ℕ)) where
 -- ---- each struct
 
 module _ (xs : List CheckedUnit) (m : Matching) where
-  made_is : (r : ℕ × ℕ) → is_some (struct_at (tables_of xs) r) ≡ true
+  pub made_is : (r : ℕ × ℕ) → is_some (struct_at (tables_of xs) r) ≡ true
       → struct_made xs (renamings (units_joined m.numbers ([], nothing_joined) xs).1 (units_joined m.numbers ([], nothing_joined) xs).0) r ≡ program_struct (tables_of xs) m r
   made_is r there = table (slice_get (tables_of xs) r.0) refl there
     where
@@ -81,7 +81,7 @@ module _ (xs : List CheckedUnit) (m : Matching) where
           let v : (x : CheckedUnit) × (slice_get xs r.0 ≡ Some x) × (x.structs ≡ ss) = map_from (λ x. x.structs) xs r.0 ss e in
           unit v.0 v.1
 
-map_same : {A B : Type 0} (f g : A → B) (xs : List A) → ((i : ℕ) (x : A) → slice_get xs i ≡ Some x → f x ≡ g x) → map f xs ≡ map g xs
+pub map_same : {A B : Type 0} (f g : A → B) (xs : List A) → ((i : ℕ) (x : A) → slice_get xs i ≡ Some x → f x ≡ g x) → map f xs ≡ map g xs
 map_same f g [] e = refl
 map_same f g (x ∷ xs) e = λ i. e zero x refl i ∷ map_same f g xs (λ j y h. e (suc j) y h) i
 

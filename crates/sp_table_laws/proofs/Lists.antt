@@ -1,6 +1,7 @@
 -- Elements of lists.
-use Rattle.std.proofs.Common.{◌≡◌, ℕ, zero, suc, ◌<◌, Bool, true, false, ◌&&◌, length, map, List, [], ◌∷◌, Some, None, is_some, refl, ap, sym, true≢false, arith}
+use Rattle.std.proofs.Common.{◌≡◌, ℕ, zero, suc, ◌<◌, Bool, true, false, ◌&&◌, length, map, List, [], ◌∷◌, Some, None, is_some, inl, inr, refl, ap, sym, subst, true≢false, arith}
 use Rattle.std.specs.Prelude.{slice_get, slice_index_or, All}
+use Rattle.sp_struct_match.specs.Matched.{IsFirst}
 
 pub some_is : {A : Type 0} (x y : A) → Some x ≡ Some y → x ≡ y
 some_is x y e = cc
@@ -46,3 +47,8 @@ and_left false b h = h
 pub and_right : (a b : Bool) → (a && b) ≡ true → b ≡ true
 and_right true b h = h
 and_right false b h = absurd (true≢false (sym h))
+
+pub first_there : {A : Type 0} (P : A → Type 0) (xs : List A) (r : A) → IsFirst P xs (Some r) → P r
+first_there P [] r h = absurd (none_some r (sym h))
+first_there P (x ∷ xs) r (inl h) = subst P (some_is x r (sym h.1)) h.0
+first_there P (x ∷ xs) r (inr h) = first_there P xs r h.1

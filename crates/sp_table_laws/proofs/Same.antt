@@ -199,7 +199,7 @@ pub whole_members : (ss : List Struct) (s : Struct) (ms : Option (List (ℕ × C
 whole_members ss s None e h w = absurd (none_some e (sym w ∙ h))
 whole_members ss s (Some l) e h w = (l, refl, w)
 
-contents : (agree : ℕ → ℕ → Bool) (s t : Struct) (ms ks : List (ℕ × CType)) → s.members ≡ Some ms → t.members ≡ Some ks → structs_agree agree s t ≡ true → members_agree agree ms ks ≡ true
+pub contents : (agree : ℕ → ℕ → Bool) (s t : Struct) (ms ks : List (ℕ × CType)) → s.members ≡ Some ms → t.members ≡ Some ks → structs_agree agree s t ≡ true → members_agree agree ms ks ≡ true
 contents agree s t ms ks a b h =
     (λ i. contents_agree agree (sym a i) (sym b i))
     ∙ and_right (same_head s t) (contents_agree agree s.members t.members) h

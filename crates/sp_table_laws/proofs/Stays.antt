@@ -1,5 +1,5 @@
 -- The structs of a program form a table where those of its units do.
-use Rattle.std.proofs.Common.{◌≡◌, ℕ, zero, suc, ◌*◌, ◌^◌, ◌<◌, Bool, true, false, nat_le, if◌then◌else◌, get_or, length, List, [], ◌∷◌, Option, Some, None, is_some, option_map, ◌⊎◌, inl, inr, refl, ap, sym, subst, ◌∙◌, true≢false, arith}
+use Rattle.std.proofs.Common.{◌≡◌, ℕ, zero, suc, ◌*◌, ◌^◌, ◌<◌, Bool, true, false, nat_le, if◌then◌else◌, get_or, length, List, [], ◌∷◌, Option, Some, None, is_some, option_map, ◌⊎◌, refl, ap, sym, subst, ◌∙◌, true≢false, arith}
 use Rattle.std.proofs.lemmas.Bool.{leb-true}
 use Rattle.std.specs.Prelude.{slice_get, slice_index_or, All}
 use Rattle.sp_types.specs.Types.{CType, void, integer, floating, pointer, array, structure, function, Signature, signature, Parameters, untold, listed, CTypes, no_types, next_type, Struct}
@@ -14,7 +14,7 @@ use Rattle.sp_struct_match.specs.Matched.{of_units, IsFirst, AreMatched}
 use Rattle.sp_struct_match.specs.Laws.{number_of, StructsAreNumbered, StructsAreThere}
 use Rattle.sp_link.specs.Making.{renamed_members, renamed_struct, struct_told}
 use Rattle.sp_table_laws.specs.Tables.{program_struct, program_structs, AreTables, TablesStay}
-use Rattle.sp_table_laws.proofs.Lists.{some_is, none_some, head_all, tail_all, get_below, get_there, map_got, map_from, index_got}
+use Rattle.sp_table_laws.proofs.Lists.{first_there, some_is, none_some, head_all, tail_all, get_below, get_there, map_got, map_from, index_got}
 use Rattle.sp_table_laws.proofs.Same.{SameStruct, SameType, repeated_some, struct_some, member_some, AreSame, levels_same, leaf_counts_same, cell_counts_same, extents_same, whole_members, within}
 
 -- ---- what is small
@@ -45,7 +45,7 @@ table_there us x s e = by (slice_get us x.0) refl e
     by None g h = absurd (none_some s h)
     by (Some ss) g h = (ss, g, h)
 
-found_some : (o : Option Struct) → is_some o ≡ true → (s : Struct) × (o ≡ Some s)
+pub found_some : (o : Option Struct) → is_some o ≡ true → (s : Struct) × (o ≡ Some s)
 found_some None h = absurd (true≢false (sym h))
 found_some (Some s) h = (s, refl)
 
@@ -70,9 +70,6 @@ module _ (us : List (List Struct)) (m : Matching) (matched : AreMatched us m) (t
   told : (r : ℕ × ℕ) (t : Struct) → struct_at us r ≡ Some t → program_struct us m r ≡ renamed_struct (slice_index_or m.numbers r.0 []) t
   told r t e = ap (struct_told (slice_index_or m.numbers r.0 [])) e
 
-  its_own : (x : ℕ × ℕ) (s : Struct) → struct_at us x ≡ Some s → SameStruct (program_struct us m x) s
-  its_own x s e = subst (λ z. SameStruct z s) (sym (told x s e)) (record { extents = refl; levels = refl; leaf_counts = refl; cell_counts = refl })
-
   full : (o : Option Struct) → has_members o ≡ true → (t : Struct) × (o ≡ Some t) × (is_some t.members ≡ true)
   full None h = absurd (true≢false (sym h))
   full (Some t) h = (t, refl, h)
@@ -80,9 +77,6 @@ module _ (us : List (List Struct)) (m : Matching) (matched : AreMatched us m) (t
   sized : (ss : List Struct) (t : Struct) (ms : Option (List (ℕ × CType))) → is_some ms ≡ true → IsWhole ss t ms → (e : Extent) × (t.extent ≡ Some e)
   sized ss t None h w = absurd (true≢false (sym h))
   sized ss t (Some ms) h w = (w.1.0, w.1.1)
-
-  some_members : (ms : Option (List (ℕ × CType))) (l : List (ℕ × CType)) → ms ≡ Some l → is_some ms ≡ true
-  some_members ms l e = ap is_some e
 
   in_table : (x : ℕ × ℕ) → is_complete us x ≡ true → InTable us x
   in_table x c =
@@ -118,11 +112,6 @@ module _ (us : List (List Struct)) (m : Matching) (matched : AreMatched us m) (t
   chain_same x y s t (backward z j step) a b =
       let w : (r : Struct) × (struct_at us z ≡ Some r) × (is_some r.members ≡ true) = full (struct_at us z) step.1 in
       same_on s w.0 t (chain_same x z s w.0 j a w.1) (same_back t w.0 (step_same y z t w.0 step b w.1))
-
-  first_there : {A : Type 0} (P : A → Type 0) (xs : List A) (r : A) → IsFirst P xs (Some r) → P r
-  first_there P [] r h = absurd (none_some r (sym h))
-  first_there P (x ∷ xs) r (inl h) = subst P (some_is x r (sym h.1)) h.0
-  first_there P (x ∷ xs) r (inr h) = first_there P xs r h.1
 
   another : (x r : ℕ × ℕ) (s : Struct) → struct_at us x ≡ Some s → is_complete us x ≡ true → Joined us x r → (t : Struct) × (struct_at us r ≡ Some t) → SameStruct (program_struct us m r) s
   another x r s a c j t =
@@ -187,7 +176,7 @@ module _ (us : List (List Struct)) (m : Matching) (matched : AreMatched us m) (t
           subst (λ z. z < length (program_structs us m)) (sym w.named) (get_below (program_structs us m) w.number w.entry w.there)
       types_formed (function s) h = signatures_formed s h
 
-      signatures_formed : (s : Signature) → IsFormedSignature ss s → IsFormedSignature (program_structs us m) (renamed_signature (slice_index_or m.numbers u []) s)
+      pub signatures_formed : (s : Signature) → IsFormedSignature ss s → IsFormedSignature (program_structs us m) (renamed_signature (slice_index_or m.numbers u []) s)
       signatures_formed (signature r ps v) h = (types_formed r h.0, parameters_formed ps h.1)
 
       parameters_formed : (ps : Parameters) → AreFormedParameters ss ps → AreFormedParameters (program_structs us m) (renamed_parameters (slice_index_or m.numbers u []) ps)

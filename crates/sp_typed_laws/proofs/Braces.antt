@@ -1,5 +1,5 @@
 -- Structs that specifiers name, and the braces that complete one (C90 6.5.2.1 to 6.5.2.3).
-use Rattle.std.proofs.Common.{◌≡◌, ℕ, ◌+◌, ◌<◌, Bool, true, false, ◌==◌, nat_le, length, List, [], ◌∷◌, ◌++◌, Option, Some, None, refl, ap, sym, subst, ◌∙◌, true≢false, arith}
+use Rattle.std.proofs.Common.{◌≡◌, inl, ℕ, ◌+◌, ◌<◌, Bool, true, false, ◌==◌, nat_le, length, List, [], ◌∷◌, ◌++◌, Option, Some, None, refl, ap, sym, subst, ◌∙◌, true≢false, arith}
 use Rattle.std.specs.Prelude.{slice_get, slice_set}
 use Rattle.sp_tree.specs.declared.fault.Place.{Place}
 use Rattle.sp_types.specs.Types.{CType, structure, Struct}
@@ -11,15 +11,21 @@ use Rattle.sp_env.specs.Env.{Env, with_struct, set_struct, with_depth}
 use Rattle.sp_type_rules.specs.Tags.{tag_found, open_struct, tagged, struct_at, struct_referred, enum_at, enum_referred}
 use Rattle.sp_member_rules.specs.Members.{begun_struct, begun, depth_above, completed}
 use Rattle.sp_expr_check.specs.Specifiers.{struct_opened}
-use Rattle.sp_unit_laws.proofs.Lists.{some_is, each_pushed, each_set, get_below, pushed_length, pushed_before, set_length, set_other, set_there}
+use Rattle.sp_unit_laws.proofs.Lists.{some_is, none_some, each_pushed, each_set, get_below, pushed_length, pushed_before, set_length, set_other, set_there}
 use Rattle.sp_unit_laws.proofs.Tables.{table_pushed, table_set}
 use Rattle.sp_unit_laws.proofs.Members.{IsMade, struct_made}
-use Rattle.sp_unit_laws.proofs.Envs.{Goes, formed_over}
+use Rattle.sp_unit_laws.proofs.Envs.{IsFormedEnv, Goes, formed_over}
+use Rattle.sp_scopes.specs.Meanings.{Meaning}
+use Rattle.sp_scopes.specs.Meanings as means
+use Rattle.sp_typed_laws.proofs.Elements.{elements_stay}
 use Rattle.sp_unit_laws.proofs.After.{Gives, gives, gives_none, gives_then, gives_met}
-use Rattle.sp_typed_laws.specs.Sound.{IsSoundStruct}
-use Rattle.sp_typed_laws.proofs.Envs.{IsFit, fit_table, kept_there, kept_function, Moves, moves_on, Reaches, reaches_nowhere, reaches_on}
+use Rattle.sp_typed_laws.specs.Sound.{IsSoundStruct, lasting_alone, scene_of}
+use Rattle.sp_typed_laws.proofs.Named.{names_nowhere}
+use Rattle.sp_typed_laws.proofs.Envs.{IsFitting, IsFit, fit_table, kept_there, kept_function, Moves, moves_on, Reaches, reaches_nowhere, file_later, reaches_on}
+use Rattle.sp_typed_laws.proofs.Grows.{Grows}
+use Rattle.sp_typed_laws.proofs.Starts.{calm_on, starts_calm}
 use Rattle.sp_typed_laws.proofs.After.{After, done, after_none, next, taken, met, given}
-use Rattle.sp_typed_laws.proofs.Updates.{reaches_by, reaches_tagged}
+use Rattle.sp_typed_laws.proofs.Updates.{reaches_by, still, still_starts, reaches_tagged}
 use Rattle.sp_typed_laws.proofs.Members.{is_filled, struct_sound}
 use Rattle.sp_typed_laws.proofs.Leaves.{IsType, AreMembers}
 use Rattle.sp_unit_laws.proofs.Braces.{found_union, found_open, open_incomplete, IsBegun}
@@ -48,7 +54,8 @@ reaches_opened own env tag union h =
     (λ x. x)
     (omega arith) (kept_function env.tables.functions) refl
     (each_pushed IsSoundStruct env.tables.structs (open_struct tag union) h.structs (tt, tt))
-    h.objects h.functions
+    h.objects h.functions (λ all. still own env h (with_struct env (open_struct tag union)) refl)
+    (still_starts own env h (with_struct env (open_struct tag union)) refl) (λ m j e. e) (names_nowhere env)
 
 struct_there : (own : ℕ → Bool) (env : Env) (union : Bool) (tag : Option ℕ) (p : Place)
     (o : Option Tag) → IsFit own env → After own env IsThere (struct_at env union tag p o)
@@ -109,7 +116,8 @@ reaches_begun own env k tag union s h at low =
     reaches_by own env h (begun env k tag union) g (kept_there env.tables.objects) (λ x. x)
     (omega arith) (kept_function env.tables.functions) refl
     (each_set IsSoundStruct env.tables.structs k (begun_struct tag union) h.structs (tt, tt))
-    h.objects h.functions
+    h.objects h.functions (λ all. still own env h (begun env k tag union) refl)
+    (still_starts own env h (begun env k tag union) refl) (λ m j e. e) (names_nowhere env)
 
 pub struct_begun : (own : ℕ → Bool) (env : Env) (union : Bool) (tag : Option ℕ) (p : Place)
     → IsFit own env → After own env (IsBegun env tag union) (struct_opened env union tag p)
@@ -134,8 +142,8 @@ struct_begun own env union tag p h =
 module _ (own : ℕ → Bool) (env first later : Env) (k : ℕ) (tag : Option ℕ) (union : Bool)
     (begun-is : IsBegun env tag union k first) (to-first : Reaches own env first)
     (to-later : Reaches own first later) where
-  still : slice_get later.tables.structs k ≡ Some (begun_struct tag union)
-  still = to-later.moves.keeps.closed k (begun_struct tag union) begun-is.behind refl
+  begun_still : slice_get later.tables.structs k ≡ Some (begun_struct tag union)
+  begun_still = to-later.moves.keeps.closed k (begun_struct tag union) begun-is.behind refl
 
   goes_completed : (s : Struct) → IsWhole later.tables.structs s s.members
       → Goes env (set_struct later k s)
@@ -144,7 +152,7 @@ module _ (own : ℕ → Bool) (env first later : Env) (k : ℕ) (tag : Option �
       set_length later.tables.structs k s in record {
         formed =
             formed_over later (slice_set later.tables.structs k s) (omega (arith, same))
-            (table_set later.tables.structs k (begun_struct tag union) s still refl
+            (table_set later.tables.structs k (begun_struct tag union) s begun_still refl
             to-later.fit.formed.table whole) to-later.fit.formed;
         keeps = record {
           longer = omega (arith, same, to-first.moves.keeps.longer, to-later.moves.keeps.longer);
@@ -159,8 +167,54 @@ module _ (own : ℕ → Bool) (env first later : Env) (k : ℕ) (tag : Option �
   between : Moves env later
   between = moves_on env first later to-first.moves to-later.moves
 
+  abbrev whole_env : Struct → ℕ → Env
+  whole_env s d = with_depth (set_struct later k s) k d
+
+  completed_moves : (s : Struct) (d : ℕ) → Goes env (set_struct later k s)
+      → Moves env (whole_env s d)
+  completed_moves s d g = record {
+    keeps = g.keeps;
+    objects = between.objects;
+    homes = between.homes;
+    functions = between.functions;
+    kept = between.kept;
+    around = between.around;
+    links = between.links;
+    names = between.names;
+  }
+
+  -- what is complete stays so
+  completed_grows : (s : Struct) (d : ℕ)
+      → Grows (scene_of lasting_alone later) (scene_of lasting_alone (whole_env s d))
+  completed_grows s d =
+      let same : length (slice_set later.tables.structs k s) ≡ length later.tables.structs =
+      set_length later.tables.structs k s in record {
+        stays = record {
+          longer = omega (arith, same);
+          complete = λ j t e at x.
+              set_other later.tables.structs k s j t
+              (λ is. none_some e (ap (λ (z : Struct). z.extent)
+              (some_is (begun_struct tag union) t
+              (sym begun_still ∙ ap (slice_get later.tables.structs) is ∙ at)) ∙ x)) at;
+        };
+        functions = omega arith;
+        names = λ n o at seen. record { object = o; there = at; visible = seen; same = λ t h. h };
+      }
+
+  completed_fits : (s : Struct) (d : ℕ) → IsFormedEnv later → (m : Meaning)
+      → IsFitting own later.tables.structs later.tables.objects m
+      → IsFitting own (slice_set later.tables.structs k s) later.tables.objects m
+  completed_fits s d f (means.object j) h = h
+  completed_fits s d f (means.function j) h = h
+  completed_fits s d f (means.constant z) h = h
+  completed_fits s d f (means.named t) h = (
+    h.0,
+    elements_stay later.tables.structs (slice_set later.tables.structs k s)
+        (completed_grows s d).stays t h.1,
+  )
+
   reaches_completed : (s : Struct) (d : ℕ) → IsWhole later.tables.structs s s.members
-      → IsSoundStruct s → Reaches own env (with_depth (set_struct later k s) k d)
+      → IsSoundStruct s → Reaches own env (whole_env s d)
   reaches_completed s d whole sound =
       let g : Goes env (set_struct later k s) = goes_completed s whole in record {
         fit = record {
@@ -175,17 +229,20 @@ module _ (own : ℕ → Bool) (env first later : Env) (k : ℕ) (tag : Option �
           structs = each_set IsSoundStruct later.tables.structs k s to-later.fit.structs sound;
           objects = to-later.fit.objects;
           functions = to-later.fit.functions;
-          inner = to-later.fit.inner;
-          around = to-later.fit.around;
+          inner = λ j n at.
+              completed_fits s d to-later.fit.formed n.1 (to-later.fit.inner j n at);
+          around = λ i t there j n at.
+              completed_fits s d to-later.fit.formed n.1 (to-later.fit.around i t there j n at);
         };
-        moves = record {
-          keeps = g.keeps;
-          objects = between.objects;
-          homes = between.homes;
-          functions = between.functions;
-          kept = between.kept;
-          around = between.around;
-        };
+        moves = completed_moves s d g;
+        calm = λ all. calm_on env later (whole_env s d) between.keeps.objects
+            (calm_on env first later to-first.moves.keeps.objects (to-first.calm all)
+            (to-later.calm all)) (λ j o at. inl at);
+        starts = λ waits w x.
+            starts_calm waits later (whole_env s d) to-later.fit.formed.table
+            (completed_grows s d) (λ j o at. inl at)
+            (to-later.starts waits (λ file. w (file_later env first to-first.moves file))
+            (to-first.starts waits w x));
       }
 
   pub struct_done : (p : Place) (ms : List (ℕ × CType)) → AreMembers ms later → is_filled ms ≡ true
@@ -198,7 +255,7 @@ module _ (own : ℕ → Bool) (env first later : Env) (k : ℕ) (tag : Option �
           IsThere k (with_depth (set_struct later k s) k (depth_above later.depths ms))
       made s m =
           let low : k < length later.tables.structs =
-          get_below later.tables.structs k (begun_struct tag union) still in (
+          get_below later.tables.structs k (begun_struct tag union) begun_still in (
             reaches_completed s (depth_above later.depths ms)
                 (subst (λ o. IsWhole later.tables.structs s o) (sym m.members) m.whole)
                 (struct_sound later.tables.structs s ms (fit_table own later to-later.fit) m.members
@@ -209,6 +266,6 @@ module _ (own : ℕ → Bool) (env first later : Env) (k : ℕ) (tag : Option �
       ready : Gives (λ e. Reaches own env e × IsThere k e) (completed later k union p ms)
       ready =
           gives_then (struct_made later.tables.structs k union p ms
-          (begun_struct tag union) still refl (λ j n at. (good j n at).0))
+          (begun_struct tag union) begun_still refl (λ j n at. (good j n at).0))
           (λ s m. gives_met {b = nat_le (depth_above later.depths ms) 200} _ _
           (λ few. gives (made s m)))

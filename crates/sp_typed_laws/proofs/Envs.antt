@@ -1,36 +1,42 @@
 -- Sound environments, and how they go on.
-use Rattle.std.proofs.Common.{◌≡◌, ℕ, ◌≤◌, ◌||◌, Bool, true, false, length, List, [], ◌∷◌, Option, Some, None, refl, ap, sym, ◌∙◌, true≢false, arith}
+use Rattle.std.proofs.Common.{◌≡◌, ◌⊎◌, inl, inr, ℕ, ◌≤◌, ◌||◌, Bool, true, false, length, List, [], ◌∷◌, Option, Some, None, refl, ap, sym, ◌∙◌, true≢false, arith}
 use Rattle.std.specs.Prelude.{slice_get, ⊤}
 use Rattle.sp_types.specs.declared.ctype.IntKind.TheVariants.{Int}
-use Rattle.sp_types.specs.Types.{CType, Signature, result_of}
+use Rattle.sp_types.specs.Types.{CType, Signature, Struct, result_of}
 use Rattle.sp_types.specs.Programs.{Object, Function}
-use Rattle.sp_types.specs.declared.program.Linkage.{Linkage}
-use Rattle.sp_types.specs.declared.program.Linkage.TheVariants.{External, Internal, Inner}
+use Rattle.sp_types.specs.declared.program.Storage.{Storage}
+use Rattle.sp_types.specs.declared.program.Storage.TheVariants.{Static, Outside}
 use Rattle.sp_scopes.specs.Meanings.{Meaning}
 use Rattle.sp_scopes.specs.Meanings as means
-use Rattle.sp_scopes.specs.Scopes.{Scope, entry, or_else, meaning_in, visible_meaning}
-use Rattle.sp_env.specs.Env.{Env}
+use Rattle.sp_scopes.specs.Scopes.{Scope, is_empty, is_file_scope, entry, or_else, meaning_in, visible_meaning}
+use Rattle.sp_env.specs.declared.env.Entity.TheVariants as entities
+use Rattle.sp_env.specs.Env.{Env, linked}
 use Rattle.sp_ir.specs.Formed.{InKind}
 use Rattle.sp_unit_laws.proofs.Lists.{Each, each_first, each_behind, each_found}
 use Rattle.sp_unit_laws.proofs.Stays.{Stays}
 use Rattle.sp_unit_laws.proofs.Tables.{whole_level}
 use Rattle.sp_unit_laws.proofs.Envs.{IsFormedEnv, Keeps, keeps_on}
-use Rattle.sp_typed_laws.specs.Sound.{IsSound, IsSoundSignature, IsSoundStruct, is_lasting, lasts, is_seen, scene_of}
+use Rattle.sp_typing.specs.Statements.{is_lasting}
+use Rattle.sp_typing.specs.Programs.{lasts}
+use Rattle.sp_typed_laws.specs.Sound.{IsSound, IsSoundSignature, KnowsElements, IsSoundStruct, is_seen, lasting_alone, scene_of}
+use Rattle.sp_typed_laws.proofs.Elements.{elements_stay}
 use Rattle.sp_typed_laws.proofs.Types.{IsSoundTable}
 use Rattle.sp_typing.specs.Refines.{Tells}
 use Rattle.sp_typing.specs.Sorts.{agrees}
 use Rattle.sp_typed_laws.proofs.Grows.{Grows}
+use Rattle.sp_typed_laws.proofs.Starts.{HaveStarts, IsCalm, calm_on, starts_calm}
+use Rattle.sp_typed_laws.proofs.Named.{is_linked, KeepNames, names_nowhere, names_on}
 
 -- ---- what is sound
 
-abbrev pub IsFitting : (ℕ → Bool) → List Object → Meaning → Type 0
-IsFitting own os (means.object k) = is_seen own os k ≡ true
-IsFitting own os (means.function k) = ⊤
-IsFitting own os (means.constant z) = InKind Int z
-IsFitting own os (means.named t) = IsSound t
+abbrev pub IsFitting : (ℕ → Bool) → List Struct → List Object → Meaning → Type 0
+IsFitting own ss os (means.object k) = is_seen own os k ≡ true
+IsFitting own ss os (means.function k) = ⊤
+IsFitting own ss os (means.constant z) = InKind Int z
+IsFitting own ss os (means.named t) = IsSound t × KnowsElements ss t
 
-abbrev pub AreFitting : (ℕ → Bool) → List Object → List (ℕ × Meaning) → Type 0
-AreFitting own os ns = Each (λ n. IsFitting own os n.1) ns
+abbrev pub AreFitting : (ℕ → Bool) → List Struct → List Object → List (ℕ × Meaning) → Type 0
+AreFitting own ss os ns = Each (λ n. IsFitting own ss os n.1) ns
 
 -- what is sound besides being formed
 pub record IsFit (own : ℕ → Bool) (env : Env) : Type 0 where
@@ -38,30 +44,34 @@ pub record IsFit (own : ℕ → Bool) (env : Env) : Type 0 where
   pub structs : Each IsSoundStruct env.tables.structs
   pub objects : Each (λ o. IsSound o.of) env.tables.objects
   pub functions : Each (λ f. IsSoundSignature f.of) env.tables.functions
-  pub inner : AreFitting own env.tables.objects env.scopes.inner.names
-  pub around : Each (λ s. AreFitting own env.tables.objects s.names) env.scopes.around
+  pub inner : AreFitting own env.tables.structs env.tables.objects env.scopes.inner.names
+  pub around : Each
+      (λ s. AreFitting own env.tables.structs env.tables.objects s.names) env.scopes.around
 
 pub fit_table : (own : ℕ → Bool) (env : Env) → IsFit own env → IsSoundTable env.tables.structs
 fit_table own env h = record { table = h.formed.table; structs = h.structs }
 
 -- ---- what stays
 
--- what has linkage lasts (C90 6.1.2.4)
-abbrev pub is_linked : Linkage → Bool
-is_linked External = true
-is_linked Internal = true
-is_linked Inner = false
+-- what has linkage lasts, and is no literal (C90 6.1.2.4)
+abbrev pub IsHomeStorage : Storage → Type 0
+IsHomeStorage s = (s ≡ Static) ⊎ (s ≡ Outside)
+
+pub home_lasting : (s : Storage) → IsHomeStorage s → is_lasting s ≡ true
+home_lasting s (inl h) = ap is_lasting h
+home_lasting s (inr h) = ap is_lasting h
 
 abbrev pub IsHome : Object → Type 0
-IsHome o = is_linked o.linkage ≡ true → is_lasting o.storage ≡ true
+IsHome o = is_linked o.linkage ≡ true → IsHomeStorage o.storage
 
--- the object of this number tells all that it told, and lasts where it lasted; where
--- it doesn't last it is the same
+-- the object of this number tells all that it told, has its linkage, and lasts where it lasted;
+-- where it doesn't last it is the same
 pub record IsKeptObject (os : List Object) (k : ℕ) (o : Object) : Type 0 where
   pub object : Object
   pub there : slice_get os k ≡ Some object
   pub same : (t : CType) → Tells o.of t → Tells object.of t
   pub stored : is_lasting o.storage ≡ true → is_lasting object.storage ≡ true
+  pub linkage : object.linkage ≡ o.linkage
   pub whole : is_lasting o.storage ≡ false → object ≡ o
 
 abbrev pub KeepObjects : List Object → List Object → Type 0
@@ -70,7 +80,14 @@ KeepObjects os rs = (k : ℕ) (o : Object) → slice_get os k ≡ Some o → IsK
 pub kept_there : (os : List Object) (k : ℕ) (o : Object) → slice_get os k ≡ Some o
     → IsKeptObject os k o
 kept_there os k o at =
-    record { object = o; there = at; same = λ t h. h; stored = λ h. h; whole = λ h. refl }
+    record {
+      object = o;
+      there = at;
+      same = λ t h. h;
+      stored = λ h. h;
+      linkage = refl;
+      whole = λ h. refl;
+    }
 
 -- what the result of a function of one type agrees with, that of the other agrees with
 abbrev pub Follows : Signature → Signature → Type 0
@@ -99,6 +116,11 @@ kept_function fs k f at = record {
   follows = λ t h. h;
 }
 
+-- a name that is linked to an object stays so (C90 6.1.2.2)
+abbrev pub KeepLinks : Env → Env → Type 0
+KeepLinks env later = (n k : ℕ) → linked env n ≡ Some (entities.Object k)
+    → linked later n ≡ Some (entities.Object k)
+
 -- objects are kept, objects and functions are added, and only the innermost scope changes
 pub record Moves (env later : Env) : Type 0 where
   pub keeps : Keeps env.tables later.tables
@@ -107,6 +129,8 @@ pub record Moves (env later : Env) : Type 0 where
   pub functions : length env.tables.functions ≤ length later.tables.functions
   pub kept : KeepFunctions env.tables.functions later.tables.functions
   pub around : later.scopes.around ≡ env.scopes.around
+  pub links : KeepLinks env later
+  pub names : KeepNames env later
 
 pub moves_nowhere : (env : Env) → Moves env env
 moves_nowhere env = record {
@@ -116,6 +140,8 @@ moves_nowhere env = record {
   functions = omega arith;
   kept = kept_function env.tables.functions;
   around = refl;
+  links = λ n k e. e;
+  names = names_nowhere env;
 }
 
 pub moves_on : (a b c : Env) → Moves a b → Moves b c → Moves a c
@@ -129,6 +155,7 @@ moves_on a b c g h = record {
         there = y.there;
         same = λ t s. y.same t (x.same t s);
         stored = λ s. y.stored (x.stored s);
+        linkage = y.linkage ∙ x.linkage;
         whole = λ s. y.whole (ap (λ z. is_lasting z.storage) (x.whole s) ∙ s) ∙ x.whole s;
       };
   homes = λ x. h.homes (g.homes x);
@@ -145,6 +172,8 @@ moves_on a b c g h = record {
         follows = λ t s. y.follows t (x.follows t s);
       };
   around = h.around ∙ g.around;
+  links = λ n k e. h.links n k (g.links n k e);
+  names = names_on a b c g.names h.names;
 }
 
 -- ---- what is seen stays so
@@ -171,27 +200,32 @@ module _ (own : ℕ → Bool) (env later : Env) (g : Moves env later) where
   seen_on k h = or_more (own k) (lasts (slice_get env.tables.objects k))
       (lasts (slice_get later.tables.objects k)) (lasts_on env later k g) h
 
-  fitting_on : (m : Meaning) → IsFitting own env.tables.objects m
-      → IsFitting own later.tables.objects m
-  fitting_on (means.object k) h = seen_on k h
-  fitting_on (means.function k) h = h
-  fitting_on (means.constant z) h = h
-  fitting_on (means.named t) h = h
-
-  pub all_fitting_on : (ns : List (ℕ × Meaning)) → AreFitting own env.tables.objects ns
-      → AreFitting own later.tables.objects ns
-  all_fitting_on ns h = λ k n at. fitting_on n.1 (h k n at)
-
-  pub around_fitting_on : Each (λ s. AreFitting own env.tables.objects s.names) env.scopes.around
-      → Each (λ s. AreFitting own later.tables.objects s.names) env.scopes.around
-  around_fitting_on h = λ k s at. all_fitting_on s.names (h k s at)
-
   pub table_stays : IsFormedEnv env → Stays env.tables.structs later.tables.structs
   table_stays f = record {
     longer = g.keeps.longer;
     complete = λ k s e at whole. g.keeps.closed k s at
         (whole_level env.tables.structs s s.members e whole (f.table k s at));
   }
+
+  fitting_on : IsFormedEnv env → (m : Meaning)
+      → IsFitting own env.tables.structs env.tables.objects m
+      → IsFitting own later.tables.structs later.tables.objects m
+  fitting_on f (means.object k) h = seen_on k h
+  fitting_on f (means.function k) h = h
+  fitting_on f (means.constant z) h = h
+  fitting_on f (means.named t) h =
+      (h.0, elements_stay env.tables.structs later.tables.structs (table_stays f) t h.1)
+
+  pub all_fitting_on : IsFormedEnv env → (ns : List (ℕ × Meaning))
+      → AreFitting own env.tables.structs env.tables.objects ns
+      → AreFitting own later.tables.structs later.tables.objects ns
+  all_fitting_on f ns h = λ k n at. fitting_on f n.1 (h k n at)
+
+  pub around_fitting_on : IsFormedEnv env
+      → Each (λ s. AreFitting own env.tables.structs env.tables.objects s.names) env.scopes.around
+      → Each (λ s. AreFitting own later.tables.structs later.tables.objects s.names)
+      env.scopes.around
+  around_fitting_on f h = λ k s at. all_fitting_on f s.names (h k s at)
 
   pub scene_grows : IsFormedEnv env → Grows (scene_of own env) (scene_of own later)
   scene_grows f = record {
@@ -204,42 +238,79 @@ module _ (own : ℕ → Bool) (env later : Env) (g : Moves env later) where
 
 -- ---- names
 
-found_or : (own : ℕ → Bool) (os : List Object) (o other : Option Meaning) (m : Meaning)
-    → ((m : Meaning) → o ≡ Some m → IsFitting own os m) → (other ≡ Some m → IsFitting own os m)
-    → or_else o other ≡ Some m → IsFitting own os m
-found_or own os (Some x) other m h g e = h m e
-found_or own os None other m h g e = g e
+found_or : (own : ℕ → Bool) (ss : List Struct) (os : List Object) (o other : Option Meaning)
+    (m : Meaning)
+    → ((m : Meaning) → o ≡ Some m → IsFitting own ss os m) →
+    (other ≡ Some m → IsFitting own ss os m)
+    → or_else o other ≡ Some m → IsFitting own ss os m
+found_or own ss os (Some x) other m h g e = h m e
+found_or own ss os None other m h g e = g e
 
-fitting_in : (own : ℕ → Bool) (os : List Object) (scopes : List Scope) (n : ℕ) (m : Meaning)
-    → Each (λ s. AreFitting own os s.names) scopes → meaning_in scopes n ≡ Some m
-    → IsFitting own os m
-fitting_in own os [] n m h e = absurd (cc)
-fitting_in own os (s ∷ scopes) n m h e =
-    found_or own os (entry s.names n) (meaning_in scopes n) m
-    (λ x g. each_found (IsFitting own os) s.names n x (h 0 s refl) g)
-    (fitting_in own os scopes n m (each_behind (λ s. AreFitting own os s.names) s scopes h)) e
+fitting_in : (own : ℕ → Bool) (ss : List Struct) (os : List Object) (scopes : List Scope) (n : ℕ)
+    (m : Meaning)
+    → Each (λ s. AreFitting own ss os s.names) scopes → meaning_in scopes n ≡ Some m
+    → IsFitting own ss os m
+fitting_in own ss os [] n m h e = absurd (cc)
+fitting_in own ss os (s ∷ scopes) n m h e =
+    found_or own ss os (entry s.names n) (meaning_in scopes n) m
+    (λ x g. each_found (IsFitting own ss os) s.names n x (h 0 s refl) g)
+    (fitting_in own ss os scopes n m (each_behind (λ s. AreFitting own ss os s.names) s scopes h)) e
 
 pub visible_fitting : (own : ℕ → Bool) (env : Env) (n : ℕ) (m : Meaning) → IsFit own env
-    → visible_meaning env.scopes n ≡ Some m → IsFitting own env.tables.objects m
+    → visible_meaning env.scopes n ≡ Some m → IsFitting own env.tables.structs env.tables.objects m
 visible_fitting own env n m h e =
-    fitting_in own env.tables.objects (env.scopes.inner ∷ env.scopes.around) n m
-    (each_first (λ s. AreFitting own env.tables.objects s.names) env.scopes.inner env.scopes.around
+    fitting_in own env.tables.structs env.tables.objects (env.scopes.inner ∷ env.scopes.around) n m
+    (each_first
+    (λ s. AreFitting own env.tables.structs env.tables.objects s.names) env.scopes.inner env.scopes.around
     h.inner h.around) e
 
 -- ---- behind a rule
+
+-- a function that has all objects: rules are told so to show that they declare none
+abbrev pub SeesAll : (ℕ → Bool) → Type 0
+SeesAll own = (k : ℕ) → own k ≡ true
+
+-- start values stay known; in the scope of the file an object that is `own` may come to wait
+abbrev pub KeepsStarts : (ℕ → Bool) → Env → Env → Type 0
+KeepsStarts own env later = (waits : ℕ → Bool)
+    → (is_file_scope env.scopes ≡ true → (k : ℕ) → own k ≡ true → waits k ≡ true)
+    → HaveStarts waits env → HaveStarts waits later
 
 -- the environment is sound, and what was there stays
 pub record Reaches (own : ℕ → Bool) (env later : Env) : Type 0 where
   pub fit : IsFit own later
   pub moves : Moves env later
+  pub calm : SeesAll own → IsCalm env later
+  pub starts : KeepsStarts own env later
 
 pub reaches_nowhere : (own : ℕ → Bool) (env : Env) → IsFit own env → Reaches own env env
-reaches_nowhere own env h = record { fit = h; moves = moves_nowhere env }
+reaches_nowhere own env h = record {
+  fit = h;
+  moves = moves_nowhere env;
+  calm = λ all k o at. inl at;
+  starts = λ waits w x. x;
+}
+
+pub file_later : (env later : Env) → Moves env later → is_file_scope later.scopes ≡ true
+    → is_file_scope env.scopes ≡ true
+file_later env later g h = sym (ap is_empty g.around) ∙ h
 
 pub reaches_on : (own : ℕ → Bool) (a b c : Env) → Reaches own a b → Reaches own b c
     → Reaches own a c
-reaches_on own a b c g h = record { fit = h.fit; moves = moves_on a b c g.moves h.moves }
+reaches_on own a b c g h = record {
+  fit = h.fit;
+  moves = moves_on a b c g.moves h.moves;
+  calm = λ all. calm_on a b c g.moves.keeps.objects (g.calm all) (h.calm all);
+  starts = λ waits w x.
+      h.starts waits (λ file. w (file_later a b g.moves file)) (g.starts waits w x);
+}
 
 pub grows_of : (own : ℕ → Bool) (env later : Env) → IsFit own env → Reaches own env later
     → Grows (scene_of own env) (scene_of own later)
 grows_of own env later h g = scene_grows own env later g.moves h.formed
+
+-- where no object is declared, they stay known
+pub calm_starts : (own : ℕ → Bool) (env later : Env) → IsFormedEnv env → IsCalm env later
+    → Moves env later → KeepsStarts own env later
+calm_starts own env later f calm g waits w x =
+    starts_calm waits env later f.table (scene_grows lasting_alone env later g f) calm x

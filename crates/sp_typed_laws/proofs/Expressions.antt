@@ -1,32 +1,35 @@
 -- Expressions that the checks accept are typed; types that type names, specifiers and declarators
 -- give are formed and sound, and the environment behind each is sound (C90 6.3, 6.5.2, 6.5.4,
 -- 6.5.5).
-use Rattle.std.proofs.Common.{◌≡◌, ℕ, ◌≤◌, ℤ, pos, Bool, true, false, ◌&&◌, ◌||◌, length, List, [], Option, Some, None, arith}
+use Rattle.std.proofs.Common.{◌≡◌, ℕ, ◌≤◌, ℤ, pos, Bool, true, false, ◌&&◌, ◌||◌, length, List, [], Option, Some, None, refl, ap, ◌∙◌, arith}
 use Rattle.sp_tree.specs.declared.fault.Place.{Place}
 use Rattle.sp_syntax.specs.Syntax.{Expression, expression, ExpressionForm, Expressions, no_expressions, next_expression, MaybeExpression, no_expression, some_expression, Specifier, storage, qualifier, basic, named, struct_specifier, enum_specifier, Specifiers, no_specifiers, next_specifier, StructSpec, struct_spec, no_members, some_members, Members, EnumSpec, enum_spec, Constants, no_constants, some_constants, Enumerators, no_enumerators, next_enumerator, Declaration, declaration, Declarations, no_declarations, next_declaration, InitDeclarator, init_declarator, InitDeclarators, no_items, next_item, Declarator, declarator, DeclaratorForm, absent, declared, group, Param, param, Params, no_params, next_param, TypeName, type_name}
 use Rattle.sp_syntax.specs.Syntax as syntax
 use Rattle.sp_syntax.specs.Places.{place_of, declarator_place}
-use Rattle.sp_types.specs.Types.{CType, CTypes, listed, parameters_of}
+use Rattle.sp_types.specs.Types.{CType, void, CTypes, listed, parameters_of}
+use Rattle.sp_types.specs.Programs.{Object}
 use Rattle.sp_types.specs.Structs.{AreFormed}
 use Rattle.sp_types.specs.Typed.{Typed, TypedList, of}
 use Rattle.sp_rules.specs.Rules.{behind, wanted, takes_object, not_floating, called_signature, told}
 use Rattle.sp_env.specs.Env.{Env, entered}
 use Rattle.sp_type_rules.specs.Derivations.{to_pointer, to_array, to_function}
-use Rattle.sp_member_rules.specs.Parameters.{declared_name, has_parameter_storage, is_lone_void, reserved, reserved_number}
+use Rattle.sp_member_rules.specs.Parameters.{declared_name, has_parameter_storage, is_lone_void, formal, reserved, reserved_number}
 use Rattle.sp_expr_check.specs.Parameters.{is_alone}
 use Rattle.sp_expr_check.specs.Expressions.{checked, value_checked, form_checked, arguments_checked, type_name_checked, specifiers_checked, specifier_checked, struct_checked, members_checked, declaration_members, items_checked, item_checked, enum_checked, constants_checked, constant_checked, declared_type, steps_checked, derivations_checked, params_checked, param_checked}
 use Rattle.sp_expr_check.specs.Specifiers.{names_type}
 use Rattle.sp_typing.specs.Sorts.{IsStored}
 use Rattle.sp_typing.specs.Trees.{IsTyped, AreArguments}
-use Rattle.sp_unit_laws.proofs.Lists.{each_none, each_pushed}
+use Rattle.sp_typing.specs.Statements.{is_lasting}
+use Rattle.sp_typing.specs.Programs.{lasts}
+use Rattle.sp_unit_laws.proofs.Lists.{each_none, each_pushed, pushed_last}
 use Rattle.sp_unit_laws.proofs.Longer.{parameters_longer}
 use Rattle.sp_written_laws.specs.Written.{IsWritten, IsWrittenForm, AreWritten, IsWrittenMaybe, IsWrittenName, IsWrittenSpecifier, AreWrittenSpecifiers, IsWrittenStruct, IsWrittenEnum, AreWrittenEnumerators, IsWrittenDeclarator, IsWrittenDeclaratorForm, IsWrittenParam, AreWrittenParams, IsWrittenItem, AreWrittenItems, IsWrittenDeclaration, AreWrittenDeclarations, has_item, declares, holds_member}
-use Rattle.sp_typed_laws.specs.Sound.{AreSound, scene_of}
+use Rattle.sp_typed_laws.specs.Sound.{AreBytes, AreSound, scene_of}
 use Rattle.sp_typed_laws.proofs.Types.{or_left}
 use Rattle.sp_typed_laws.proofs.Trees.{IsTree, IsValued, tree_formed, solid_made, tree_made, tree_valued}
 use Rattle.sp_typed_laws.proofs.Rules.{index_typed, member_typed, arrow_typed, after_typed, object_typed, value_typed, cast_typed, tree_good, binary_typed, choice_typed, assign_typed, comma_made, signature_found, call_typed, argument_typed, wanted_good, behind_good, callee_good}
 use Rattle.sp_typed_laws.proofs.Grows.{tree_stays, value_stays, argument_stays}
-use Rattle.sp_typed_laws.proofs.Envs.{IsFit, fit_table, Reaches, reaches_nowhere, reaches_on, grows_of}
+use Rattle.sp_typed_laws.proofs.Envs.{IsFit, fit_table, IsKeptObject, Reaches, reaches_nowhere, reaches_on, grows_of}
 use Rattle.sp_typed_laws.proofs.After.{Any, After, done, onto, beside, next, lead, taken, met, either, staying, after_more}
 use Rattle.sp_typed_laws.proofs.Updates.{IsWider, fit_wider, more_seen, more_wider, more_from, fit_entered}
 use Rattle.sp_typed_laws.proofs.Functions.{call_leads}
@@ -74,12 +77,20 @@ covers_on own env later g c =
     λ k l. let more : length env.tables.objects ≤ length later.tables.objects =
     g.moves.keeps.objects in c k (omega (arith, more, l))
 
-new_reserved : (own : ℕ → Bool) (env : Env) (o : Option (ℕ × Place)) → Covers own env
-    → IsNew own env (reserved_number env o) o
-new_reserved own env None c = tt
-new_reserved own env (Some x) c = (omega arith, c (length env.tables.objects) (omega arith))
+-- the entry that a parameter has passes until its type is read
+new_reserved : (own : ℕ → Bool) (env later : Env) (o : Option (ℕ × Place)) → Covers own env
+    → Reaches own (reserved env o) later → IsNew own env later (reserved_number env o) o
+new_reserved own env later None c g = tt
+new_reserved own env later (Some x) c g =
+    let o : Object = formal x.0 void x.1 in
+    let y : IsKeptObject later.tables.objects (length env.tables.objects) o =
+    g.moves.objects (length env.tables.objects) o (pushed_last env.tables.objects o) in (
+      omega arith,
+      c (length env.tables.objects) (omega arith),
+      ap lasts y.there ∙ ap (λ z. is_lasting z.storage) (y.whole refl),
+    )
 
-module _ (names : List (List ℕ)) where
+module _ (names : List (List ℕ)) (low : AreBytes names) where
   mutual
     pub checked_typed : (own : ℕ → Bool) (env : Env) (e : Expression) → IsFit own env → IsWritten e
         → After own env (IsTreeIn own) (checked names env e)
@@ -99,7 +110,7 @@ module _ (names : List (List ℕ)) where
     form_made own env p m (syntax.name n) h w = staying h (name_made own env h names n p)
     form_made own env p m (syntax.number n) h w = number_made own env h n p m w
     form_made own env p m (syntax.character z) h w = character_made own env h z p m w
-    form_made own env p m (syntax.text ns) h w = text_made own env h names ns p m
+    form_made own env p m (syntax.text ns) h w = text_made own env h names low ns p m
     form_made own env p m (syntax.paren e) h w =
         after_more (λ t later k. tree_made (scene_of own later) t k) (checked_typed own env e h w)
     form_made own env p m (syntax.index a b) h w =
@@ -149,7 +160,7 @@ module _ (names : List (List ℕ)) where
         next (type_name_good own env t h w.0)
         (λ x g q. next (checked_value own x.1 e g.fit w.1) (λ y k r.
         staying k.fit (cast_typed (scene_of own y.1) (fit_table own y.1 k.fit) x.0 p m
-        (place_of e) y.0 (type_kept k x.0 q) r.tree)))
+        (place_of e) y.0 (type_kept k x.0 q) r.tree r.value.known)))
     form_made own env p m (syntax.binary op a b) h w =
         next (checked_value own env a h w.1)
         (λ x g q. next (checked_value own x.1 b g.fit w.2) (λ y k r.
@@ -178,7 +189,7 @@ module _ (names : List (List ℕ)) where
         done (reaches_nowhere own y.1 k.fit)
         (comma_made (scene_of own y.1) (fit_table own y.1 k.fit) p m x.0 y.0
         (tree_stays (scene_of own x.1) (scene_of own y.1)
-        (grows_of own x.1 y.1 g.fit k) x.0 q.tree) r.tree)))
+        (grows_of own x.1 y.1 g.fit k) x.0 q.tree) r.tree r.value.known)))
 
     arguments_typed : (own : ℕ → Bool) (env : Env) (ts : CTypes) (es : Expressions) → IsFit own env
         → AreWritten es → AreGoodIn ts env
@@ -339,7 +350,7 @@ module _ (names : List (List ℕ)) where
         next (beside (params_good wide (entered x.1) (is_alone ps dots) [] ps
         (fit_entered wide x.1 (fit_wider own wide x.1 wider g.fit)) w.1
         (λ k l. more_from own (length x.1.tables.objects) k l) (each_none (λ t. IsType t x.1)))
-        (λ y k ts. list_sound own wide x.1 y.1 ps y.0 g.fit k ts)) (λ l k r.
+        (λ y k ts. list_sound own wide x.1 y.1 ps y.0 g.fit wider k ts)) (λ l k r.
         done (reaches_nowhere own l.1 k.fit)
         (each_pushed (IsGoodStep l.1.tables.structs) x.0 (to_function l.0 dots p)
         (steps_kept k x.0 q) r)))
@@ -369,7 +380,8 @@ module _ (names : List (List ℕ)) where
         (reaches_on own env (reserved env (declared_name d)) y.1
         (reaches_reserved own env h (declared_name d))
         (reaches_on own (reserved env (declared_name d)) x.1 y.1 g k))
-        ts y.0 d (new_reserved own env (declared_name d) c)
+        ts y.0 d (new_reserved own env y.1 (declared_name d) c
+        (reaches_on own (reserved env (declared_name d)) x.1 y.1 g k))
         (types_kept (reaches_on own env (reserved env (declared_name d)) y.1
         (reaches_reserved own env h (declared_name d))
         (reaches_on own (reserved env (declared_name d)) x.1 y.1 g k)) ts f) u))))

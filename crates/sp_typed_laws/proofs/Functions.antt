@@ -23,6 +23,7 @@ use Rattle.sp_unit_laws.proofs.After.{Gives, gives, gives_met, gives_given}
 use Rattle.sp_typed_laws.specs.Sound.{IsSoundSignature}
 use Rattle.sp_typed_laws.proofs.Composites.{signature_sound}
 use Rattle.sp_typed_laws.proofs.Envs.{Follows, IsFit, Reaches, reaches_nowhere, reaches_on}
+use Rattle.sp_typed_laws.proofs.Named.{inserted_there}
 use Rattle.sp_typed_laws.proofs.Objects.{composite_agrees}
 use Rattle.sp_typed_laws.proofs.After.{After, done, after_none, carried, lead, taken, Leads, leads, leads_after, leads_either}
 use Rattle.sp_typed_laws.proofs.Updates.{reaches_linked, reaches_typing, reaches_typings, reaches_function, reaches_function_typed, leads_declared}
@@ -73,20 +74,20 @@ module _ (own : ℕ → Bool) (env : Env) (h : IsFit own env) where
       (with_link (with_function env (undefined_function n l s p)) n
       (entities.Function (length env.tables.functions))) l n (function s) p
 
-  reaches_added : (n : ℕ) (l : Linkage) (s : Signature) (p : Place)
+  reaches_added : (n : ℕ) (l : Linkage) (s : Signature) (p : Place) → linked env n ≡ None
       → IsGoodSignature env.tables.structs s → Reaches own env (added n l s p)
-  reaches_added n l s p f =
-      let a : Env = with_function env (undefined_function n l s p) in
-      let b : Env = with_link a n (entities.Function (length env.tables.functions)) in
-      let to-a : Reaches own env a =
-      reaches_function own env h (undefined_function n l s p) (
+  reaches_added n l s p none f =
+      let e : Entity = entities.Function (length env.tables.functions) in
+      let a : Env = with_link env n e in
+      let b : Env = with_function a (undefined_function n l s p) in
+      let to-a : Reaches own env a = reaches_linked own env h n e none in
+      let to-b : Reaches own a b =
+      reaches_function own a to-a.fit (undefined_function n l s p) (
         f.0,
         each_none (λ k. k < length env.tables.objects),
         each_none
             (λ k. k < length env.tables.objects),
-      ) f.1 in
-      let to-b : Reaches own a b =
-      reaches_linked own a to-a.fit n (entities.Function (length env.tables.functions)) in
+      ) f.1 refl (inserted_there env.links n e) in
       reaches_on own env a (with_typing b l n (function s) p) to-a
       (reaches_on own a b (with_typing b l n (function s) p) to-b
       (reaches_typing own b to-b.fit l n (function s) p f.0))
@@ -128,27 +129,28 @@ module _ (own : ℕ → Bool) (env : Env) (h : IsFit own env) where
       ))))
 
   function_leads : (n : ℕ) (l : Linkage) (s : Signature) (p : Place) (o : Option Entity)
-      → IsGoodSignature env.tables.structs s → After own env IsFound (function_at env n l s p o)
-  function_leads n l s p None f =
-      let g : Reaches own env (added n l s p) = reaches_added n l s p f in
+      → linked env n ≡ o → IsGoodSignature env.tables.structs s → After own env IsFound
+      (function_at env n l s p o)
+  function_leads n l s p None is f =
+      let g : Reaches own env (added n l s p) = reaches_added n l s p is f in
       carried g (lead (leads_declared own (added n l s p) g.fit n
       (means.function (length env.tables.functions)) p tt tt)
       (λ e k. done (reaches_nowhere own e k.fit) (found_on k (length env.tables.functions) (
         undefined_function n l s p,
         pushed_last env.tables.functions (undefined_function n l s p),
       ))))
-  function_leads n l s p (Some (entities.Function k)) f =
+  function_leads n l s p (Some (entities.Function k)) is f =
       taken (type_joined l s p k f) (λ t j.
       let c : Bool = is_retyped (as_function (function_type (slice_get env.tables.functions k)))
       (function t) in
       let g : Reaches own env (joined c l n t p k) = reaches_joined c l n t p k j in
       carried g (lead (leads_declared own (joined c l n t p k) g.fit n (means.function k) p tt tt)
       (λ e i. done (reaches_nowhere own e i.fit) (found_on i k (found_on g k j.2)))))
-  function_leads n l s p (Some (entities.Object k)) f = after_none
+  function_leads n l s p (Some (entities.Object k)) is f = after_none
 
   pub function_sound : (n : ℕ) (l : Linkage) (s : Signature) (p : Place)
       → IsGoodSignature env.tables.structs s → After own env IsFound (function_declared env n l s p)
-  function_sound n l s p f = function_leads n l s p (linked env n) f
+  function_sound n l s p f = function_leads n l s p (linked env n) refl f
 
 -- a name that is called
 pub call_leads : (own : ℕ → Bool) (names : List (List ℕ)) (env : Env) (e : Expression)

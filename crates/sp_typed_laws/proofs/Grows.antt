@@ -12,12 +12,11 @@ use Rattle.sp_types.specs.Layout.{layout}
 use Rattle.sp_types.specs.Programs.{Object}
 use Rattle.sp_ir.specs.Terrain.{size_in, size_of}
 use Rattle.sp_typing.specs.Refines.{Tells}
-use Rattle.sp_typing.specs.Sorts.{IsSized, IsStored, IsStepped}
+use Rattle.sp_typing.specs.Sorts.{IsSized, IsStored, IsStepped, IsKnown}
 use Rattle.sp_typing.specs.Trees.{Scene, Names, HasMember, PointsToMember, IsIndex, IsSum, IsDifference, IsBinary, IsStep, IsUnary, IsChoice, IsAssigned, IsCalled, IsTyped, IsForm, AreArguments}
 use Rattle.sp_unit_laws.proofs.Lists.{some_is}
 use Rattle.sp_unit_laws.proofs.Longer.{type_longer}
 use Rattle.sp_unit_laws.proofs.Stays.{Stays, SameType, type_stays, struct_some}
-use Rattle.sp_typed_laws.specs.Laws.{IsKnown}
 use Rattle.sp_typed_laws.proofs.Types.{size_laid}
 use Rattle.sp_typed_laws.proofs.Trees.{IsTree, IsValued}
 
@@ -180,7 +179,7 @@ module _ (s r : Scene) (g : Grows s r) where
       let low : n < s.functions = h.1 in let more : s.functions ≤ r.functions =
           g.functions in omega arith,
     )
-    form_stays t (tree.convert a) h = (typed_stays a h.0, h.1)
+    form_stays t (tree.convert a) h = (typed_stays a h.0, h.1, known_stays s.structs r.structs g.stays t h.2)
     form_stays t (tree.decay a) h = (typed_stays a h.0, h.1, h.2, h.3)
     form_stays t (tree.index a b) h = (
       typed_stays a h.0,
@@ -204,7 +203,7 @@ module _ (s r : Scene) (g : Grows s r) where
         (typed_stays a h.0, step_stays s.structs r.structs g.stays a t h.1)
     form_stays t (tree.unary op a) h =
         (typed_stays a h.0, unary_stays s.structs r.structs g.stays op a t h.1)
-    form_stays t (tree.cast a) h = (typed_stays a h.0, h.1)
+    form_stays t (tree.cast a) h = (typed_stays a h.0, h.1, known_stays s.structs r.structs g.stays t h.2)
     form_stays t (tree.binary op a b) h = (
       typed_stays a h.0,
       typed_stays b h.1,
@@ -226,7 +225,8 @@ module _ (s r : Scene) (g : Grows s r) where
       h.4,
       assigned_stays s.structs r.structs g.stays op t (of b) h.5,
     )
-    form_stays t (tree.comma a b) h = (typed_stays a h.0, typed_stays b h.1, h.2)
+    form_stays t (tree.comma a b) h =
+        (typed_stays a h.0, typed_stays b h.1, h.2, known_stays s.structs r.structs g.stays t h.3)
 
     pub arguments_stay : (es : TypedList) → AreArguments s es → AreArguments r es
     arguments_stay no_typed h = tt

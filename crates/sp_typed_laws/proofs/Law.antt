@@ -20,18 +20,20 @@ module _ (own : ℕ → Bool) (env : Env) where
   meant_of (means.constant z) h = tt
   meant_of (means.named t) h = h.0
 
-  fitting_of : (m : Meaning) → IsSoundMeaning own env m → IsFitting own env.tables.objects m
+  fitting_of : (m : Meaning) → IsSoundMeaning own env m
+      → IsFitting own env.tables.structs env.tables.objects m
   fitting_of (means.object k) h = h
   fitting_of (means.function k) h = h
   fitting_of (means.constant z) h = h
-  fitting_of (means.named t) h = h.1
+  fitting_of (means.named t) h = (h.1, h.2)
 
-  meaning_of : (m : Meaning) → IsMeant env.tables.structs m → IsFitting own env.tables.objects m
+  meaning_of : (m : Meaning) → IsMeant env.tables.structs m
+      → IsFitting own env.tables.structs env.tables.objects m
       → IsSoundMeaning own env m
   meaning_of (means.object k) g h = h
   meaning_of (means.function k) g h = h
   meaning_of (means.constant z) g h = h
-  meaning_of (means.named t) g h = (g, h)
+  meaning_of (means.named t) g h = (g, h.0, h.1)
 
   pub fit_of : IsSoundEnv own env → IsFit own env
   fit_of s = record {
@@ -84,12 +86,12 @@ typed_behind own env later e h g t = record {
 }
 
 pub expressions_typed : ExpressionsAreTyped
-expressions_typed own names env e s w = (
+expressions_typed own names env e low s w = (
   λ x is.
-      let a = (checked_typed names own env e (fit_of own env s) w).at x is in
+      let a = (checked_typed names low own env e (fit_of own env s) w).at x is in
       typed_behind own env x.1 x.0 (fit_of own env s) a.0 a.1,
   λ x is.
-      let a = (checked_value names own env e (fit_of own env s) w).at x is in
+      let a = (checked_value names low own env e (fit_of own env s) w).at x is in
       (typed_behind own env x.1 x.0 (fit_of own env s) a.0 a.1.tree, a.1.value),
 )
 

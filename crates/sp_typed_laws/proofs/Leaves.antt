@@ -1,5 +1,5 @@
 -- The rules that end specifiers and declarators leave the environment sound (C90 6.5).
-use Rattle.std.proofs.Common.{◌≡◌, ℕ, ◌≤◌, ℤ, pos, ◌&&◌, not, Bool, true, false, if◌then◌else◌, length, List, [], ◌∷◌, ◌++◌, Option, Some, None, refl, subst, arith}
+use Rattle.std.proofs.Common.{◌≡◌, inr, ℕ, ◌≤◌, ℤ, pos, ◌&&◌, not, Bool, true, false, if◌then◌else◌, length, List, [], ◌∷◌, ◌++◌, Option, Some, None, refl, subst, sym, true≢false, arith}
 use Rattle.std.specs.Prelude.{slice_get, slice_set, int_le, ⊤}
 use Rattle.sp_tree.specs.declared.fault.Place.{Place}
 use Rattle.sp_tree.specs.declared.token.Keyword.TheVariants as words
@@ -31,15 +31,16 @@ use Rattle.sp_unit_laws.proofs.Derived.{length_positive, step_longer}
 use Rattle.sp_unit_laws.proofs.Envs.{visible_meant}
 use Rattle.sp_unit_laws.proofs.Leaves.{words_formed, parameters_told}
 use Rattle.sp_unit_laws.proofs.After.{accepted_is, Gives, gives, gives_met, gives_given}
-use Rattle.sp_typed_laws.specs.Sound.{IsSound, AreSoundParameters, lasts}
+use Rattle.sp_typing.specs.Programs.{lasts}
+use Rattle.sp_typed_laws.specs.Sound.{IsSound, AreSoundParameters}
 use Rattle.sp_typed_laws.proofs.Types.{or_left}
 use Rattle.sp_typed_laws.proofs.Operators.{IsGood}
 use Rattle.sp_typed_laws.proofs.Envs.{IsFit, Reaches, reaches_nowhere, reaches_on, visible_fitting}
 use Rattle.sp_typed_laws.proofs.After.{Any, After, done, after_none, carried, lead, taken, met, given, Leads, leads, leads_met}
-use Rattle.sp_typed_laws.proofs.Updates.{reaches_constant, reaches_object, reaches_tagged, reaches_left, leads_declared}
+use Rattle.sp_typed_laws.proofs.Updates.{reaches_constant, reaches_aside, reaches_tagged, IsWider, reaches_left, leads_declared}
 use Rattle.sp_typed_laws.proofs.Literals.{enumerator_held}
 use Rattle.sp_typed_laws.proofs.Members.{is_filled, filled_pushed}
-use Rattle.sp_typed_laws.proofs.Objects.{reaches_set}
+use Rattle.sp_typed_laws.proofs.Objects.{formal_calm, formal_starts, reaches_set}
 use Rattle.sp_typed_laws.proofs.Derived.{IsGoodStep, adjusted_good, told_sound}
 
 -- ---- what is formed and sound stays so behind a rule
@@ -104,7 +105,7 @@ named_good own env n at h =
     by t (Some (means.constant z)) e g = absurd (none_some t g)
     by t (Some (named u)) e g =
         subst (λ t. IsType t env) (some_is u t g)
-        (visible_meant env n (named u) h.formed e, visible_fitting own env n (named u) h e)
+        (visible_meant env n (named u) h.formed e, (visible_fitting own env n (named u) h e).0)
 
 -- the members are filled with one more
 abbrev pub AreMore : List (ℕ × CType) → Env → Type 0
@@ -118,10 +119,6 @@ member_good env ms t d h f =
     (λ whole. gives_given {o = declared_name d} _ _
     (λ n e. gives_met {b = not (has_member ms n.0)} _ _ (λ new.
     gives (each_pushed (λ m. IsType m.1 env) ms (n.0, t) h f, filled_pushed ms (n.0, t)))))
-
--- a formal has no linkage
-formal_home : false ≡ true → false ≡ true
-formal_home e = e
 
 module _ (own : ℕ → Bool) (env : Env) (h : IsFit own env) where
   pub tag_leads : (tag : Option ℕ) (p : Place) → Leads own env (with_enum_tag env tag p)
@@ -149,17 +146,17 @@ module _ (own : ℕ → Bool) (env : Env) (h : IsFit own env) where
   pub reaches_reserved : (o : Option (ℕ × Place)) → Reaches own env (reserved env o)
   reaches_reserved None = reaches_nowhere own env h
   reaches_reserved (Some x) =
-      reaches_object own env h (formal x.0 void x.1) formal_home (tt, refl) tt
+      reaches_aside own env h (formal x.0 void x.1) refl (tt, refl) tt (inr refl)
 
 abbrev pub AreParameters : Parameters → Env → Type 0
 AreParameters ps env = AreFormedParameters env.tables.structs ps × AreSoundParameters ps
 
 -- behind the list of parameters its scope is left
 pub list_sound : (own wide : ℕ → Bool) (env later : Env) (ps : Params) (ts : List CType)
-    → IsFit own env → Reaches wide (entered env) later → AreTypes ts later
+    → IsFit own env → IsWider own wide → Reaches wide (entered env) later → AreTypes ts later
     → After own env AreParameters (list_told ps ts later)
-list_sound own wide env later ps ts h g f =
-    done (reaches_left own wide env later h g) (
+list_sound own wide env later ps ts h wider g f =
+    done (reaches_left own wide env later h (λ all k. wider k (all k)) g) (
       parameters_told later.tables.structs ps ts (λ k t at. (f k t at).0),
       told_sound ps ts
           (λ k t at. (f k t at).1),
@@ -167,10 +164,11 @@ list_sound own wide env later ps ts h g f =
 
 -- ---- the entry of a parameter takes its type
 
--- where there is a name, the entry of this number is a new one
-abbrev pub IsNew : (ℕ → Bool) → Env → ℕ → Option (ℕ × Place) → Type 0
-IsNew own env k None = ⊤
-IsNew own env k (Some x) = (length env.tables.objects ≤ k) × (own k ≡ true)
+-- where there is a name, the entry of this number is a new one, and passes by now
+abbrev pub IsNew : (ℕ → Bool) → Env → Env → ℕ → Option (ℕ × Place) → Type 0
+IsNew own env later k None = ⊤
+IsNew own env later k (Some x) = (length env.tables.objects ≤ k) × (own k ≡ true)
+    × (lasts (slice_get later.tables.objects k) ≡ false)
 
 -- the environment behind is reached from the first, and has the structs of the second
 record Ends (own : ℕ → Bool) (env later : Env) (c : Checked Env) : Type 0 where
@@ -182,7 +180,7 @@ longer_good : (ss rs : List Struct) → length ss ≤ length rs → (t : CType) 
 longer_good ss rs l t h = (type_longer ss rs l t h.0, h.1)
 
 module _ (own : ℕ → Bool) (env later : Env) (k : ℕ) (g : Reaches own env later) where
-  parameter_ends : (o : Option (ℕ × Place)) (t : CType) → IsNew own env k o → IsType t later
+  parameter_ends : (o : Option (ℕ × Place)) (t : CType) → IsNew own env later k o → IsType t later
       → is_function t ≡ false → Ends own env later (named_parameter later k o t)
   parameter_ends None t new f plain =
       record {
@@ -192,9 +190,11 @@ module _ (own : ℕ → Bool) (env later : Env) (k : ℕ) (g : Reaches own env l
       }
   parameter_ends (Some x) t new f plain =
       let s : Reaches own env (set_object later k (formal x.0 t x.1)) =
-      reaches_set own env later k (formal x.0 t x.1) g formal_home new.0
-      (or_left (own k) false new.1) f.0 plain
-      f.1 in
+      reaches_set own env later k (formal x.0 t x.1) g (λ e. absurd (true≢false (sym e)))
+      (λ h e. absurd (true≢false (sym e))) new.0
+      (or_left (own k) false new.1) f.0 plain f.1
+      (λ all. formal_calm later k (formal x.0 t x.1) new.2 refl env new.0 (g.calm all))
+      (λ m. formal_starts later k (formal x.0 t x.1) new.2 refl own env g) in
       let l : Leads own (set_object later k (formal x.0 t x.1))
       (named_parameter later k (Some x) t) =
       leads_declared own (set_object later k (formal x.0 t x.1)) s.fit x.0 (means.object k) x.1 tt
@@ -218,7 +218,7 @@ module _ (own : ℕ → Bool) (env later : Env) (k : ℕ) (g : Reaches own env l
   ended (refused x p) ts t f h l = after_none
 
   pub parameter_sound : (ts : List CType) (t : CType) (d : Declarator)
-      → IsNew own env k (declared_name d) → AreTypes ts later → IsType t later
+      → IsNew own env later k (declared_name d) → AreTypes ts later → IsType t later
       → After own env AreTypes (param_told later k ts t d)
   parameter_sound ts t d new f h =
       let a : IsType (adjusted t) later × (is_function (adjusted t) ≡ false) =

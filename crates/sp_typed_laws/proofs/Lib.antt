@@ -3,6 +3,11 @@ pub mod Trees
 pub mod Operators
 pub mod Rules
 pub mod Grows
+pub mod Elements
+pub mod Shapes
+pub mod Characters
+pub mod Starts
+pub mod Named
 pub mod Envs
 pub mod After
 pub mod Updates
@@ -15,4 +20,5 @@ pub mod Derived
 pub mod Leaves
 pub mod Braces
 pub mod Expressions
+pub mod Declared
 pub mod Law

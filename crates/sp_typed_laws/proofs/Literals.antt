@@ -1,6 +1,7 @@
 -- Literals, names and sizes are typed (C90 6.1.3, 6.1.4, 6.3.1, 6.3.3.4).
-use Rattle.std.proofs.Common.{◌≡◌, ℕ, ◌+◌, ◌^◌, ◌<◌, ℤ, pos, ◌≤ℤ◌, ◌&&◌, not, if◌then◌else◌, Bool, true, false, length, List, Option, Some, None, refl, ap, sym, subst, true≢false, arith}
+use Rattle.std.proofs.Common.{◌≡◌, inl, ℕ, ◌+◌, ◌^◌, ◌<◌, nat_le, ℤ, pos, ◌≤ℤ◌, ◌&&◌, not, if◌then◌else◌, Bool, true, false, length, List, Option, Some, None, refl, ap, sym, subst, true≢false, arith}
 use Rattle.std.specs.Prelude.{slice_get, int_le}
+use Rattle.std.proofs.lemmas.Bool.{leb-true}
 use Rattle.std.proofs.lemmas.Int.{ints}
 use Rattle.sp_tree.specs.declared.fault.Place.{Place}
 use Rattle.sp_tree.specs.declared.token.Number.{Number}
@@ -24,12 +25,14 @@ use Rattle.sp_ir.specs.Formed.{InKind}
 use Rattle.sp_unit_laws.proofs.Lists.{none_some, some_is, get_below, pushed_last}
 use Rattle.sp_unit_laws.proofs.Composites.{array_formed}
 use Rattle.sp_unit_laws.proofs.After.{Gives, gives, gives_none, gives_met, gives_given}
-use Rattle.sp_typed_laws.specs.Sound.{lasts, is_seen, scene_of}
+use Rattle.sp_typing.specs.Programs.{lasts}
+use Rattle.sp_typed_laws.specs.Sound.{AreBytes, is_seen, scene_of}
 use Rattle.sp_typed_laws.proofs.Types.{and_true, or_right, tells_self, IsLaid, type_laid}
 use Rattle.sp_typed_laws.proofs.Trees.{IsMade}
 use Rattle.sp_typed_laws.proofs.Envs.{IsFit, fit_table, visible_fitting, Reaches, reaches_on}
-use Rattle.sp_typed_laws.proofs.After.{After, done, given}
-use Rattle.sp_typed_laws.proofs.Updates.{reaches_constant, reaches_object}
+use Rattle.sp_typed_laws.proofs.After.{After, done, met, given}
+use Rattle.sp_typed_laws.proofs.Updates.{reaches_constant, reaches_aside}
+use Rattle.sp_typed_laws.proofs.Characters.{text_low}
 use Rattle.sp_typed_laws.proofs.Functions.{function_good}
 
 -- ---- numbers (C90 6.1.3.2)
@@ -124,15 +127,23 @@ module _ (own : ℕ → Bool) (env : Env) (h : IsFit own env) where
         placed = λ e. absurd (true≢false (sym e));
       }))
 
-  pub text_made : (names : List (List ℕ)) (ns : List ℕ) (p m : Place)
+  pub text_made : (names : List (List ℕ)) → AreBytes names → (ns : List ℕ) (p m : Place)
       → After own env (IsMadeIn own) (text_checked names env ns p m)
-  text_made names ns p m =
+  text_made names low ns p m =
+      met {b = nat_le (length (text_bytes names ns) + 1) (2 ^ 40)} _ _ (λ few.
       let bytes : List ℕ = text_bytes names ns in
       let o : Object = text_object bytes p in
       let formed : IsFormed env.tables.structs (text_type bytes) =
       array_formed env.tables.structs (integer Char) (length bytes + 1) tt (omega arith) in
       let g : Reaches own env (with_object env o) =
-      reaches_object own env h o (λ e. refl) (formed, refl) tt in
+      reaches_aside own env h o refl (formed, refl) tt
+      (inl (record {
+        bytes = bytes;
+        low = text_low names ns low;
+        few = leb-true (length bytes + 1) (2 ^ 40) few;
+        place = p;
+        is = refl;
+      })) in
       let k : Reaches own (with_object env o) (with_text env bytes p) =
       reaches_constant own (with_object env o) g.fit (pos (length bytes + 1)) in
       done (reaches_on own env (with_object env o) (with_text env bytes p) g k) (record {
@@ -150,7 +161,7 @@ module _ (own : ℕ → Bool) (env : Env) (h : IsFit own env) where
           },
         );
         placed = λ e. refl;
-      })
+      }))
 
   -- ---- names
 

@@ -22,13 +22,12 @@ use Rattle.sp_constants.specs.Constants.{is_null_constant}
 use Rattle.sp_rules.specs.Rules.{indexed, member_type, members_of, member_in, member_taken, arrow_taken, cast_to, binary, choice, is_modifiable, compound, stored, assign, called_signature, told, wanted, behind, argument, typed_count, count_fits, called, addressed, followed, signed_or_inverted, denied, stepped_type, stepped_after, takes_object, unary_object, unary_value}
 use Rattle.sp_ir.specs.Formed.{is_integer, is_pointer, is_scalar, is_floating}
 use Rattle.sp_ir.specs.Terrain.{size_in, size_of}
-use Rattle.sp_typing.specs.Sorts.{same_value, IsStored, IsStepped}
+use Rattle.sp_typing.specs.Sorts.{same_value, IsStored, IsStepped, IsKnown}
 use Rattle.sp_typing.specs.Trees.{Scene, IsTyped, AreArguments, Converts, IsCalled, IsChoice, IsAssigned, IsIndex, IsStep, IsBinary, HasMember, HasMemberIn, IsUnary, IsSigned, has_place}
 use Rattle.sp_unit_laws.proofs.Lists.{some_is, none_some, head_all, tail_all}
 use Rattle.sp_unit_laws.proofs.After.{Gives, gives, gives_none, gives_then, gives_met, gives_given}
 use Rattle.sp_typed_laws.specs.Sound.{IsSound, IsSoundSignature, AreSoundParameters, AreSound, AreSoundIn, AreSoundMembers, HasExtent}
-use Rattle.sp_typed_laws.specs.Laws.{IsKnown}
-use Rattle.sp_typed_laws.proofs.Types.{and_true, number_equals, agrees_self, convertible_plain, IsSoundTable, complete_sized}
+use Rattle.sp_typed_laws.proofs.Types.{and_true, number_equals, agrees_self, convertible_plain, IsSoundTable, complete_sized, cast_known}
 use Rattle.sp_typed_laws.proofs.Trees.{IsMade, IsTree, IsValued, tree_formed, lvalue_placed, IsOf, tree_converted}
 use Rattle.sp_typed_laws.proofs.Operators.{IsGood, IsBalanced, binary_balanced, IsCompound, compounded}
 
@@ -323,14 +322,14 @@ module _ (s : Scene) (table : IsSoundTable s.structs) where
   cast_plain t (function r) h = ((convertible_plain t (function r) h).1, h)
 
   pub cast_typed : (t : CType) (p m at : Place) (e : Typed) → IsGood s.structs t → IsTree s e
-      → Gives (IsMade s) (cast_to t p m at e)
-  cast_typed t p m at e g h =
+      → IsKnown s.structs (of e) → Gives (IsMade s) (cast_to t p m at e)
+  cast_typed t p m at e g h known =
       gives_met {b = not (is_floating_type t)} _ _
       (λ solid. gives_met {b = is_void t || convertible (of e) t} _ _
       (λ fits. gives {x = typed (tree.cast e) t p m} (record {
         formed = g.0;
         sound = g.1;
-        typed = λ whole. (whole, g.0, (h.typed, (cast_plain (of e) t fits).1));
+        typed = λ whole. (whole, g.0, (h.typed, (cast_plain (of e) t fits).1, cast_known s.structs (of e) t fits known));
         placed = not_placed t (typed (tree.cast e) t p m) (cast_plain (of e) t fits).0;
       })))
 
@@ -575,12 +574,12 @@ module _ (s : Scene) (table : IsSoundTable s.structs) where
 
   -- ---- a comma (C90 6.3.17)
 
-  pub comma_made : (p m : Place) (a b : Typed) → IsTree s a → IsTree s b
+  pub comma_made : (p m : Place) (a b : Typed) → IsTree s a → IsTree s b → IsKnown s.structs (of b)
       → IsMade s (typed (tree.comma a b) (of b) p m)
-  comma_made p m a b h k = record {
+  comma_made p m a b h k known = record {
     formed = tree_formed s b k;
     sound = k.sound;
-    typed = λ solid. (solid, tree_formed s b k, (h.typed, k.typed, agrees_self (of b) solid));
+    typed = λ solid. (solid, tree_formed s b k, (h.typed, k.typed, agrees_self (of b) solid, known));
     placed = k.placed;
   }
 

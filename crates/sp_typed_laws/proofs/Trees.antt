@@ -13,11 +13,12 @@ use Rattle.sp_operands.specs.Conversions.{is_array, is_function, is_lvalue, desi
 use Rattle.sp_rules.specs.Rules.{not_floating}
 use Rattle.sp_ir.specs.Formed.{is_floating}
 use Rattle.sp_typing.specs.Trees.{Scene, IsTyped, Converts, has_place, form_has_place}
+use Rattle.sp_typing.specs.Sorts.{IsKnown}
 use Rattle.sp_unit_laws.proofs.Composites.{element_formed}
 use Rattle.sp_unit_laws.proofs.After.{Gives, gives, gives_met}
 use Rattle.sp_typed_laws.specs.Sound.{IsSound}
-use Rattle.sp_typed_laws.specs.Laws.{IsKnown, IsValue}
-use Rattle.sp_typed_laws.proofs.Types.{and_true, same_type_is, convertible_plain, floating_same, IsSoundTable, complete_sized}
+use Rattle.sp_typed_laws.specs.Laws.{IsValue}
+use Rattle.sp_typed_laws.proofs.Types.{and_true, same_type_is, convertible_plain, floating_same, IsSoundTable, complete_sized, converted_known}
 
 -- ---- kinds of trees
 
@@ -176,7 +177,7 @@ module _ (s : Scene) where
       by true same = record { tree = h; is = same_type_is (of e) t same }
       by false other = record {
         tree = record {
-          typed = (x.0, f, (h.typed, x.2));
+          typed = (x.0, f, (h.typed, x.2, converted_known s.structs (of e) t c other));
           sound = g;
           placed = λ e. absurd (true≢false (sym e ∙ x.1));
         };

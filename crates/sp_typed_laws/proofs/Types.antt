@@ -13,12 +13,12 @@ use Rattle.sp_types.specs.Types.{CType, void, integer, floating, pointer, array,
 use Rattle.sp_types.specs.Compatible.{convertible, same_kind, same_float, same_flag, same_length, same_type, same_signature, same_parameters, same_types}
 use Rattle.sp_types.specs.Layout.{extent, layout, repeated, integer_extent, floating_extent}
 use Rattle.sp_types.specs.Structs.{IsTable, IsWhole, IsFormed}
-use Rattle.sp_operands.specs.Conversions.{is_complete, is_function}
+use Rattle.sp_operands.specs.Conversions.{is_complete, is_function, is_void}
 use Rattle.sp_operands.specs.Conversions.{is_floating as is_floating_type}
 use Rattle.sp_ir.specs.Formed.{is_floating}
 use Rattle.sp_ir.specs.Terrain.{size_in}
-use Rattle.sp_typing.specs.Refines.{Tells, lays_void, lays_integer, lays_floating, lays_pointer, lays_array, lays_struct, lays_function, KeepsLength}
-use Rattle.sp_typing.specs.Sorts.{agrees, IsSized}
+use Rattle.sp_typing.specs.Refines.{Tells, names_void, names_integer, names_floating, names_pointer, names_array, names_struct, names_function, KeepsLength}
+use Rattle.sp_typing.specs.Sorts.{agrees, IsSized, IsKnown}
 use Rattle.sp_typing.specs.Trees.{Converts}
 use Rattle.sp_unit_laws.proofs.Lists.{some_is, none_some, Each}
 use Rattle.sp_unit_laws.proofs.Stays.{struct_some}
@@ -55,7 +55,7 @@ same_kind_is Long Long h = refl
 same_kind_is ULong ULong h = refl
 same_kind_is j k h = absurd (true≢false (sym h))
 
-same_float_is : (j k : FloatKind) → same_float j k ≡ true → j ≡ k
+pub same_float_is : (j k : FloatKind) → same_float j k ≡ true → j ≡ k
 same_float_is Float Float h = refl
 same_float_is Double Double h = refl
 same_float_is LongDouble LongDouble h = refl
@@ -136,6 +136,28 @@ convertible_plain (pointer t) (pointer u) h = (refl, refl, h)
 convertible_plain (structure j) (structure k) h = (refl, refl, h)
 convertible_plain t u h = absurd (true≢false (sym h))
 
+-- a struct converts to itself alone, which is no conversion
+pub converted_known : (ss : List Struct) (t u : CType) → convertible t u ≡ true → same_type t u ≡ false
+    → IsKnown ss u
+converted_known ss (integer j) (integer k) h e = tt
+converted_known ss (integer j) (pointer u) h e = tt
+converted_known ss (pointer t) (integer k) h e = tt
+converted_known ss (pointer t) (pointer u) h e = tt
+converted_known ss (structure j) (structure k) h e = absurd (true≢false (sym h ∙ e))
+converted_known ss t u h e = absurd (true≢false (sym h))
+
+-- to itself, where it is complete
+pub cast_known : (ss : List Struct) (t u : CType) → (is_void u || convertible t u) ≡ true → IsKnown ss t
+    → IsKnown ss u
+cast_known ss t void h k = tt
+cast_known ss t (integer j) h k = tt
+cast_known ss t (floating j) h k = tt
+cast_known ss t (pointer u) h k = tt
+cast_known ss t (array u n) h k = tt
+cast_known ss (structure i) (structure j) h k = subst (λ n. IsKnown ss (structure n)) (eqb-true i j h) k
+cast_known ss t (structure j) h k = absurd (true≢false (sym h))
+cast_known ss t (function r) h k = tt
+
 pub floating_same : (t : CType) → not (is_floating_type t) ≡ true → is_floating t ≡ false
 floating_same (floating k) h = absurd (true≢false (sym h))
 floating_same t h = refl
@@ -149,7 +171,7 @@ pub record IsSoundTable (ss : List Struct) : Type 0 where
 abbrev pub IsLaid : Extent → Type 0
 IsLaid e = (1 ≤ e.size) × (1 ≤ e.align) × (e.size ≤ 2 ^ 40)
 
-integer_laid : (k : IntKind) → IsLaid (integer_extent k)
+pub integer_laid : (k : IntKind) → IsLaid (integer_extent k)
 integer_laid Char = (omega arith, omega arith, omega arith)
 integer_laid SChar = (omega arith, omega arith, omega arith)
 integer_laid UChar = (omega arith, omega arith, omega arith)
@@ -160,7 +182,7 @@ integer_laid UInt = (omega arith, omega arith, omega arith)
 integer_laid Long = (omega arith, omega arith, omega arith)
 integer_laid ULong = (omega arith, omega arith, omega arith)
 
-floating_laid : (k : FloatKind) → IsLaid (floating_extent k)
+pub floating_laid : (k : FloatKind) → IsLaid (floating_extent k)
 floating_laid Float = (omega arith, omega arith, omega arith)
 floating_laid Double = (omega arith, omega arith, omega arith)
 floating_laid LongDouble = (omega arith, omega arith, omega arith)
@@ -181,7 +203,7 @@ repeated_laid n f e l h p = by (nat_le (f.size * n) (2 ^ 40)) refl p
         subst IsLaid (some_is (extent (f.size * n) f.align) e p) (omega (arith, up), h.1, low)
     by false q p = absurd (none_some e p)
 
-struct_laid : (s : Struct) (ss : List Struct) (ms : Option (List (ℕ × CType))) (e : Extent)
+pub struct_laid : (s : Struct) (ss : List Struct) (ms : Option (List (ℕ × CType))) (e : Extent)
     → IsWhole ss s ms → s.extent ≡ Some e → e.size ≤ 2 ^ 40
 struct_laid s ss None e w h = absurd (none_some e (sym w ∙ h))
 struct_laid s ss (Some ms) e w h =
@@ -233,10 +255,10 @@ keeps_self None = tt
 keeps_self (Some n) = refl
 
 pub tells_self : (t : CType) → Tells t t
-tells_self void = lays_void
-tells_self (integer k) = lays_integer k
-tells_self (floating k) = lays_floating k
-tells_self (pointer t) = lays_pointer t t
-tells_self (array t n) = lays_array t t n n (tells_self t) (keeps_self n)
-tells_self (structure k) = lays_struct k
-tells_self (function s) = lays_function s s
+tells_self void = names_void
+tells_self (integer k) = names_integer k
+tells_self (floating k) = names_floating k
+tells_self (pointer t) = names_pointer t t
+tells_self (array t n) = names_array t t n n (keeps_self n)
+tells_self (structure k) = names_struct k
+tells_self (function s) = names_function s s

@@ -1,9 +1,9 @@
 -- What a rule does to an environment leaves it sound.
-use Rattle.std.proofs.Common.{◌≡◌, ℕ, zero, suc, ◌≤◌, ℤ, nat_le, ◌||◌, Bool, true, false, ap, sym, subst, length, List, [], ◌∷◌, ◌++◌, Option, Some, None, if◌then◌else◌, refl, arith}
-use Rattle.std.specs.Prelude.{slice_get}
+use Rattle.std.proofs.Common.{◌≡◌, ◌⊎◌, inl, inr, ℕ, zero, suc, ◌≤◌, ℤ, nat_le, ◌||◌, Bool, true, false, true≢false, ◌∙◌, ap, sym, subst, length, List, [], ◌∷◌, ◌++◌, Option, Some, None, if◌then◌else◌, refl, arith}
+use Rattle.std.specs.Prelude.{slice_get, is_some}
 use Rattle.std.proofs.lemmas.Bool.{le-leb}
 use Rattle.sp_tree.specs.declared.fault.Place.{Place}
-use Rattle.sp_types.specs.Types.{CType, Signature}
+use Rattle.sp_types.specs.Types.{CType, Signature, Struct}
 use Rattle.sp_types.specs.Structs.{IsFormed, IsFormedSignature}
 use Rattle.sp_types.specs.Programs.{Object, Function}
 use Rattle.sp_types.specs.declared.program.Linkage.{Linkage}
@@ -16,13 +16,17 @@ use Rattle.sp_scopes.specs.Scopes.{Scope, entry}
 use Rattle.sp_scopes.specs.Scopes as scopes
 use Rattle.sp_units.specs.Units.{Typing}
 use Rattle.sp_env.specs.declared.env.Entity.{Entity}
-use Rattle.sp_env.specs.Env.{Env, with_tag, is_same_entity, declared_beside, declared, with_link, with_object, with_function, typed_by, changed, with_function_type, with_constant, with_typings, typings_with, with_typing, entered, left}
+use Rattle.sp_env.specs.declared.env.Entity.TheVariants as entities
+use Rattle.sp_env.specs.Env.{Env, with_tag, is_same_entity, declared_beside, declared, linked, with_link, with_object, with_function, typed_by, changed, with_function_type, with_constant, with_typings, typings_with, with_typing, entered, left}
 use Rattle.sp_unit_laws.proofs.Lists.{some_is, Each, each_none, each_first, each_pushed, each_changed, each_inserted, pushed_length, pushed_before}
 use Rattle.sp_unit_laws.proofs.Envs.{IsMeant, IsFormedObject, IsFormedFunction, Goes}
 use Rattle.sp_unit_laws.proofs.Updates.{goes_constant, goes_linked, goes_tagged, goes_object, goes_function, goes_function_typed, goes_typings, typings_more, goes_entered, goes_left}
-use Rattle.sp_typed_laws.specs.Sound.{IsSound, IsSoundSignature, IsSoundStruct, lasts}
+use Rattle.sp_typing.specs.Programs.{lasts}
+use Rattle.sp_typed_laws.specs.Sound.{IsSound, IsSoundSignature, IsSoundStruct, lasting_alone}
 use Rattle.sp_typed_laws.proofs.Types.{or_left, or_right, or_wider}
-use Rattle.sp_typed_laws.proofs.Envs.{IsFitting, AreFitting, IsFit, IsHome, KeepObjects, kept_there, Follows, IsKeptFunction, KeepFunctions, kept_function, Moves, Reaches, reaches_nowhere, all_fitting_on, around_fitting_on}
+use Rattle.sp_typed_laws.proofs.Envs.{IsFitting, AreFitting, IsFit, IsHome, KeepObjects, kept_there, Follows, IsKeptFunction, KeepFunctions, kept_function, KeepLinks, Moves, SeesAll, KeepsStarts, Reaches, reaches_nowhere, all_fitting_on, around_fitting_on, scene_grows, calm_starts}
+use Rattle.sp_typed_laws.proofs.Named.{is_linked, inserted_kept, KeepNames, names_nowhere, names_linked, names_object, names_function, names_typed}
+use Rattle.sp_typed_laws.proofs.Starts.{HasStart, HaveStarts, IsAside, aside_start, IsCalm, start_stays, pushed_split}
 use Rattle.sp_typed_laws.proofs.After.{Leads, leads, leads_none}
 
 changed_length : {A : Type 0} (f : A → A) (xs : List A) (k : ℕ)
@@ -68,8 +72,11 @@ module _ (own : ℕ → Bool) (env : Env) (h : IsFit own env) where
       → length env.tables.functions ≤ length later.tables.functions
       → KeepFunctions env.tables.functions later.tables.functions → later.scopes ≡ env.scopes
       → Each IsSoundStruct later.tables.structs → Each (λ o. IsSound o.of) later.tables.objects
-      → Each (λ f. IsSoundSignature f.of) later.tables.functions → Reaches own env later
-  reaches_by later g kept homes more functions-kept same structs objects functions =
+      → Each (λ f. IsSoundSignature f.of) later.tables.functions
+      → (SeesAll own → IsCalm env later) → (Moves env later → KeepsStarts own env later)
+      → KeepLinks env later → KeepNames env later → Reaches own env later
+  reaches_by later g kept homes more functions-kept same structs objects functions calm starts
+      links names =
       let m : Moves env later =
       record {
         keeps = g.keeps;
@@ -78,31 +85,52 @@ module _ (own : ℕ → Bool) (env : Env) (h : IsFit own env) where
         functions = more;
         kept = functions-kept;
         around = ap (λ s. s.around) same;
+        links = links;
+        names = names;
       } in record {
         fit = record {
           formed = g.formed;
           structs = structs;
           objects = objects;
           functions = functions;
-          inner = subst (λ s. AreFitting own later.tables.objects s.inner.names) (sym same)
-              (all_fitting_on own env later m env.scopes.inner.names h.inner);
-          around = subst (λ s. Each (λ t. AreFitting own later.tables.objects t.names) s.around)
-              (sym same) (around_fitting_on own env later m h.around);
+          inner = subst
+              (λ s. AreFitting own later.tables.structs later.tables.objects s.inner.names) (sym same)
+              (all_fitting_on own env later m h.formed env.scopes.inner.names h.inner);
+          around = subst
+              (λ s. Each (λ t. AreFitting own later.tables.structs later.tables.objects t.names) s.around)
+              (sym same) (around_fitting_on own env later m h.formed h.around);
         };
         moves = m;
+        calm = calm;
+        starts = starts m;
       }
+
+  -- the objects stay as they are
+  pub still : (later : Env) → later.tables.objects ≡ env.tables.objects → IsCalm env later
+  still later same k o at = inl (ap (λ os. slice_get os k) (sym same) ∙ at)
+
+  pub still_starts : (later : Env) → later.tables.objects ≡ env.tables.objects → Moves env later
+      → KeepsStarts own env later
+  still_starts later same = calm_starts own env later h.formed (still later same)
 
   pub reaches_constant : (z : ℤ) → Reaches own env (with_constant env z)
   reaches_constant z =
       reaches_by (with_constant env z) (goes_constant env h.formed z)
       (kept_there env.tables.objects) (λ x. x)
       (omega arith) (kept_function env.tables.functions) refl h.structs h.objects h.functions
+      (λ all. still (with_constant env z) refl) (still_starts (with_constant env z) refl)
+      (λ m j e. e) (names_nowhere env)
 
-  pub reaches_linked : (n : ℕ) (e : Entity) → Reaches own env (with_link env n e)
-  reaches_linked n e =
+  -- a name that wasn't linked
+  pub reaches_linked : (n : ℕ) (e : Entity) → linked env n ≡ None
+      → Reaches own env (with_link env n e)
+  reaches_linked n e none =
       reaches_by (with_link env n e) (goes_linked env h.formed n e) (kept_there env.tables.objects)
       (λ x. x)
       (omega arith) (kept_function env.tables.functions) refl h.structs h.objects h.functions
+      (λ all. still (with_link env n e) refl) (still_starts (with_link env n e) refl)
+      (λ m j is. inserted_kept env.links n e m (entities.Object j) none is)
+      (names_linked env n e none)
 
   pub reaches_typings : (ts : List Typing) → Each (λ t. IsFormed env.tables.structs t.of) ts
       → Reaches own env (with_typings env ts)
@@ -110,6 +138,8 @@ module _ (own : ℕ → Bool) (env : Env) (h : IsFit own env) where
       reaches_by (with_typings env ts) (goes_typings env h.formed ts p)
       (kept_there env.tables.objects) (λ x. x)
       (omega arith) (kept_function env.tables.functions) refl h.structs h.objects h.functions
+      (λ all. still (with_typings env ts) refl) (still_starts (with_typings env ts) refl)
+      (λ m j e. e) (names_nowhere env)
 
   pub reaches_typing : (l : Linkage) (n : ℕ) (t : CType) (p : Place) → IsFormed env.tables.structs t
       → Reaches own env (with_typing env l n t p)
@@ -117,25 +147,65 @@ module _ (own : ℕ → Bool) (env : Env) (h : IsFit own env) where
       reaches_typings (typings_with env.tables.typings l (record { name = n; of = t; place = p }))
       (typings_more env h.formed l (record { name = n; of = t; place = p }) f)
 
-  pub reaches_object : (o : Object) → IsHome o → IsFormedObject env.tables.structs o → IsSound o.of
+  -- one more object without linkage, with a start of its own
+  pub reaches_object : (o : Object) → is_linked o.linkage ≡ false → IsFormedObject env.tables.structs o → IsSound o.of
+      → (SeesAll own → IsAside o)
+      → ((waits : ℕ → Bool)
+      → HasStart waits (with_object env o) (length env.tables.objects) o o.storage)
       → Reaches own env (with_object env o)
-  reaches_object o home f p =
+  reaches_object o private f p aside start =
       reaches_by (with_object env o) (goes_object env h.formed o f)
       (λ k x at. kept_there (env.tables.objects ++ o ∷ []) k x
       (pushed_before env.tables.objects o x k at))
-      (λ x. each_pushed IsHome env.tables.objects o x home) (omega arith)
+      (λ x. each_pushed IsHome env.tables.objects o x
+      (λ mine. absurd (true≢false (sym mine ∙ private)))) (omega arith)
       (kept_function env.tables.functions) refl h.structs
       (each_pushed (λ o. IsSound o.of) env.tables.objects o h.objects p) h.functions
+      (λ all k x at. calm all x (pushed_split env.tables.objects o x k at))
+      (λ m waits w x k y at. begun m waits x k y (pushed_split env.tables.objects o y k at))
+      (λ m j e. e) (names_object env o private)
+    where
+      calm : SeesAll own → (x : Object) → {k : ℕ}
+          → (slice_get env.tables.objects k ≡ Some x)
+          ⊎ ((k ≡ length env.tables.objects) × (o ≡ x))
+          → (slice_get env.tables.objects k ≡ Some x)
+          ⊎ ((length env.tables.objects ≤ k) × IsAside x)
+      calm all x (inl at) = inl at
+      calm all x (inr y) = inr (omega (arith, y.0), subst IsAside y.1 (aside all))
 
+      begun : Moves env (with_object env o) → (waits : ℕ → Bool) → HaveStarts waits env → (k : ℕ)
+          (y : Object)
+          → (slice_get env.tables.objects k ≡ Some y)
+          ⊎ ((k ≡ length env.tables.objects) × (o ≡ y))
+          → HasStart waits (with_object env o) k y y.storage
+      begun m waits x k y (inl at) =
+          start_stays waits env (with_object env o) h.formed.table
+          (scene_grows lasting_alone env (with_object env o) m h.formed) k y y.storage (x k y at)
+      begun m waits x k y (inr z) =
+          subst (λ u. HasStart waits (with_object env o) k u u.storage) z.1
+          (subst (λ i. HasStart waits (with_object env o) i o o.storage) (sym z.0) (start waits))
+
+  -- a literal, or a parameter
+  pub reaches_aside : (o : Object) → is_linked o.linkage ≡ false
+      → IsFormedObject env.tables.structs o → IsSound o.of → IsAside o → Reaches own env (with_object env o)
+  reaches_aside o private f p aside =
+      reaches_object o private f p (λ all. aside)
+      (λ waits. aside_start waits (with_object env o) (length env.tables.objects) o aside)
+
+  -- one more function, to which its name is linked
   pub reaches_function : (f : Function) → IsFormedFunction env.tables.structs
-      (length env.tables.objects) f → IsSoundSignature f.of → Reaches own env (with_function env f)
-  reaches_function f g p =
+      (length env.tables.objects) f → IsSoundSignature f.of → is_some f.body ≡ false
+      → linked env f.name ≡ Some (entities.Function (length env.tables.functions))
+      → Reaches own env (with_function env f)
+  reaches_function f g p bodiless link =
       reaches_by (with_function env f) (goes_function env h.formed f g)
       (kept_there env.tables.objects) (λ x. x)
       (omega (arith, pushed_length env.tables.functions f))
       (λ k x at. kept_function (env.tables.functions ++ f ∷ []) k x
       (pushed_before env.tables.functions f x k at)) refl h.structs h.objects
       (each_pushed (λ f. IsSoundSignature f.of) env.tables.functions f h.functions p)
+      (λ all. still (with_function env f) refl) (still_starts (with_function env f) refl)
+      (λ m j e. e) (names_function env f bodiless link)
 
   pub reaches_function_typed : (k : ℕ) (s : Signature) → IsFormedSignature env.tables.structs s
       → IsSoundSignature s
@@ -148,9 +218,22 @@ module _ (own : ℕ → Bool) (env : Env) (h : IsFit own env) where
       (changed_kept s env.tables.functions k follows) refl
       h.structs h.objects
       (each_changed (λ f. IsSoundSignature f.of) (typed_by s) env.tables.functions k h.functions
-      (λ f x. p))
+      (λ f x. p)) (λ all. still (with_function_type env k s) refl)
+      (still_starts (with_function_type env k s) refl) (λ m j e. e) (names_typed env k s)
 
   -- ---- scopes
+
+  tagged_moves : (n : ℕ) (t : Tag) → Moves env (with_tag env n t)
+  tagged_moves n t = record {
+    keeps = (goes_tagged env h.formed n t).keeps;
+    objects = kept_there env.tables.objects;
+    homes = λ x. x;
+    functions = omega arith;
+    kept = kept_function env.tables.functions;
+    around = refl;
+    links = λ m j e. e;
+    names = names_nowhere env;
+  }
 
   pub reaches_tagged : (n : ℕ) (t : Tag) → Reaches own env (with_tag env n t)
   reaches_tagged n t = record {
@@ -162,19 +245,29 @@ module _ (own : ℕ → Bool) (env : Env) (h : IsFit own env) where
       inner = h.inner;
       around = h.around;
     };
-    moves = record {
-      keeps = (goes_tagged env h.formed n t).keeps;
-      objects = kept_there env.tables.objects;
-      homes = λ x. x;
-      functions = omega arith;
-      kept = kept_function env.tables.functions;
-      around = refl;
-    };
+    moves = tagged_moves n t;
+    calm = λ all. still (with_tag env n t) refl;
+    starts = still_starts (with_tag env n t) refl (tagged_moves n t);
+  }
+
+  abbrev with_meaning : ℕ → Meaning → Env
+  with_meaning n m = record env { scopes = scopes.with_name env.scopes n m }
+
+  named_moves : (n : ℕ) (m : Meaning) → Moves env (with_meaning n m)
+  named_moves n m = record {
+    keeps = (reaches_nowhere own env h).moves.keeps;
+    objects = kept_there env.tables.objects;
+    homes = λ x. x;
+    functions = omega arith;
+    kept = kept_function env.tables.functions;
+    around = refl;
+    links = λ m j e. e;
+    names = names_nowhere env;
   }
 
   reaches_named : (n : ℕ) (m : Meaning) → IsMeant env.tables.structs m
-      → IsFitting own env.tables.objects m
-      → Reaches own env (record env { scopes = scopes.with_name env.scopes n m })
+      → IsFitting own env.tables.structs env.tables.objects m
+      → Reaches own env (with_meaning n m)
   reaches_named n m meant fits = record {
     fit = record {
       formed = record {
@@ -189,22 +282,18 @@ module _ (own : ℕ → Bool) (env : Env) (h : IsFit own env) where
       structs = h.structs;
       objects = h.objects;
       functions = h.functions;
-      inner = each_inserted (IsFitting own env.tables.objects) env.scopes.inner.names n m h.inner
+      inner = each_inserted
+          (IsFitting own env.tables.structs env.tables.objects) env.scopes.inner.names n m h.inner
           fits;
       around = h.around;
     };
-    moves = record {
-      keeps = (reaches_nowhere own env h).moves.keeps;
-      objects = kept_there env.tables.objects;
-      homes = λ x. x;
-      functions = omega arith;
-      kept = kept_function env.tables.functions;
-      around = refl;
-    };
+    moves = named_moves n m;
+    calm = λ all. still (with_meaning n m) refl;
+    starts = still_starts (with_meaning n m) refl (named_moves n m);
   }
 
   pub leads_declared : (n : ℕ) (m : Meaning) (p : Place) → IsMeant env.tables.structs m
-      → IsFitting own env.tables.objects m → Leads own env (declared env n m p)
+      → IsFitting own env.tables.structs env.tables.objects m → Leads own env (declared env n m p)
   leads_declared n m p meant fits = by (entry env.scopes.inner.names n)
     where
       same : (b : Bool) → Leads own env (if b then accepted env else refused F9 p)
@@ -220,13 +309,14 @@ module _ (own : ℕ → Bool) (env : Env) (h : IsFit own env) where
 abbrev pub IsWider : (ℕ → Bool) → (ℕ → Bool) → Type 0
 IsWider own wide = (k : ℕ) → own k ≡ true → wide k ≡ true
 
-fitting_wider : (own wide : ℕ → Bool) (os : List Object) (m : Meaning) → IsWider own wide
-    → IsFitting own os m → IsFitting wide os m
-fitting_wider own wide os (means.object k) w h =
+fitting_wider : (own wide : ℕ → Bool) (ss : List Struct) (os : List Object) (m : Meaning)
+    → IsWider own wide
+    → IsFitting own ss os m → IsFitting wide ss os m
+fitting_wider own wide ss os (means.object k) w h =
     or_wider (own k) (wide k) (lasts (slice_get os k)) (w k) h
-fitting_wider own wide os (means.function k) w h = h
-fitting_wider own wide os (means.constant z) w h = h
-fitting_wider own wide os (means.named t) w h = h
+fitting_wider own wide ss os (means.function k) w h = h
+fitting_wider own wide ss os (means.constant z) w h = h
+fitting_wider own wide ss os (means.named t) w h = h
 
 pub fit_wider : (own wide : ℕ → Bool) (env : Env) → IsWider own wide → IsFit own env
     → IsFit wide env
@@ -235,9 +325,40 @@ fit_wider own wide env w h = record {
   structs = h.structs;
   objects = h.objects;
   functions = h.functions;
-  inner = λ k n at. fitting_wider own wide env.tables.objects n.1 w (h.inner k n at);
+  inner = λ k n at. fitting_wider own wide env.tables.structs env.tables.objects n.1 w
+      (h.inner k n at);
   around = λ j s there k n at.
-      fitting_wider own wide env.tables.objects n.1 w (h.around j s there k n at);
+      fitting_wider own wide env.tables.structs env.tables.objects n.1 w
+      (h.around j s there k n at);
+}
+
+-- what is seen besides lasts
+fitting_narrower : (own wide : ℕ → Bool) (ss : List Struct) (os : List Object) (m : Meaning)
+    → ((k : ℕ) → wide k ≡ true → lasts (slice_get os k) ≡ true) → IsFitting wide ss os m
+    → IsFitting own ss os m
+fitting_narrower own wide ss os (means.object k) w h = by (wide k) refl h
+  where
+    by : (b : Bool) → wide k ≡ b → (b || lasts (slice_get os k)) ≡ true
+        → (own k || lasts (slice_get os k)) ≡ true
+    by true is g = or_right (own k) (lasts (slice_get os k)) (w k is)
+    by false is g = or_right (own k) (lasts (slice_get os k)) g
+fitting_narrower own wide ss os (means.function k) w h = h
+fitting_narrower own wide ss os (means.constant z) w h = h
+fitting_narrower own wide ss os (means.named t) w h = h
+
+pub fit_narrower : (own wide : ℕ → Bool) (env : Env)
+    → ((k : ℕ) → wide k ≡ true → lasts (slice_get env.tables.objects k) ≡ true) → IsFit wide env
+    → IsFit own env
+fit_narrower own wide env w h = record {
+  formed = h.formed;
+  structs = h.structs;
+  objects = h.objects;
+  functions = h.functions;
+  inner = λ k n at.
+      fitting_narrower own wide env.tables.structs env.tables.objects n.1 w (h.inner k n at);
+  around = λ j s there k n at.
+      fitting_narrower own wide env.tables.structs env.tables.objects n.1 w
+      (h.around j s there k n at);
 }
 
 -- ---- scopes that are entered and left
@@ -248,19 +369,23 @@ fit_entered own env h = record {
   structs = h.structs;
   objects = h.objects;
   functions = h.functions;
-  inner = each_none (λ n. IsFitting own env.tables.objects n.1);
-  around = each_first (λ s. AreFitting own env.tables.objects s.names) env.scopes.inner
+  inner = each_none (λ n. IsFitting own env.tables.structs env.tables.objects n.1);
+  around = each_first
+      (λ s. AreFitting own env.tables.structs env.tables.objects s.names) env.scopes.inner
       env.scopes.around h.inner h.around;
 }
 
 -- what was around the scope is as it was, whatever was seen in it
 pub reaches_left : (own wide : ℕ → Bool) (env later : Env) → IsFit own env
+    → (SeesAll own → SeesAll wide)
     → Reaches wide (entered env) later → Reaches own env (left later)
-reaches_left own wide env later h g =
+reaches_left own wide env later h wider g =
     reaches_by own env h (left later)
     (record { formed = (goes_left later g.fit.formed).formed; keeps = g.moves.keeps })
     g.moves.objects g.moves.homes g.moves.functions g.moves.kept same g.fit.structs g.fit.objects
-    g.fit.functions
+    g.fit.functions (λ all. g.calm (wider all))
+    (λ m waits w x. g.starts waits (λ file. absurd (true≢false (sym file))) x) g.moves.links
+    g.moves.names
   where
     same : (left later).scopes ≡ env.scopes
     same = ap (scopes.left_to later.scopes) g.moves.around

@@ -1,16 +1,16 @@
 -- Expressions that the checks accept are well typed (C90 6.3).
-use Rattle.std.specs.Prelude.{◌≡◌, ℕ, ◌≤◌, ◌&&◌, Bool, true, false, List, ⊤}
+use Rattle.std.specs.Prelude.{◌≡◌, ℕ, ◌&&◌, Bool, true, false, List}
 use Rattle.sp_syntax.specs.Syntax.{Expression}
-use Rattle.sp_types.specs.Types.{CType, structure, Struct}
+use Rattle.sp_types.specs.Types.{Struct}
 use Rattle.sp_types.specs.Typed.{Typed, of}
 use Rattle.sp_operands.specs.Answers.{accepted}
 use Rattle.sp_operands.specs.Conversions.{is_array, is_function, is_lvalue}
 use Rattle.sp_env.specs.Env.{Env}
 use Rattle.sp_expr_check.specs.Expressions.{checked, value_checked}
-use Rattle.sp_ir.specs.Terrain.{size_of}
 use Rattle.sp_typing.specs.Trees.{IsTyped, has_place}
+use Rattle.sp_typing.specs.Sorts.{IsKnown}
 use Rattle.sp_written_laws.specs.Written.{IsWritten}
-use Rattle.sp_typed_laws.specs.Sound.{IsSound, IsSoundEnv, scene_of}
+use Rattle.sp_typed_laws.specs.Sound.{AreBytes, IsSound, IsSoundEnv, scene_of}
 
 -- Behind a rule that gives this tree: the tree is typed, and what was typed before it is so still.
 pub record IsTypedBehind (own : ℕ → Bool) (env later : Env) (e : Typed) : Type 0 where
@@ -19,11 +19,6 @@ pub record IsTypedBehind (own : ℕ → Bool) (env later : Env) (e : Typed) : Ty
   pub placed : is_function (of e) ≡ true → has_place e ≡ true
   pub behind : IsSoundEnv own later
   pub still : (old : Typed) → IsTyped (scene_of own env) old → IsTyped (scene_of own later) old
-
--- a struct is complete
-abbrev pub IsKnown : List Struct → CType → Type 0
-IsKnown ss (structure k) = 1 ≤ size_of ss (structure k)
-IsKnown ss t = ⊤
 
 -- It is a value (C90 6.2.2.1): no function, no array that is an lvalue, and no open struct.
 pub record IsValue (ss : List Struct) (e : Typed) : Type 0 where
@@ -34,7 +29,7 @@ pub record IsValue (ss : List Struct) (e : Typed) : Type 0 where
 -- in a sound environment
 abbrev pub ExpressionsAreTyped : Type 0
 ExpressionsAreTyped = (own : ℕ → Bool) (names : List (List ℕ)) (env : Env) (e : Expression)
-    → IsSoundEnv own env → IsWritten e
+    → AreBytes names → IsSoundEnv own env → IsWritten e
     → ((x : Typed × Env) → checked names env e ≡ accepted x → IsTypedBehind own env x.1 x.0)
     × ((x : Typed × Env) → value_checked names env e ≡ accepted x
     → IsTypedBehind own env x.1 x.0 × IsValue x.1.tables.structs x.0)

@@ -3,12 +3,10 @@
 use Rattle.std.specs.Prelude.{◌≡◌, ℕ, ◌≤◌, ◌<◌, ◌||◌, Bool, true, false, List, [], ◌∷◌, length, Option, Some, None, slice_get, ⊤}
 use Rattle.sp_types.specs.declared.ctype.IntKind.TheVariants.{Int}
 use Rattle.sp_types.specs.declared.extents.Extent.{Extent}
-use Rattle.sp_types.specs.declared.program.Storage.{Storage}
-use Rattle.sp_types.specs.declared.program.Storage.TheVariants.{Static, Outside, Text, Auto, Formal}
 use Rattle.sp_types.specs.Types.{CType, void, integer, floating, pointer, array, structure, function, Signature, signature, Parameters, untold, listed, CTypes, no_types, next_type, Struct}
 use Rattle.sp_types.specs.Structs.{IsTable, IsFormed, IsFormedSignature}
 use Rattle.sp_types.specs.Programs.{Object, Function}
-use Rattle.sp_operands.specs.Conversions.{is_array, is_function}
+use Rattle.sp_operands.specs.Conversions.{is_array, is_function, is_complete}
 use Rattle.sp_scopes.specs.Meanings.{Meaning}
 use Rattle.sp_scopes.specs.Meanings as means
 use Rattle.sp_scopes.specs.Scopes.{Scope}
@@ -16,6 +14,14 @@ use Rattle.sp_units.specs.Units.{Typing}
 use Rattle.sp_env.specs.Env.{Env}
 use Rattle.sp_ir.specs.Formed.{InKind}
 use Rattle.sp_typing.specs.Trees.{Scene}
+use Rattle.sp_typing.specs.Programs.{lasts}
+
+-- ---- names
+
+-- names and literals are bytes
+abbrev pub AreBytes : List (List ℕ) → Type 0
+AreBytes names = (i j b : ℕ) (bytes : List ℕ) → slice_get names i ≡ Some bytes
+    → slice_get bytes j ≡ Some b → b < 256
 
 -- ---- types
 
@@ -41,6 +47,15 @@ abbrev mutual
   AreSound no_types = ⊤
   AreSound (next_type t ts) = IsSound t × AreSound ts
 
+-- ---- arrays
+
+-- what is declared as an array has complete elements, and is complete where its length is told
+-- (C90 6.5.4.2)
+abbrev pub KnowsElements : List Struct → CType → Type 0
+KnowsElements ss (array t None) = is_complete ss t ≡ true
+KnowsElements ss (array t (Some n)) = is_complete ss (array t (Some n)) ≡ true
+KnowsElements ss t = ⊤
+
 -- ---- structs
 
 -- it has a size and an alignment, where it is complete
@@ -61,21 +76,13 @@ IsSoundStruct s = HasExtent s.extent × AreSoundMembers s.members
 
 -- ---- objects
 
--- it is there for the whole program, or in another unit (C90 6.1.2.4)
-abbrev pub is_lasting : Storage → Bool
-is_lasting Static = true
-is_lasting Outside = true
-is_lasting Text = true
-is_lasting Auto = false
-is_lasting Formal = false
-
-abbrev pub lasts : Option Object → Bool
-lasts None = false
-lasts (Some o) = is_lasting o.storage
-
 -- what a tree may name: the function at hand has the objects `own`
 abbrev pub is_seen : (ℕ → Bool) → List Object → ℕ → Bool
 is_seen own objects k = own k || lasts (slice_get objects k)
+
+-- objects that last alone
+abbrev pub lasting_alone : ℕ → Bool
+lasting_alone k = false
 
 abbrev pub scene_of : (ℕ → Bool) → Env → Scene
 scene_of own env = record {
@@ -85,7 +92,7 @@ scene_of own env = record {
   is_visible = is_seen own env.tables.objects;
 }
 
--- ---- names
+-- ---- meanings
 
 -- a name of an object names one that is seen, a constant is an int, a type is formed and sound
 abbrev pub IsSoundMeaning : (ℕ → Bool) → Env → Meaning → Type 0
@@ -93,6 +100,7 @@ IsSoundMeaning own env (means.object k) = is_seen own env.tables.objects k ≡ t
 IsSoundMeaning own env (means.function k) = ⊤
 IsSoundMeaning own env (means.constant z) = InKind Int z
 IsSoundMeaning own env (means.named t) = IsFormed env.tables.structs t × IsSound t
+    × KnowsElements env.tables.structs t
 
 abbrev pub AreSoundNames : (ℕ → Bool) → Env → List (ℕ × Meaning) → Type 0
 AreSoundNames own env ns = (k : ℕ) (n : ℕ × Meaning) → slice_get ns k ≡ Some n

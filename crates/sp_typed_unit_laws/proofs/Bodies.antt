@@ -9,6 +9,7 @@ use Rattle.sp_syntax.specs.Syntax as syntax
 use Rattle.sp_types.specs.Types.{CType}
 use Rattle.sp_types.specs.Statements.{TypedStatement, typed_statement, TypedStatementForm, label, case_of, default_of, block, empty, single, if_else, switch_on, while_loop, do_loop, for_loop, goto_name, continue_loop, break_out, return_value, MaybeTypedStatement, no_statement, some_statement, TypedStatements, no_statements, next_statement}
 use Rattle.sp_operands.specs.Answers.{Checked, accepted, refused, and_then}
+use Rattle.sp_scopes.specs.Scopes.{is_file_scope}
 use Rattle.sp_env.specs.Env.{Env}
 use Rattle.sp_expr_check.specs.Specifiers.{stays}
 use Rattle.sp_labels.specs.Labels.{jumps_in, labelled, lost_jump, repeated_label}
@@ -20,12 +21,13 @@ use Rattle.sp_statement_check.specs.Statements.{body_form, labels_told, body_che
 use Rattle.sp_typing.specs.Statements.{labels_in, form_labels, other_labels, all_labels, IsTypedStatement}
 use Rattle.sp_unit_laws.proofs.Lists.{none_some, some_is}
 use Rattle.sp_unit_laws.proofs.After.{Gives, gives, gives_none, gives_then, gives_more}
-use Rattle.sp_typed_laws.proofs.Envs.{Reaches}
+use Rattle.sp_typed_laws.proofs.Envs.{SeesAll, Reaches}
 use Rattle.sp_typed_laws.proofs.Leaves.{IsType}
 use Rattle.sp_written_laws.specs.Statements.{IsWrittenStatement, IsWrittenForm}
 use Rattle.sp_typed_unit_laws.specs.Fits.{AreOwn, IsLabel, AreLabels, setting_of}
-use Rattle.sp_typed_unit_laws.specs.Starts.{StartsAreTyped}
+use Rattle.sp_typed_laws.specs.Sound.{AreBytes}
 use Rattle.sp_typed_unit_laws.proofs.Held.{IsHeld}
+use Rattle.sp_typed_unit_laws.proofs.Locals.{AreLocals, no_locals}
 use Rattle.sp_typed_unit_laws.proofs.Shows.{Shows}
 use Rattle.sp_typed_unit_laws.proofs.Declarations.{declarations_typed}
 use Rattle.sp_typed_unit_laws.proofs.Statements.{FitsForm, IsFormIn, DeclarationsAreTyped, form_typed, block_typed}
@@ -120,35 +122,40 @@ told_jumps s = gives_then (jumps_there s) (λ u h. gives {x = s} (refl, h))
 
 -- ---- bodies
 
-module _ (names : List (List ℕ)) (starts : StartsAreTyped names) (own : ℕ → Bool) where
-  declares : (labels : List ℕ) → DeclarationsAreTyped names own labels
-  declares labels env ds h w = declarations_typed names starts own env [] ds h w tt
+-- what holds of a checked body, in the environment behind it
+abbrev pub IsBody : (ℕ → Bool) → Env → CType → TypedStatement → Env → Type 0
+IsBody own env t s later = Reaches own env later
+    × IsTypedStatement (setting_of own (labels_in s) t later) None s
+    × AreLocals (locals_in s) later
+
+module _ (names : List (List ℕ)) (bytes : AreBytes names) (own : ℕ → Bool)
+    (partly : SeesAll own → ⊥) where
+  declares : (labels : List ℕ) → DeclarationsAreTyped names bytes own labels
+  declares labels env ds h w inner =
+      declarations_typed names bytes own partly env [] ds h w inner (tt, no_locals env)
 
   body_form_shows : (labels : List ℕ) (env : Env) (t : CType) (p : Place) (f : StatementForm)
-      → IsHeld own env → IsWrittenForm f → IsType t env
-      → Shows own env (FitsForm names own labels p) (IsFormIn names own labels t None)
+      → IsHeld own env → IsWrittenForm f → IsType t env → is_file_scope env.scopes ≡ false
+      → Shows own env (FitsForm names bytes own labels p) (IsFormIn names bytes own labels t None)
       (body_form names env (in_function t) p f)
-  body_form_shows labels env t p (syntax.block ds ss) h w r =
-      block_typed names own labels (declares labels) env (in_function t) p ds ss h w r
-  body_form_shows labels env t p f h w r =
-      form_typed names own labels (declares labels) env (in_function t) p f h w r
-
-  -- what holds of a checked body, in the environment behind it
-  abbrev pub IsBody : Env → CType → TypedStatement → Env → Type 0
-  IsBody env t s later = Reaches own env later
-      × IsTypedStatement (setting_of own (labels_in s) t later) None s
+  body_form_shows labels env t p (syntax.block ds ss) h w r inner =
+      block_typed names bytes own labels (declares labels) env (in_function t) p ds ss h w r
+      inner
+  body_form_shows labels env t p f h w r inner =
+      form_typed names bytes own labels (declares labels) env (in_function t) p f h w r
 
   pub body_typed : (env : Env) (t : CType) (s : Statement) → IsHeld own env
-      → IsWrittenStatement s → IsType t env
-      → Gives (λ x. AreOwn own (locals_in x.0) → IsBody env t x.0 x.1) (body_checked names env t s)
-  body_typed env t (statement f p e) h w r =
+      → IsWrittenStatement s → IsType t env → is_file_scope env.scopes ≡ false
+      → Gives (λ x. AreOwn own (locals_in x.0) → IsBody own env t x.0 x.1)
+      (body_checked names env t s)
+  body_typed env t (statement f p e) h w r inner =
       gives_by (body_form names env (in_function t) p f) (λ labels.
-      body_form_shows labels env t p f h w r)
+      body_form_shows labels env t p f h w r inner)
     where
       gives_by : (c : Checked (TypedStatementForm × Env))
-          → ((labels : List ℕ) → Shows own env (FitsForm names own labels p)
-          (IsFormIn names own labels t None) c)
-          → Gives (λ x. AreOwn own (locals_in x.0) → IsBody env t x.0 x.1)
+          → ((labels : List ℕ) → Shows own env (FitsForm names bytes own labels p)
+          (IsFormIn names bytes own labels t None) c)
+          → Gives (λ x. AreOwn own (locals_in x.0) → IsBody own env t x.0 x.1)
           (and_then c (λ x. stays x.1 (labels_told (typed_statement x.0 p e))))
       gives_by (accepted x) h =
           gives_more {Q = λ y. (y.0 ≡ typed_statement x.0 p e) × (y.1 ≡ x.1)
@@ -166,11 +173,11 @@ module _ (names : List (List ℕ)) (starts : StartsAreTyped names) (own : ℕ �
           by : (y : TypedStatement × Env)
               → (y.0 ≡ typed_statement x.0 p e) × (y.1 ≡ x.1)
               × AreLabels (labels_in (typed_statement x.0 p e)) (jumps_in (typed_statement x.0 p e))
-              → AreOwn own (locals_in y.0) → IsBody env t y.0 y.1
+              → AreOwn own (locals_in y.0) → IsBody own env t y.0 y.1
           by y q l =
               let s : TypedStatement = typed_statement x.0 p e in
               let a = (h (labels_in s)).at x refl
               (subst (λ z. AreOwn own (locals_in z)) q.0 l, q.2) in
-              subst (λ z. IsBody env t z y.1) (sym q.0)
-              (subst (λ z. IsBody env t s z) (sym q.1) a)
+              subst (λ z. IsBody own env t z y.1) (sym q.0)
+              (subst (λ z. IsBody own env t s z) (sym q.1) (a.0, a.1.0, a.1.1))
       gives_by (refused k p) h = gives_none

@@ -2,6 +2,8 @@
 -- (C90 6.7.1).
 use Rattle.sp_unit_laws.proofs.Envs.{IsFormedEnv}
 use Rattle.sp_ir.specs.Terrain.{size_of}
+use Rattle.sp_typing.specs.Statements.{is_lasting}
+use Rattle.sp_typing.specs.Programs.{lasts}
 use Rattle.sp_typed_laws.proofs.Grows.{has_size}
 use Rattle.std.proofs.Common.{◌≡◌, ℕ, ◌<◌, Bool, true, false, not, ◌&&◌, ◌||◌, if◌then◌else◌, length, List, [], ◌∷◌, ◌++◌, Option, Some, None, refl, ap, sym, ◌∙◌, true≢false, arith, ◌≤◌, subst}
 use Rattle.std.specs.Prelude.{slice_get, ⊤}
@@ -28,12 +30,12 @@ use Rattle.sp_unit_laws.proofs.Lists.{Each, each_none, each_first, each_pushed, 
 use Rattle.sp_unit_laws.proofs.After.{Gives, gives, gives_then, gives_met, gives_given, gives_either, gives_more, anything}
 use Rattle.sp_unit_laws.proofs.Leaves.{parameters_told}
 use Rattle.sp_written_laws.specs.Written.{IsWrittenDeclarator, IsWrittenDeclaratorForm, IsWrittenParam, AreWrittenParams}
-use Rattle.sp_typed_laws.specs.Sound.{is_lasting, lasts}
+use Rattle.sp_typed_laws.specs.Sound.{AreBytes, lasting_alone}
 use Rattle.sp_typed_laws.proofs.Types.{or_left, complete_sized}
-use Rattle.sp_typed_laws.proofs.Envs.{IsFit, fit_table, IsKeptObject, Reaches, reaches_nowhere, reaches_on, table_stays}
+use Rattle.sp_typed_laws.proofs.Envs.{IsFit, fit_table, IsKeptObject, Moves, Reaches, reaches_nowhere, reaches_on, table_stays}
 use Rattle.sp_typed_laws.proofs.After.{Leads, beside}
 use Rattle.sp_typed_laws.proofs.Updates.{IsWider, fit_wider, more_seen, more_wider, more_from, fit_entered, leads_declared}
-use Rattle.sp_typed_laws.proofs.Objects.{reaches_set}
+use Rattle.sp_typed_laws.proofs.Objects.{formal_calm, formal_starts, reaches_set}
 use Rattle.sp_typed_laws.proofs.Derived.{IsGoodStep, adjusted_good, told_sound, made_good}
 use Rattle.sp_typed_laws.proofs.Functions.{IsGoodSignature}
 use Rattle.sp_typed_laws.proofs.Leaves.{IsType, AreTypes, AreSteps, AreParameters, type_kept, types_kept, steps_kept, reaches_reserved, list_sound}
@@ -50,22 +52,34 @@ abbrev pub IsFormalIn : Env → ℕ → Type 0
 IsFormalIn env n = (o : Object) × (slice_get env.tables.objects n ≡ Some o) × (o.storage ≡ Formal)
     × (1 ≤ size_of env.tables.structs o.of)
 
-pub formal_on : {own : ℕ → Bool} {env later : Env} → IsFormedEnv env → Reaches own env later
-    → (n : ℕ) → IsFormalIn env n → IsFormalIn later n
-formal_on {own = own} {env = env} {later = later} f g n h =
-    let x : IsKeptObject later.tables.objects n h.0 = g.moves.objects n h.0 h.1 in
+formal_moved : (env later : Env) → IsFormedEnv env → Moves env later → (n : ℕ)
+    → IsFormalIn env n → IsFormalIn later n
+formal_moved env later f g n h =
+    let x : IsKeptObject later.tables.objects n h.0 = g.objects n h.0 h.1 in
     let same : x.object ≡ h.0 = x.whole (ap is_lasting h.2) in (
       x.object,
       x.there,
       ap (λ o. o.storage) same ∙ h.2,
       subst (λ o. 1 ≤ size_of later.tables.structs o.of) (sym same)
-          (has_size env.tables.structs later.tables.structs (table_stays own env later g.moves f)
+          (has_size env.tables.structs later.tables.structs
+          (table_stays lasting_alone env later g f)
           h.0.of h.3),
     )
+
+pub formal_on : {own : ℕ → Bool} {env later : Env} → IsFormedEnv env → Reaches own env later
+    → (n : ℕ) → IsFormalIn env n → IsFormalIn later n
+formal_on {env = env} {later = later} f g n h = formal_moved env later f g.moves n h
 
 pub record AreFormals (ns : List ℕ) (env : Env) : Type 0 where
   pub formals : Each (IsFormalIn env) ns
   pub distinct : AreDistinct ns
+
+pub formals_moved : (env later : Env) → IsFormedEnv env → Moves env later → (ns : List ℕ)
+    → AreFormals ns env → AreFormals ns later
+formals_moved env later f g ns h = record {
+  formals = λ i n at. formal_moved env later f g n (h.formals i n at);
+  distinct = h.distinct;
+}
 
 pub formals_on : {own : ℕ → Bool} {env later : Env} → IsFormedEnv env → Reaches own env later
     → (ns : List ℕ) → AreFormals ns env → AreFormals ns later
@@ -92,7 +106,7 @@ module _ (own : ℕ → Bool) where
 
   module _ (env later : Env) (h : IsFit own env) (g : Reaches own env later) (k : ℕ) (x : Read)
       (new : length env.tables.objects ≡ k) (low : k < length later.tables.objects)
-      (r : IsRead x env) where
+      (passes : lasts (slice_get later.tables.objects k) ≡ false) (r : IsRead x env) where
     formal_apart : (i n : ℕ) → slice_get x.formals i ≡ Some n → k ≡ n → ⊥
     formal_apart i n at same =
         let f : IsFormalIn env n = r.1.formals i n at in
@@ -108,8 +122,11 @@ module _ (own : ℕ → Bool) where
         let o : Object = formal n.0 t n.1 in
         let a : Env = set_object later k o in
         let to-a : Reaches own env a =
-        reaches_set own env later k o g (λ e. e) (omega (arith, new)) (or_left (own k) false mine)
-        f.0 plain f.1 in
+        reaches_set own env later k o g (λ e. absurd (true≢false (sym e)))
+        (λ h e. absurd (true≢false (sym e))) (omega (arith, new)) (or_left (own k) false mine)
+        f.0 plain f.1
+        (λ all. formal_calm later k o passes refl env (omega (arith, new)) (g.calm all))
+        (λ m. formal_starts later k o passes refl own env g) in
         let there : slice_get a.tables.objects k ≡ Some o =
         set_there later.tables.objects k o low in
         lead_on a to-a (leads_declared own a to-a.fit n.0 (means.object k) n.1 tt
@@ -163,7 +180,7 @@ module _ (own : ℕ → Bool) where
         )}
         (λ l. l (length x.formals) k (pushed_last x.formals k))))))))
 
-module _ (names : List (List ℕ)) (own : ℕ → Bool) where
+module _ (names : List (List ℕ)) (bytes : AreBytes names) (own : ℕ → Bool) where
   formal_shows : (env : Env) (alone : Bool) (x : Read) (q : Param) → IsFit own env
       → IsWrittenParam q → IsRead x env
       → Shows own env (ReadFits own) IsRead (formal_checked names env alone x q)
@@ -171,19 +188,31 @@ module _ (names : List (List ℕ)) (own : ℕ → Bool) where
       let r : Env = reserved env (declared_name d) in
       let to-r : Reaches own env r = reaches_reserved own env h (declared_name d) in
       shows_met _ _ (λ class. ahead
-      (specifiers_good names own r false (declarator_place d) ss to-r.fit w.0) (λ b g t.
+      (specifiers_good names bytes own r false (declarator_place d) ss to-r.fit w.0) (λ b g t.
       let to-b : Reaches own env b.1 = reaches_on own env r b.1 to-r g in
       shows_either {b = alone && is_lone_void b.0 d}
       (λ lone. shown (λ l. (to-b, read_on h.formed to-b x f)))
-      (λ more. ahead (declared_good names own b.1 b.0 d g.fit w.1 t) (λ u k v.
+      (λ more. ahead (declared_good names bytes own b.1 b.0 d g.fit w.1 t) (λ u k v.
       let to-u : Reaches own env u.1 = reaches_on own env b.1 u.1 to-b k in
       named_only env (declared_name d) u.1 x u.0 d refl
       (λ n e. told_shows own env u.1 h to-u (reserved_number env (declared_name d)) x
       (number_is env (declared_name d) n e)
       (let low : reserved_number env (declared_name d) < length r.tables.objects =
       reserved_there env (declared_name d) n e in
-      omega (arith, low, g.moves.keeps.objects, k.moves.keeps.objects)) f u.0 d v)))))
+      omega (arith, low, g.moves.keeps.objects, k.moves.keeps.objects))
+      (still_passing env (declared_name d) n e u.1 (reaches_on own r b.1 u.1 g k)) f u.0 d v)))))
     where
+      -- the entry passes until the type is read
+      still_passing : (env : Env) (o : Option (ℕ × Place)) (n : ℕ × Place) → o ≡ Some n
+          → (later : Env) → Reaches own (reserved env o) later
+          → lasts (slice_get later.tables.objects (reserved_number env o)) ≡ false
+      still_passing env None n e later g = absurd (none_some n e)
+      still_passing env (Some x) n e later g =
+          let o : Object = formal x.0 void x.1 in
+          let y : IsKeptObject later.tables.objects (length env.tables.objects) o =
+          g.moves.objects (length env.tables.objects) o (pushed_last env.tables.objects o) in
+          ap lasts y.there ∙ ap (λ z. is_lasting z.storage) (y.whole refl)
+
       number_is : (env : Env) (o : Option (ℕ × Place)) (n : ℕ × Place) → o ≡ Some n
           → length env.tables.objects ≡ reserved_number env o
       number_is env None n e = absurd (none_some n e)
@@ -297,10 +326,10 @@ module _ (names : List (List ℕ)) (own : ℕ → Bool) where
       let wide : ℕ → Bool = more_seen own (length x.1.tables.objects) in
       let wider : IsWider own wide = more_wider own (length x.1.tables.objects) in
       behind (beside {P = AreParameters}
-      (params_good names wide (entered x.1) (is_alone ps dots) [] ps
+      (params_good names bytes wide (entered x.1) (is_alone ps dots) [] ps
       (fit_entered wide x.1 (fit_wider own wide x.1 wider h)) w
       (λ k l. more_from own (length x.1.tables.objects) k l) (each_none (λ t. IsType t x.1)))
-      (λ y k ts. list_sound own wide x.1 y.1 ps y.0 h k ts)) (λ l k r.
+      (λ y k ts. list_sound own wide x.1 y.1 ps y.0 h wider k ts)) (λ l k r.
       shown (λ fits. (
         reaches_nowhere own l.1 k.fit,
         (

@@ -9,15 +9,13 @@ use Rattle.sp_types.specs.Typed.{Typed, of}
 use Rattle.sp_types.specs.Structs.{IsTable}
 use Rattle.sp_types.specs.Statements.{TypedStatement, typed_statement, TypedStatementForm, label, case_of, default_of, block, empty, single, if_else, switch_on, while_loop, do_loop, for_loop, goto_name, continue_loop, break_out, return_value, MaybeTypedStatement, no_statement, some_statement, TypedStatements, no_statements, next_statement}
 use Rattle.sp_types.specs.Programs.{Object}
-use Rattle.sp_ir.specs.Shapes.{Shape}
 use Rattle.sp_ir.specs.Terrain.{size_of}
 use Rattle.sp_typing.specs.Sorts.{same_value, IsStored}
 use Rattle.sp_typing.specs.Trees.{Scene}
-use Rattle.sp_typing.specs.Starts.{IsLeafValue, AreLeafValues, IsWholeValue, IsStarted}
-use Rattle.sp_typing.specs.Statements.{Setting, IsCondition, IsMaybeTyped, IsMaybeCondition, IsReturned, IsEntered, IsDeclared, AreDeclared, IsTypedStatement, IsTypedForm, IsMaybeTypedStatement, AreTypedStatements, is_static}
-use Rattle.sp_leaf_laws.proofs.Shapes.{shape_stays}
-use Rattle.sp_typed_laws.specs.Sound.{is_lasting}
+use Rattle.sp_typing.specs.Starts.{IsWholeValue, IsStarted}
+use Rattle.sp_typing.specs.Statements.{Setting, IsCondition, IsMaybeTyped, IsMaybeCondition, IsReturned, IsEntered, IsDeclared, AreDeclared, IsTypedStatement, IsTypedForm, IsMaybeTypedStatement, AreTypedStatements, is_lasting}
 use Rattle.sp_typed_laws.proofs.Grows.{has_size, IsStill, Grows, typed_stays, stored_stays}
+use Rattle.sp_typed_laws.proofs.Starts.{leaves_stay}
 use Rattle.sp_typed_laws.proofs.Envs.{IsKeptObject, KeepObjects}
 
 -- what is declared, before it is known to be complete
@@ -29,13 +27,6 @@ pub record IsBegun (s : Scene) (n : ℕ) : Type 0 where
 
 abbrev begun_of : (s : Scene) (n : ℕ) → IsDeclared s n → IsBegun s n
 begun_of s n h = record { object = h.object; there = h.there; visible = h.visible; entered = h.entered }
-
-pub static_same : (s : Storage) → is_lasting s ≡ is_static s
-static_same Static = refl
-static_same Outside = refl
-static_same Text = refl
-static_same Auto = refl
-static_same Formal = refl
 
 pub lasting_entered : (r : Scene) (k : Storage) (t : CType) (es : List (ℕ × Typed))
     → is_lasting k ≡ true
@@ -49,25 +40,6 @@ lasting_entered r Formal t es h = tt
 -- ---- start values
 
 module _ (s r : Scene) (table : IsTable s.structs) (g : Grows s r) where
-  leaf_stays : (shape : Shape) (e : ℕ × Typed) → IsLeafValue s shape e → IsLeafValue r shape e
-  leaf_stays shape e h = record {
-    low = h.low;
-    typed = typed_stays s r g e.1 h.typed;
-    leaf = h.leaf;
-    there = h.there;
-    scalar = h.scalar;
-    same = h.same;
-  }
-
-  pub leaves_stay : (t : CType) (es : List (ℕ × Typed)) → AreLeafValues s t es
-      → AreLeafValues r t es
-  leaves_stay t es h = record {
-    shape = h.shape;
-    shaped = shape_stays s.structs r.structs table g.stays t h.shape h.shaped;
-    values = λ k d low. leaf_stays h.shape _ (h.values k d low);
-    apart = h.apart;
-  }
-
   whole_stays : (t : CType) (es : List (ℕ × Typed)) → IsWholeValue s t es → IsWholeValue r t es
   whole_stays t [] h = absurd h
   whole_stays t (e ∷ es) h = (
@@ -80,7 +52,7 @@ module _ (s r : Scene) (table : IsTable s.structs) (g : Grows s r) where
   pub started_stays : (t : CType) (es : List (ℕ × Typed)) → IsStarted s t es → IsStarted r t es
   started_stays t [] h = tt
   started_stays t (e ∷ es) (inl h) = inl (whole_stays t (e ∷ es) h)
-  started_stays t (e ∷ es) (inr h) = inr (h.0, leaves_stay t (e ∷ es) h.1)
+  started_stays t (e ∷ es) (inr h) = inr (h.0, leaves_stay s r table g t (e ∷ es) h.1)
 
 module _ (s r : Scene) (table : IsTable s.structs) (g : Grows s r)
     (kept : KeepObjects s.objects r.objects) where
@@ -116,11 +88,11 @@ module _ (s r : Scene) (table : IsTable s.structs) (g : Grows s r)
       }
 
   -- its size stays where it doesn't last
-  size_kept : (o x : Object) (b : Bool) → is_static o.storage ≡ b
-      → (is_static o.storage ≡ true → is_static x.storage ≡ true)
-      → (is_static o.storage ≡ false → x ≡ o)
-      → (is_static o.storage ≡ false → 1 ≤ size_of s.structs o.of)
-      → is_static x.storage ≡ false → 1 ≤ size_of r.structs x.of
+  pub size_kept : (o x : Object) (b : Bool) → is_lasting o.storage ≡ b
+      → (is_lasting o.storage ≡ true → is_lasting x.storage ≡ true)
+      → (is_lasting o.storage ≡ false → x ≡ o)
+      → (is_lasting o.storage ≡ false → 1 ≤ size_of s.structs o.of)
+      → is_lasting x.storage ≡ false → 1 ≤ size_of r.structs x.of
   size_kept o x true e stored whole h passes = absurd (true≢false (sym (stored e) ∙ passes))
   size_kept o x false e stored whole h passes =
       subst (λ y. 1 ≤ size_of r.structs y.of) (sym (whole e)) (has_size s.structs r.structs g.stays o.of (h e))
@@ -134,9 +106,7 @@ module _ (s r : Scene) (table : IsTable s.structs) (g : Grows s r)
         there = y.there;
         visible = y.visible;
         entered = y.entered;
-        sized = size_kept h.object x.object (is_static h.object.storage) refl
-            (λ e. sym (static_same x.object.storage) ∙ x.stored (static_same h.object.storage ∙ e))
-            (λ e. x.whole (static_same h.object.storage ∙ e)) h.sized;
+        sized = size_kept h.object x.object (is_lasting h.object.storage) refl x.stored x.whole h.sized;
       }
 
   pub all_declared_stay : (ns : List ℕ) → AreDeclared s ns → AreDeclared r ns

@@ -31,7 +31,7 @@ use Rattle.sp_typed_laws.proofs.Functions.{IsGoodSignature, function_good, funct
 use Rattle.sp_typed_laws.proofs.Leaves.{IsType, type_kept}
 use Rattle.sp_typed_laws.proofs.Expressions.{specifiers_good, declared_good}
 use Rattle.sp_typed_unit_laws.specs.Fits.{AreOwn}
-use Rattle.sp_typed_unit_laws.specs.Starts.{lasting_alone}
+use Rattle.sp_typed_laws.specs.Sound.{AreBytes, lasting_alone}
 use Rattle.sp_leaf_laws.proofs.Values.{gives_after}
 use Rattle.sp_typed_unit_laws.proofs.Shows.{gives_shown}
 use Rattle.sp_typed_unit_laws.proofs.Formals.{AreFormals, IsOwn, own_shows, formals_on}
@@ -154,12 +154,13 @@ result_type : (env : Env) (s : Signature) → IsGoodSignature env.tables.structs
     → IsType (result_of s) env
 result_type env (signature r ps v) h = (h.0.0, h.1.1)
 
-head_of : (names : List (List ℕ)) (own : ℕ → Bool) (env file : Env) (k : ℕ) (o : Own) (later : Env)
+head_of : (names : List (List ℕ)) (bytes : AreBytes names) (own : ℕ → Bool) (env file : Env)
+    (k : ℕ) (o : Own) (later : Env)
     (t : Signature)
     → Reaches lasting_alone env file → IsBodiless k file
-    → Reaches own (entered file) later → IsOwn names own o later → IsJoinedType later k o.of t
+    → Reaches own (entered file) later → IsOwn names bytes own o later → IsJoinedType later k o.of t
     → IsHead own env (record { number = k; own = o }) (with_function_type later k t)
-head_of names own env file k o later t to-file less g x j =
+head_of names bytes own env file k o later t to-file less g x j =
     let r : Reaches own later (with_function_type later k t) =
     reaches_function_typed own later g.fit k t j.good.0 j.good.1 j.before in
     let f : IsBodiless k later = bodiless_on g k less in
@@ -176,22 +177,23 @@ head_of names own env file k o later t to-file less g x j =
       follows = j.follows;
     }
 
-pub head_good : (names : List (List ℕ)) (own : ℕ → Bool) (env : Env) (ss : Specifiers)
+pub head_good : (names : List (List ℕ)) → AreBytes names → (own : ℕ → Bool) (env : Env)
+    (ss : Specifiers)
     (d : Declarator) → IsFit lasting_alone env → AreWrittenSpecifiers ss → IsWrittenDeclarator d
     → Gives (λ x. AreOwn own x.0.own.formals → IsHead own env x.0 x.1)
     (head_checked names env ss d)
-head_good names own env ss d h w v =
+head_good names bytes own env ss d h w v =
     gives_met {b = may_define (storage_class ss)} _ _ (λ class.
-    gives_after (specifiers_good names lasting_alone env false (declarator_place d) ss h w)
+    gives_after (specifiers_good names bytes lasting_alone env false (declarator_place d) ss h w)
     (λ x g t.
-    gives_after (declared_good names lasting_alone x.1 x.0 d g.fit v t) (λ y k u.
+    gives_after (declared_good names bytes lasting_alone x.1 x.0 d g.fit v t) (λ y k u.
     gives_after (name_good lasting_alone y.1 (storage_class ss) y.0 d k.fit u) (λ n l a.
     let to-n : Reaches lasting_alone env n.1 =
     reaches_on lasting_alone env x.1 n.1 g (reaches_on lasting_alone x.1 y.1 n.1 k l) in
     let base : IsType x.0 n.1 = type_kept l x.0 (type_kept k x.0 t) in
-    gives_shown (own_shows names own n.1 x.0 d
+    gives_shown (own_shows names bytes own n.1 x.0 d
     (fit_wider lasting_alone own n.1 (λ i e. absurd (true≢false (sym e))) l.fit) v base) (λ o q.
     gives_then (joined_told own o.1 n.0 o.0.of o.0.place) (λ z j.
     gives {x = (record { number = n.0; own = o.0 }, with_function_type o.1 n.0 z)} (λ fits.
-    let r : Reaches own (entered n.1) o.1 × IsOwn names own o.0 o.1 = q fits in
-    head_of names own env n.1 n.0 o.0 o.1 z to-n a r.0 r.1 (j r.0.fit r.1.good))))))))
+    let r : Reaches own (entered n.1) o.1 × IsOwn names bytes own o.0 o.1 = q fits in
+    head_of names bytes own env n.1 n.0 o.0 o.1 z to-n a r.0 r.1 (j r.0.fit r.1.good))))))))

@@ -1,10 +1,16 @@
 pub mod Shows
+pub mod Linkage
 pub mod Going
+pub mod Locals
+pub mod Composed
+pub mod Begun
+pub mod Tentative
 pub mod Values
 pub mod Parted
 pub mod Held
 pub mod Objects
 pub mod Owners
+pub mod Listed
 pub mod Declarations
 pub mod Distinct
 pub mod Formals
@@ -14,5 +20,3 @@ pub mod Heads
 pub mod Starts
 pub mod Files
 pub mod Units
-pub mod Constants
-pub mod Alone

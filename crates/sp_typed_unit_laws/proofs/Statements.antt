@@ -1,5 +1,5 @@
 -- A statement that the checks accept is typed, where its blocks' declarations are (C90 6.6).
-use Rattle.std.proofs.Common.{◌≡◌, ℕ, zero, suc, Bool, true, length, List, [], ◌∷◌, ◌++◌, Option, Some, is_some, refl, ap, sym, subst, ◌∙◌, true≢false}
+use Rattle.std.proofs.Common.{◌≡◌, ℕ, zero, suc, Bool, true, false, length, List, [], ◌∷◌, ◌++◌, Option, Some, is_some, refl, ap, sym, subst, ◌∙◌, true≢false}
 use Rattle.std.specs.Prelude.{⊤}
 use Rattle.sp_tree.specs.declared.fault.Place.{Place}
 use Rattle.sp_syntax.specs.Syntax.{Expression, MaybeExpression, no_expression, some_expression, Statement, statement, StatementForm, no_statement, some_statement, Statements, no_statements, next_statement, Declarations}
@@ -15,6 +15,7 @@ use Rattle.sp_types.specs.TypedView.{statement_list}
 use Rattle.sp_types.specs.Arithmetic.{promoted_kind}
 use Rattle.sp_operands.specs.Conversions.{is_scalar as is_scalar_type, converted, promoted, promoted_type}
 use Rattle.sp_constants.specs.Constants.{constant_of}
+use Rattle.sp_scopes.specs.Scopes.{is_file_scope}
 use Rattle.sp_env.specs.Env.{Env, entered, left}
 use Rattle.sp_labels.specs.Labels.{jumps_in, form_jumps, all_jumps}
 use Rattle.sp_labels.specs.Cases.{distinct_cases}
@@ -30,7 +31,7 @@ use Rattle.sp_typing.specs.Statements.{IsCondition, IsMaybeTyped, IsMaybeConditi
 use Rattle.sp_unit_laws.proofs.Lists.{some_is, Each, each_none, each_pushed, each_behind, none_some, pushed_before, pushed_last}
 use Rattle.sp_unit_laws.proofs.After.{Gives, gives, gives_then, gives_met, gives_given, gives_more, anything}
 use Rattle.sp_written_laws.specs.Written.{IsWritten, IsWrittenMaybe, AreWrittenDeclarations}
-use Rattle.sp_typed_laws.specs.Sound.{scene_of}
+use Rattle.sp_typed_laws.specs.Sound.{AreBytes, scene_of}
 use Rattle.sp_typed_laws.proofs.Operators.{IsGood}
 use Rattle.sp_typed_laws.proofs.Grows.{typed_stays}
 use Rattle.sp_typed_laws.proofs.Trees.{IsValued, IsOf, tree_converted}
@@ -46,6 +47,7 @@ use Rattle.sp_typed_unit_laws.proofs.Held.{IsHeld, held_on, held_entered}
 use Rattle.sp_typed_unit_laws.proofs.Parted.{each_left, each_right}
 use Rattle.sp_typed_unit_laws.proofs.Shows.{Shows, shown, hence, parted, behind, shows_taken, shows_staying, gives_staying}
 use Rattle.sp_typed_unit_laws.proofs.Values.{kind_held}
+use Rattle.sp_typed_unit_laws.proofs.Locals.{AreLocals, no_locals, locals_both, locals_moved}
 use Rattle.sp_typed_unit_laws.proofs.Going.{all_declared_stay, condition_stays, maybe_stays, maybe_condition_stays, statement_stays}
 
 -- ---- sorts
@@ -115,7 +117,7 @@ case_good k at e =
 
 -- ---- statements
 
-module _ (names : List (List ℕ)) (own : ℕ → Bool) (labels : List ℕ) where
+module _ (names : List (List ℕ)) (bytes : AreBytes names) (own : ℕ → Bool) (labels : List ℕ) where
   abbrev pub FitsForm : Place → TypedStatementForm → Type 0
   FitsForm p f = AreOwn own (form_locals f) × AreLabels labels (form_jumps p f)
 
@@ -124,10 +126,12 @@ module _ (names : List (List ℕ)) (own : ℕ → Bool) (labels : List ℕ) wher
 
   -- what the rules give, in the scene behind them
   abbrev IsStatementIn : CType → Option IntKind → TypedStatement → Env → Type 0
-  IsStatementIn t k s env = IsTypedStatement (setting_of own labels t env) k s
+  IsStatementIn t k s env =
+      IsTypedStatement (setting_of own labels t env) k s × AreLocals (locals_in s) env
 
   abbrev pub IsFormIn : CType → Option IntKind → TypedStatementForm → Env → Type 0
-  IsFormIn t k f env = IsTypedForm (setting_of own labels t env) k f
+  IsFormIn t k f env =
+      IsTypedForm (setting_of own labels t env) k f × AreLocals (form_locals f) env
 
   abbrev AreStatementsIn : CType → Option IntKind → List TypedStatement → Env → Type 0
   AreStatementsIn t k ss env = Each (λ s. IsStatementIn t k s env) ss
@@ -145,11 +149,11 @@ module _ (names : List (List ℕ)) (own : ℕ → Bool) (labels : List ℕ) wher
   IsReturnedIn t o env = IsReturned (setting_of own labels t env) o
 
   abbrev AreDeclaredIn : List ℕ → Env → Type 0
-  AreDeclaredIn ns env = AreDeclared (scene_of own env) ns
+  AreDeclaredIn ns env = AreDeclared (scene_of own env) ns × AreLocals ns env
 
   abbrev pub DeclarationsAreTyped : Type 0
   DeclarationsAreTyped = (env : Env) (ds : Declarations) → IsHeld own env
-      → AreWrittenDeclarations ds
+      → AreWrittenDeclarations ds → is_file_scope env.scopes ≡ false
       → Shows own env (AreOwn own) AreDeclaredIn (declarations_checked names env [] ds)
 
   module _ {env later : Env} (h : IsFit own env) (g : Reaches own env later) where
@@ -167,36 +171,42 @@ module _ (names : List (List ℕ)) (own : ℕ → Bool) (labels : List ℕ) wher
 
     statement_on : (t : CType) (k : Option IntKind) (s : TypedStatement) → IsStatementIn t k s env
         → IsStatementIn t k s later
-    statement_on t k s c = statement_stays (scene_of own env) (scene_of own later) h.formed.table
-        (grows_of own env later h g) g.moves.objects labels t t (λ e h. h) k s c
+    statement_on t k s c = (
+      statement_stays (scene_of own env) (scene_of own later) h.formed.table
+          (grows_of own env later h g) g.moves.objects labels t t (λ e h. h) k s c.0,
+      locals_moved env later h.formed g.moves (locals_in s) c.1,
+    )
 
     statements_on : (t : CType) (k : Option IntKind) (ss : List TypedStatement)
         → AreStatementsIn t k ss env → AreStatementsIn t k ss later
     statements_on t k ss c = λ i s at. statement_on t k s (c i s at)
 
     declared_on : (ns : List ℕ) → AreDeclaredIn ns env → AreDeclaredIn ns later
-    declared_on ns c = all_declared_stay (scene_of own env) (scene_of own later) h.formed.table
-        (grows_of own env later h g) g.moves.objects ns c
+    declared_on ns c = (
+      all_declared_stay (scene_of own env) (scene_of own later) h.formed.table
+          (grows_of own env later h g) g.moves.objects ns c.0,
+      locals_moved env later h.formed g.moves ns c.1,
+    )
 
   -- ---- parts
 
   condition_typed : (env : Env) (e : Expression) → IsFit own env → IsWritten e
       → After own env IsConditionIn (condition_checked names env e)
   condition_typed env e h w =
-      next (checked_value names own env e h w)
+      next (checked_value names bytes own env e h w)
       (λ x g q. staying g.fit (condition_good (scene_of own x.1) (place_of e) x.0 q))
 
   switch_typed : (env : Env) (e : Expression) → IsFit own env → IsWritten e
       → After own env (λ x later. IsSwitched (scene_of own later) x) (switch_checked names env e)
   switch_typed env e h w =
-      next (checked_value names own env e h w)
+      next (checked_value names bytes own env e h w)
       (λ x g q. staying g.fit (switch_good (scene_of own x.1) (place_of e) x.0 q))
 
   maybe_typed : (env : Env) (e : MaybeExpression) → IsFit own env → IsWrittenMaybe e
       → After own env IsMaybeIn (maybe_checked names env e)
   maybe_typed env no_expression h w = done (reaches_nowhere own env h) tt
   maybe_typed env (some_expression e) h w =
-      next (checked_value names own env e h w)
+      next (checked_value names bytes own env e h w)
       (λ x g q. done (reaches_nowhere own x.1 g.fit) q.tree.typed)
 
   maybe_condition_typed : (env : Env) (e : MaybeExpression) → IsFit own env → IsWrittenMaybe e
@@ -211,7 +221,7 @@ module _ (names : List (List ℕ)) (own : ℕ → Bool) (labels : List ℕ) wher
   maybe_returned_typed env a no_expression h w r = done (reaches_nowhere own env h) tt
   maybe_returned_typed env a (some_expression e) h w r =
       next (next {P = λ x later. IsReturnedIn a.result (Some x) later}
-      (checked_value names own env e h w)
+      (checked_value names bytes own env e h w)
       (λ x g q. staying g.fit (return_good (scene_of own x.1) labels a (place_of e) x.0
       (type_kept g a.result r) q)))
       (λ x g q. done (reaches_nowhere own x.1 g.fit) q)
@@ -243,7 +253,14 @@ module _ (names : List (List ℕ)) (own : ℕ → Bool) (labels : List ℕ) wher
       → AreTypedStatements (setting_of own labels t env) k (statement_list ss)
   all_typed t k env [] h = tt
   all_typed t k env (s ∷ ss) h =
-      (h 0 s refl, all_typed t k env ss (each_behind (λ s. IsStatementIn t k s env) s ss h))
+      ((h 0 s refl).0, all_typed t k env ss (each_behind (λ s. IsStatementIn t k s env) s ss h))
+
+  all_listed : (t : CType) (k : Option IntKind) (env : Env) (ss : List TypedStatement)
+      → AreStatementsIn t k ss env → AreLocals (all_locals (statement_list ss)) env
+  all_listed t k env [] h = no_locals env
+  all_listed t k env (s ∷ ss) h =
+      locals_both env (locals_in s) (all_locals (statement_list ss)) (h 0 s refl).1
+      (all_listed t k env ss (each_behind (λ s. IsStatementIn t k s env) s ss h))
 
   -- what is checked first stays in front
   one_before : (env : Env) (a : Around) (before : List TypedStatement) (s : Statement)
@@ -280,21 +297,25 @@ module _ (names : List (List ℕ)) (own : ℕ → Bool) (labels : List ℕ) wher
   switch_form a p e s env later h g q t =
       gives_then {Q = λ u. ⊤} {c = distinct_cases s} anything (λ u v.
       gives {x = tree.switch_on e s} (λ l. (
-        typed_stays (scene_of own env) (scene_of own later) (grows_of own env later h g) e q.0,
         (
-          q.1.0,
-          q.1.1,
-          subst (λ k. IsStatementIn a.result k s later) (ap integer_kind q.1.1) t,
+          typed_stays (scene_of own env) (scene_of own later) (grows_of own env later h g) e q.0,
+          (
+            q.1.0,
+            q.1.1,
+            (subst (λ k. IsStatementIn a.result k s later) (ap integer_kind q.1.1) t).0,
+          ),
         ),
+        t.1,
       )))
 
   module _ (declares : DeclarationsAreTyped) where
     block_by : (env : Env) (a : Around) (p : Place) (ds : Declarations) (ss : Statements)
-        → IsHeld own env → AreWrittenDeclarations ds → StatementsShow a ss env
+        → IsHeld own env → AreWrittenDeclarations ds → is_file_scope env.scopes ≡ false
+        → StatementsShow a ss env
         → Shows own env (FitsForm p) (IsFormIn a.result a.switch)
         (block_checked names env a ds ss)
-    block_by env a p ds ss h w rest =
-        hence (declares env ds h w) (λ x.
+    block_by env a p ds ss h w inner rest =
+        hence (declares env ds h w inner) (λ x.
         gives_then {A = List TypedStatement × Env} {Q = λ y. ⊤} anything (λ y t.
         gives {x = (tree.block x.0 (statement_list y.0), y.1)} (λ l.
         each_left (λ n. own n ≡ true) x.0 (all_locals (statement_list y.0)) l.0)))
@@ -306,7 +327,11 @@ module _ (names : List (List ℕ)) (own : ℕ → Bool) (labels : List ℕ) wher
         )))
         (λ y k t. shown (λ l. (
           reaches_nowhere own y.1 k.fit,
-          (declared_on g.fit k x.0 q, all_typed a.result a.switch y.1 y.0 t),
+          let d : AreDeclaredIn x.0 y.1 = declared_on g.fit k x.0 q in (
+            (d.0, all_typed a.result a.switch y.1 y.0 t),
+            locals_both y.1 x.0 (all_locals (statement_list y.0)) d.1
+                (all_listed a.result a.switch y.1 y.0 t),
+          ),
         ))))
 
     mutual
@@ -328,27 +353,28 @@ module _ (names : List (List ℕ)) (own : ℕ → Bool) (labels : List ℕ) wher
           (λ x g q. shown (λ l. (reaches_nowhere own x.1 g.fit, q)))
       form_typed env a p (syntax.case_label e s) h w r =
           shows_taken (around_kind a p) (λ k is.
-          behind (checked_value names own env e h.fit w.0) (λ x g q.
+          behind (checked_value names bytes own env e h.fit w.0) (λ x g q.
           shows_taken (case_good k (place_of e) x.0) (λ z inside.
           hence (statement_typed x.1 a s (held_on h g) w.1 (type_kept g a.result r))
           (λ y. gives {x = (tree.case_of z y.0, y.1)} (λ l. l))
-          (λ y l m. shown (λ u. (reaches_nowhere own y.1 l.fit, ((k, is, inside), m)))))))
+          (λ y l m. shown (λ u. (reaches_nowhere own y.1 l.fit, (((k, is, inside), m.0), m.1)))))))
       form_typed env a p (syntax.default_label s) h w r =
           shows_taken (around_kind a p) (λ k is.
           hence (statement_typed env a s h w r)
           (λ y. gives {x = (tree.default_of y.0, y.1)} (λ l. l))
-          (λ y l m. shown (λ u. (reaches_nowhere own y.1 l.fit, ((k, is), m)))))
+          (λ y l m. shown (λ u. (reaches_nowhere own y.1 l.fit, (((k, is), m.0), m.1)))))
       form_typed env a p (syntax.block ds ss) h w r =
-          parted (block_by (entered env) a p ds ss (held_entered own env h) w.0
+          parted (block_by (entered env) a p ds ss (held_entered own env h) w.0 refl
           (λ x g. statements_typed x.1 a [] ss (held_on (held_entered own env h) g) w.1
           (type_kept g a.result r)
           (each_none (λ s. IsStatementIn a.result a.switch s x.1))))
           (λ y. gives {x = (y.0, left y.1)} (λ l. l))
-          (λ y g q. shown (λ l. (reaches_left own own env y.1 h.fit g, q)))
-      form_typed env a p syntax.empty h w r = shown (λ l. (reaches_nowhere own env h.fit, tt))
+          (λ y g q. shown (λ l. (reaches_left own own env y.1 h.fit (λ all. all) g, q)))
+      form_typed env a p syntax.empty h w r =
+          shown (λ l. (reaches_nowhere own env h.fit, (tt, no_locals env)))
       form_typed env a p (syntax.of e) h w r =
-          behind (checked_value names own env e h.fit w)
-          (λ x g q. shown (λ l. (reaches_nowhere own x.1 g.fit, q.tree.typed)))
+          behind (checked_value names bytes own env e h.fit w)
+          (λ x g q. shown (λ l. (reaches_nowhere own x.1 g.fit, (q.tree.typed, no_locals x.1))))
       form_typed env a p (syntax.if_else e s no_statement) h w r =
           behind (condition_typed env e h.fit w.0) (λ x g q.
           hence (statement_typed x.1 a s (held_on h g) w.1 (type_kept g a.result r))
@@ -358,7 +384,10 @@ module _ (names : List (List ℕ)) (own : ℕ → Bool) (labels : List ℕ) wher
           )))
           (λ y k t. shown (λ l. (
             reaches_nowhere own y.1 k.fit,
-            (condition_on g.fit k x.0 q, t, tt),
+            (
+              (condition_on g.fit k x.0 q, t.0, tt),
+              locals_both y.1 (locals_in y.0) [] t.1 (no_locals y.1),
+            ),
           ))))
       form_typed env a p (syntax.if_else e s (some_statement other)) h w r =
           behind (condition_typed env e h.fit w.0) (λ x g q.
@@ -377,11 +406,11 @@ module _ (names : List (List ℕ)) (own : ℕ → Bool) (labels : List ℕ) wher
           )))
           (λ z m u. shown (λ l. (
             reaches_nowhere own z.1 m.fit,
-            (
-              condition_on k.fit m x.0 (condition_on g.fit k x.0 q),
-              statement_on k.fit m a.result a.switch y.0 t,
-              u,
-            ),
+            let v : IsStatementIn a.result a.switch y.0 z.1 =
+                statement_on k.fit m a.result a.switch y.0 t in (
+                  (condition_on k.fit m x.0 (condition_on g.fit k x.0 q), v.0, u.0),
+                  locals_both z.1 (locals_in y.0) (locals_in z.0) v.1 u.1,
+                ),
           )))))
       form_typed env a p (syntax.switch_on e s) h w r =
           behind (switch_typed env e h.fit w.0) (λ x g q.
@@ -395,7 +424,7 @@ module _ (names : List (List ℕ)) (own : ℕ → Bool) (labels : List ℕ) wher
           (λ y. gives {x = (tree.while_loop x.0 y.0, y.1)} (λ l. l))
           (λ y k t. shown (λ l. (
             reaches_nowhere own y.1 k.fit,
-            (condition_on g.fit k x.0 q, t),
+            ((condition_on g.fit k x.0 q, t.0), t.1),
           ))))
       form_typed env a p (syntax.do_loop s e) h w r =
           hence (statement_typed env (in_loop a) s h w.0 r)
@@ -404,7 +433,9 @@ module _ (names : List (List ℕ)) (own : ℕ → Bool) (labels : List ℕ) wher
           (λ x g q. behind (condition_typed x.1 e g.fit w.1) (λ y k t.
           shown (λ l. (
             reaches_nowhere own y.1 k.fit,
-            (statement_on g.fit k a.result a.switch x.0 q, t),
+            let v : IsStatementIn a.result a.switch x.0 y.1 =
+                statement_on g.fit k a.result a.switch x.0 q in
+                ((v.0, t), v.1),
           ))))
       form_typed env a p (syntax.for_loop b c d s) h w r =
           behind (maybe_typed env b h.fit w.0) (λ x g q.
@@ -417,22 +448,25 @@ module _ (names : List (List ℕ)) (own : ℕ → Bool) (labels : List ℕ) wher
           (λ v m i. shown (λ f. (
             reaches_nowhere own v.1 m.fit,
             (
-              maybe_on l.fit m x.0 (maybe_on k.fit l x.0 (maybe_on g.fit k x.0 q)),
-              maybe_condition_on l.fit m y.0 (maybe_condition_on k.fit l y.0 t),
-              maybe_on l.fit m z.0 u,
-              i,
+              (
+                maybe_on l.fit m x.0 (maybe_on k.fit l x.0 (maybe_on g.fit k x.0 q)),
+                maybe_condition_on l.fit m y.0 (maybe_condition_on k.fit l y.0 t),
+                maybe_on l.fit m z.0 u,
+                i.0,
+              ),
+              i.1,
             ),
           ))))))
       form_typed env a p (syntax.goto_name n) h w r =
-          shown (λ l. (reaches_nowhere own env h.fit, l.1 0 (n, p) refl))
+          shown (λ l. (reaches_nowhere own env h.fit, (l.1 0 (n, p) refl, no_locals env)))
       form_typed env a p syntax.continue_loop h w r =
           shows_staying h.fit
-          (gives_met {b = a.loop} _ _ (λ e. gives {x = tree.continue_loop} (λ l. tt)))
+          (gives_met {b = a.loop} _ _ (λ e. gives {x = tree.continue_loop} (λ l. (tt, no_locals env))))
       form_typed env a p syntax.break_out h w r =
-          shows_staying h.fit (gives_met _ _ (λ e. gives {x = tree.break_out} (λ l. tt)))
+          shows_staying h.fit (gives_met _ _ (λ e. gives {x = tree.break_out} (λ l. (tt, no_locals env))))
       form_typed env a p (syntax.return_value e) h w r =
           behind (maybe_returned_typed env a e h.fit w r)
-          (λ x g q. shown (λ l. (reaches_nowhere own x.1 g.fit, q)))
+          (λ x g q. shown (λ l. (reaches_nowhere own x.1 g.fit, (q, no_locals x.1))))
 
       one_typed : (env : Env) (a : Around) (before : List TypedStatement) (s : Statement)
           → IsHeld own env → IsWrittenStatement s → IsType a.result env
@@ -464,9 +498,9 @@ module _ (names : List (List ℕ)) (own : ℕ → Bool) (labels : List ℕ) wher
     -- the outermost block of a function
     pub block_typed : (env : Env) (a : Around) (p : Place) (ds : Declarations) (ss : Statements)
         → IsHeld own env → AreWrittenDeclarations ds × AreWrittenStatements ss
-        → IsType a.result env
+        → IsType a.result env → is_file_scope env.scopes ≡ false
         → Shows own env (FitsForm p) (IsFormIn a.result a.switch) (block_checked names env a ds ss)
-    block_typed env a p ds ss h w r =
-        block_by env a p ds ss h w.0
+    block_typed env a p ds ss h w r inner =
+        block_by env a p ds ss h w.0 inner
         (λ x g. statements_typed x.1 a [] ss (held_on h g) w.1 (type_kept g a.result r)
         (each_none (λ s. IsStatementIn a.result a.switch s x.1)))

@@ -1,17 +1,20 @@
 -- What the checks of a unit accept is typed (C90 6.7).
-use Rattle.std.proofs.Common.{◌≡◌, ℕ, ◌≤◌, zero, suc, ◌||◌, nat_eq, Bool, true, false, length, List, [], ◌∷◌, ◌++◌, Option, Some, None, is_some, refl, ap, sym, subst, ◌∙◌, true≢false, eqb-true, arith}
+use Rattle.std.proofs.Common.{◌≡◌, ◌⊎◌, inl, inr, ℕ, ◌≤◌, zero, suc, ◌+◌, ◌||◌, nat_eq, Bool, true, false, not, length, List, [], ◌∷◌, ◌++◌, Option, Some, None, is_some, refl, ap, sym, subst, ◌∙◌, true≢false, eqb-true, arith}
 use Rattle.std.specs.Prelude.{slice_get}
 use Rattle.std.specs.List.{list_any}
 use Rattle.sp_tree.specs.declared.fault.Place.{Place}
 use Rattle.sp_tree.specs.declared.fault.FaultKind.{FaultKind}
 use Rattle.sp_syntax.specs.Syntax.{Specifiers, Declarator, Statement, External, definition, external_declaration, semicolon}
-use Rattle.sp_types.specs.Structs.{IsFormedSignature}
+use Rattle.sp_types.specs.Structs.{IsFormed, IsFormedSignature}
 use Rattle.sp_types.specs.Types.{CType, void, integer, floating, pointer, array, structure, function, Struct, result_of}
 use Rattle.sp_types.specs.Programs.{Object, Function}
+use Rattle.sp_types.specs.declared.program.Storage.{Storage}
+use Rattle.sp_types.specs.declared.program.Storage.TheVariants.{Static, Outside, Text, Auto, Formal}
 use Rattle.sp_types.specs.Statements.{TypedStatement}
 use Rattle.sp_operands.specs.Answers.{Checked}
-use Rattle.sp_scopes.specs.Scopes.{is_file_scope}
-use Rattle.sp_env.specs.Env.{Env, entered, left, set_function, unit_start}
+use Rattle.sp_scopes.specs.Scopes.{is_empty, is_file_scope}
+use Rattle.sp_env.specs.declared.env.Entity.TheVariants as entities
+use Rattle.sp_env.specs.Env.{Env, linked, entered, left, set_function, unit_start}
 use Rattle.sp_labels.specs.Repeats.{where_none}
 use Rattle.sp_mentions.specs.Undefined.{undefined_function}
 use Rattle.sp_statement_rules.specs.Blocks.{locals_in}
@@ -23,38 +26,45 @@ use Rattle.sp_decl_check.specs.Units.{checked_unit, unit_told}
 use Rattle.sp_typing.specs.Sorts.{agrees, same_value, IsStored}
 use Rattle.sp_typing.specs.Trees.{IsCalled}
 use Rattle.sp_typing.specs.Statements.{labels_in, IsTypedStatement, IsTypedBody}
-use Rattle.sp_typing.specs.Programs.{is_static_object}
-use Rattle.sp_unit_laws.proofs.Lists.{none_some, some_is, Each, each_appended, each_set, each_pushed, set_length, set_there, set_other, get_below}
+use Rattle.sp_typing.specs.Programs.{lasts}
+use Rattle.sp_unit_laws.proofs.Lists.{none_some, some_is, Each, each_none, each_appended, each_set, each_pushed, set_length, set_there, set_other, get_below, pushed_before, pushed_last}
 use Rattle.sp_unit_laws.proofs.Envs.{IsFormedEnv, AreBelow}
 use Rattle.sp_unit_laws.proofs.Objects.{AreNumbers, Has, has_later, numbers_below}
 use Rattle.sp_unit_laws.proofs.Updates.{goes_function_set}
 use Rattle.sp_unit_laws.proofs.Statements.{body_formed}
-use Rattle.sp_unit_laws.proofs.After.{Gives, gives, gives_none, gives_then}
-use Rattle.sp_typed_laws.specs.Sound.{IsSoundSignature, lasts, scene_of}
-use Rattle.sp_typed_laws.proofs.Types.{number_equals, or_left, or_right}
+use Rattle.sp_unit_laws.proofs.After.{Gives, gives, gives_none, gives_then, gives_more}
+use Rattle.sp_typed_laws.specs.Sound.{AreBytes, IsSoundSignature, scene_of, lasting_alone}
+use Rattle.sp_typed_laws.proofs.Types.{number_equals, or_left, or_right, complete_sized}
 use Rattle.sp_typed_laws.proofs.Grows.{Grows, called_stays}
-use Rattle.sp_typed_laws.proofs.Envs.{IsFit, Follows, IsKeptFunction, KeepObjects, kept_there, Reaches, reaches_on, scene_grows}
+use Rattle.sp_typed_laws.proofs.Envs.{IsFit, fit_table, Follows, IsKeptFunction, KeepObjects, kept_there, Moves, SeesAll, Reaches, reaches_on, scene_grows}
+use Rattle.sp_typed_laws.proofs.Starts.{IsWaiting, HasStart, HaveStarts, start_stays, starts_more, static_stays}
+use Rattle.sp_typed_laws.proofs.Named.{AreNamed}
+use Rattle.sp_typed_laws.proofs.Objects.{set_split}
 use Rattle.sp_typed_laws.proofs.Updates.{reaches_left}
 use Rattle.sp_typed_laws.proofs.Law.{fit_of, start_sound}
 use Rattle.sp_typed_laws.proofs.Leaves.{IsType}
 use Rattle.sp_written_laws.specs.Statements.{IsWrittenStatement, IsWrittenExternal, AreWrittenExternals}
 use Rattle.sp_written_laws.specs.Written.{AreWrittenSpecifiers, IsWrittenDeclarator}
 use Rattle.sp_typed_unit_laws.specs.Fits.{AreOwn, setting_of}
-use Rattle.sp_typed_unit_laws.specs.Starts.{StartsAreTyped, lasting_alone}
-use Rattle.sp_typed_unit_laws.specs.Units.{scene_in, IsTypedFunction, IsTypedUnit, UnitsAreTyped}
+use Rattle.sp_typed_unit_laws.specs.Units.{scene_in, IsUnmeasured, HasUnitStart, IsTypedFunction, IsTypedUnit, UnitsAreTyped}
 use Rattle.sp_leaf_laws.proofs.Values.{gives_both}
-use Rattle.sp_typed_unit_laws.proofs.Held.{IsHeld, held_on}
-use Rattle.sp_typed_unit_laws.proofs.Going.{static_same, statement_stays}
+use Rattle.sp_typed_unit_laws.proofs.Held.{IsHeld}
+use Rattle.sp_typed_unit_laws.proofs.Linkage.{linkage_same, objects_apart, functions_apart, formal_private}
+use Rattle.sp_typed_unit_laws.proofs.Locals.{AreLocals, locals_moved}
+use Rattle.sp_typed_unit_laws.proofs.Going.{statement_stays}
 use Rattle.sp_typed_unit_laws.proofs.Distinct.{AreDistinct, distinct_none, distinct_pushed}
 use Rattle.sp_unit_laws.proofs.Heads.{head_formed}
 use Rattle.sp_typing.specs.Programs.{AreOwners}
 use Rattle.sp_typed_unit_laws.proofs.Owners.{AreThere, ListBelow, owners_none, owners_on, listed_before, listed_below, owners_pushed}
-use Rattle.sp_typed_unit_laws.proofs.Formals.{AreFormals, formals_on}
+use Rattle.sp_typed_unit_laws.proofs.Formals.{AreFormals, formals_on, formals_moved}
 use Rattle.sp_typed_unit_laws.proofs.Heads.{IsHead, head_good}
 use Rattle.sp_typed_unit_laws.proofs.Bodies.{IsBody, body_typed}
 use Rattle.sp_leaf_laws.proofs.Complete.{member_less}
-use Rattle.sp_typed_unit_laws.proofs.Starts.{starts_typed}
-use Rattle.sp_typed_unit_laws.proofs.Files.{file_on, file_typed}
+use Rattle.sp_typed_unit_laws.proofs.Files.{IsFiled, file_typed}
+use Rattle.sp_typed_unit_laws.proofs.Tentative.{external_after, names_after, waits_in, waits_on, IsClosedName, names_closed, waiting_closed}
+use Rattle.sp_typed_unit_laws.proofs.Begun.{complete_start}
+use Rattle.sp_operands.specs.Conversions.{is_complete, is_open_struct}
+use Rattle.sp_typing.specs.Trees.{Scene}
 
 -- ---- types that follow
 
@@ -148,11 +158,31 @@ among_right [] (y ∷ ys) (suc i) n at =
 among_right (x ∷ xs) ys i n at =
     or_right (nat_eq n x) (among (xs ++ ys) n) (among_right xs ys i n at)
 
+-- a function has finitely many
+abbrev total : List ℕ → ℕ
+total [] = 0
+total (x ∷ xs) = x + total xs
+
+among_low : (xs : List ℕ) (n : ℕ) → among xs n ≡ true → n ≤ total xs
+among_low [] n h = absurd (true≢false (sym h))
+among_low (x ∷ xs) n h = by (nat_eq n x) refl h (among_low xs n)
+  where
+    by : (b : Bool) → nat_eq n x ≡ b → (b || among xs n) ≡ true
+        → (among xs n ≡ true → n ≤ total xs) → n ≤ x + total xs
+    by true e h g = let same : n ≡ x = eqb-true n x e in omega (arith, same)
+    by false e h g = let low : n ≤ total xs = g h in omega (arith, low)
+
+among_partly : (xs : List ℕ) → SeesAll (among xs) → ⊥
+among_partly xs all =
+    let low : suc (total xs) ≤ total xs = among_low xs (suc (total xs)) (all (suc (total xs))) in
+    absurd (omega (arith, low))
+
 -- ---- functions that are defined
 
 pub record IsDefined (env : Env) (g : Function) : Type 0 where
   pub called : IsCalled env.tables.structs (result_of g.of)
   pub formals : AreFormals g.formals env
+  pub locals : AreLocals g.locals env
   pub body : TypedStatement
   pub is : g.body ≡ Some body
   pub typed : IsTypedStatement
@@ -162,10 +192,10 @@ pub record IsDefined (env : Env) (g : Function) : Type 0 where
 defined_by : (env later : Env) (g f : Function) → IsFormedEnv env
     → ((own : ℕ → Bool) → Grows (scene_of own env) (scene_of own later))
     → KeepObjects env.tables.objects later.tables.objects
-    → AreFormals g.formals later
+    → AreFormals g.formals later → AreLocals g.locals later
     → f.formals ≡ g.formals → f.locals ≡ g.locals → f.body ≡ g.body → Follows g.of f.of
     → IsDefined env g → IsDefined later f
-defined_by env later g f formed grows kept formals same-formals same-locals same-body follows h =
+defined_by env later g f formed grows kept formals locals same-formals same-locals same-body follows h =
     let own : ℕ → Bool = among (g.formals ++ g.locals) in
     let lists : f.formals ++ f.locals ≡ g.formals ++ g.locals =
     ap (λ xs. xs ++ f.locals) same-formals ∙ ap (λ xs. g.formals ++ xs) same-locals in
@@ -174,6 +204,7 @@ defined_by env later g f formed grows kept formals same-formals same-locals same
           (called_stays env.tables.structs later.tables.structs (grows own).stays (result_of g.of)
           h.called);
       formals = subst (λ ns. AreFormals ns later) (sym same-formals) formals;
+      locals = subst (λ ns. AreLocals ns later) (sym same-locals) locals;
       body = h.body;
       is = same-body ∙ h.is;
       typed = subst (λ ns. IsTypedStatement
@@ -186,41 +217,62 @@ defined_by env later g f formed grows kept formals same-formals same-locals same
 
 -- ---- units so far
 
-pub record IsUnitEnv (ns : List ℕ) (env : Env) : Type 0 where
+-- the objects of these names may wait until the end of the unit
+pub record IsUnitEnv (ts ns : List ℕ) (env : Env) : Type 0 where
   pub held : IsHeld lasting_alone env
+  pub starts : HaveStarts (waits_in ts env) env
   pub file : is_file_scope env.scopes ≡ true
+  pub named : AreNamed env
+  -- what has a body is defined
+  pub bodied : (k : ℕ) (f : Function) → slice_get env.tables.functions k ≡ Some f
+      → is_some f.body ≡ true → (i : ℕ) × (slice_get ns i ≡ Some k)
   pub distinct : AreDistinct ns
   pub owners : AreOwners env.tables.functions ns
   pub defined : Each (λ n. (g : Function) × (slice_get env.tables.functions n ≡ Some g)
       × IsDefined env g) ns
 
-there_of : (ns : List ℕ) (env : Env) → IsUnitEnv ns env → AreThere env.tables.functions ns
-there_of ns env u i n at = let x = u.defined i n at in (x.0, x.1)
+there_of : (ts ns : List ℕ) (env : Env) → IsUnitEnv ts ns env → AreThere env.tables.functions ns
+there_of ts ns env u i n at = let x = u.defined i n at in (x.0, x.1)
 
-unit_on : (ns : List ℕ) (env later : Env) → IsUnitEnv ns env → Reaches lasting_alone env later
-    → IsUnitEnv ns later
-unit_on ns env later u g = record {
-  held = held_on u.held g;
-  file = file_on g u.file;
+unit_moved : (ts us ns : List ℕ) (env later : Env) → IsUnitEnv ts ns env → IsFit lasting_alone later
+    → Moves env later → HaveStarts (waits_in us later) later → IsUnitEnv us ns later
+unit_moved ts us ns env later u fit g starts = record {
+  held = record { fit = fit; homes = g.homes u.held.homes };
+  starts = starts;
+  file = ap is_empty g.around ∙ u.file;
+  named = g.names.0 u.named;
+  bodied = λ k f at body. let y = g.names.1 k f at body in u.bodied k y.0 y.1 y.2;
   distinct = u.distinct;
-  owners = owners_on env.tables.functions later.tables.functions ns (there_of ns env u) g.moves.kept u.owners;
+  owners = owners_on env.tables.functions later.tables.functions ns (there_of ts ns env u) g.kept
+      u.owners;
   defined = λ i n at.
       let d = u.defined i n at in
-      let y : IsKeptFunction later.tables.functions n d.0 = g.moves.kept n d.0 d.1 in (
+      let y : IsKeptFunction later.tables.functions n d.0 = g.kept n d.0 d.1 in (
         y.function,
         y.there,
         defined_by env later d.0 y.function u.held.fit.formed
-            (λ own. scene_grows own env later g.moves u.held.fit.formed) g.moves.objects
-            (formals_on u.held.fit.formed g d.0.formals d.2.formals) y.formals y.locals y.body y.follows d.2,
+            (λ own. scene_grows own env later g u.held.fit.formed) g.objects
+            (formals_moved env later u.held.fit.formed g d.0.formals d.2.formals)
+            (locals_moved env later u.held.fit.formed g d.0.locals d.2.locals) y.formals
+            y.locals y.body y.follows d.2,
       );
 }
 
+unit_on : (ts ns : List ℕ) (env later : Env) → IsUnitEnv ts ns env
+    → Reaches lasting_alone env later → IsUnitEnv ts ns later
+unit_on ts ns env later u g =
+    unit_moved ts ts ns env later u g.fit g.moves
+    (starts_more (waits_in ts env) (waits_in ts later) later
+    (waits_on ts env later g.moves.links)
+    (g.starts (waits_in ts env) (λ file k e. absurd (true≢false (sym e))) u.starts))
+
 -- ---- a function takes its body
 
-module _ (ns : List ℕ) (env : Env) (u : IsUnitEnv ns env) (k : ℕ) (was f : Function)
+module _ (ts ns : List ℕ) (env : Env) (u : IsUnitEnv ts ns env) (k : ℕ) (was f : Function)
     (at : slice_get env.tables.functions k ≡ Some was) (bodiless : is_some was.body ≡ false)
     (below : AreBelow (length env.tables.objects) f.formals
     × AreBelow (length env.tables.objects) f.locals) (same : f.of ≡ was.of)
+    (name : f.name ≡ was.name)
     (d : IsDefined env f) (from : ℕ) (old : ListBelow from env.tables.functions ns)
     (new : (i n : ℕ) → slice_get (f.formals ++ f.locals) i ≡ Some n → from ≤ n) where
   abbrev later : Env
@@ -236,7 +288,8 @@ module _ (ns : List ℕ) (env : Env) (u : IsUnitEnv ns env) (k : ℕ) (was f : F
   set_defined : (g : Function) → IsDefined env g → IsDefined later g
   set_defined g h =
       defined_by env later g g u.held.fit.formed set_grows (kept_there env.tables.objects)
-      (record { formals = h.formals.formals; distinct = h.formals.distinct }) refl refl refl
+      (record { formals = h.formals.formals; distinct = h.formals.distinct }) h.locals refl refl
+      refl
       (λ t e. e) h
 
   set_fit : IsFit lasting_alone later
@@ -264,12 +317,38 @@ module _ (ns : List ℕ) (env : Env) (u : IsUnitEnv ns env) (k : ℕ) (was f : F
       some_is was x.0 (sym at ∙ ap (slice_get env.tables.functions) is ∙ x.1) in
       true≢false (sym (ap is_some x.2.is) ∙ sym (ap (λ g. is_some g.body) old) ∙ bodiless)
 
-  set_unit : IsUnitEnv (ns ++ k ∷ []) later
+  set_named : (j : ℕ) (x : Function)
+      → ((k ≡ j) × (f ≡ x)) ⊎ ((k ≡ j → ⊥) × (slice_get env.tables.functions j ≡ Some x))
+      → linked env x.name ≡ Some (entities.Function j)
+  set_named j x (inl y) =
+      subst (λ z. linked env z.name ≡ Some (entities.Function j)) y.1
+      (subst (λ i. linked env f.name ≡ Some (entities.Function i)) y.0
+      (ap (λ n. linked env n) name ∙ u.named.1 k was at))
+  set_named j x (inr y) = u.named.1 j x y.1
+
+  set_bodied : (j : ℕ) (x : Function)
+      → ((k ≡ j) × (f ≡ x)) ⊎ ((k ≡ j → ⊥) × (slice_get env.tables.functions j ≡ Some x))
+      → is_some x.body ≡ true → (i : ℕ) × (slice_get (ns ++ k ∷ []) i ≡ Some j)
+  set_bodied j x (inl y) body = (length ns, pushed_last ns k ∙ ap (λ i. Some i) y.0)
+  set_bodied j x (inr y) body =
+      let z = u.bodied j x y.1 body in (z.0, pushed_before ns k j z.0 z.1)
+
+  set_unit : IsUnitEnv ts (ns ++ k ∷ []) later
   set_unit = record {
     held = record { fit = set_fit; homes = u.held.homes };
+    starts = λ j o at.
+        start_stays (waits_in ts env) env later u.held.fit.formed.table
+        (set_grows lasting_alone) j o
+        o.storage (u.starts j o at);
     file = u.file;
+    named = (
+      u.named.0,
+      λ j x there. set_named j x (set_split env.tables.functions k f j x there),
+    );
+    bodied = λ j x there. set_bodied j x (set_split env.tables.functions k f j x there);
     distinct = distinct_pushed ns k u.distinct apart;
-    owners = owners_pushed env.tables.functions ns k from was f at apart (there_of ns env u) old new u.owners;
+    owners = owners_pushed env.tables.functions ns k from was f at apart
+        (there_of ts ns env u) old new u.owners;
     defined = each_pushed
         (λ n. (g : Function) × (slice_get later.tables.functions n ≡ Some g) × IsDefined later g) ns
         k
@@ -291,11 +370,11 @@ gives_all : {A X : Type 0} {P : X → A → Type 0} {c : Checked A} → ((x : X)
     → Gives (λ a. (x : X) → P x a) c
 gives_all h = record { at = λ a e x. (h x).at a e }
 
-module _ (names : List (List ℕ)) (starts : StartsAreTyped names) where
+module _ (names : List (List ℕ)) (bytes : AreBytes names) where
   -- what is known of a body in an environment, whatever the function's own objects are
   abbrev IsBodyBy : Env → CType → (ℕ → Bool) → TypedStatement × Env → Type 0
-  IsBodyBy env t own b = IsHeld own env → IsType t env → AreOwn own (locals_in b.0)
-      → IsBody names starts own env t b.0 b.1
+  IsBodyBy env t own b = IsHeld own env → (SeesAll own → ⊥) → IsType t env
+      → is_file_scope env.scopes ≡ false → AreOwn own (locals_in b.0) → IsBody own env t b.0 b.1
 
   abbrev IsNumbered : ℕ → Env → TypedStatement × Env → Type 0
   IsNumbered from env b = IsFormedEnv env → Has from env → AreNumbers from (locals_in b.0) b.1
@@ -304,33 +383,38 @@ module _ (names : List (List ℕ)) (starts : StartsAreTyped names) where
       → Gives (λ b. ((own : ℕ → Bool) → IsBodyBy env t own b) × IsNumbered from env b)
       (body_checked names env t s)
   body_known from env t s w =
-      gives_both (gives_all (λ own. record
-      { at = λ b e held type l. (body_typed names starts own env t s held w type).at b e l }))
+      gives_both (gives_all (λ own. record {
+        at = λ b e held partly type inner l.
+            (body_typed names bytes own partly env t s held w type inner).at b e l;
+      }))
       (record { at = λ b e formed has. ((body_formed names from env t s formed has).at b e).1 })
 
-  defined_unit : (ns : List ℕ) (env : Env) (h : Head) (first : Env) (s : TypedStatement)
-      (later : Env) → IsUnitEnv ns env
+  defined_unit : (ts ns : List ℕ) (env : Env) (h : Head) (first : Env) (s : TypedStatement)
+      (later : Env) → IsUnitEnv ts ns env
       → ((own : ℕ → Bool) → AreOwn own h.own.formals → IsHead own env h first)
       → ((own : ℕ → Bool) → IsBodyBy first (result_of h.own.of) own (s, later))
       → Has (length env.tables.objects) first
       → AreNumbers (length env.tables.objects) h.own.formals first
       → IsNumbered (length env.tables.objects) first (s, later)
-      → IsUnitEnv (ns ++ h.number ∷ []) (with_body (left later) h s)
-  defined_unit ns env h first s later u heads bodies has listed numbered =
+      → IsUnitEnv ts (ns ++ h.number ∷ []) (with_body (left later) h s)
+  defined_unit ts ns env h first s later u heads bodies has listed numbered =
       let own : ℕ → Bool = among (h.own.formals ++ locals_in s) in
       let hd : IsHead own env h first = heads own (among_left h.own.formals (locals_in s)) in
       let held : IsHeld own first = record {
         fit = hd.to_later.fit;
         homes = hd.to_later.moves.homes (hd.to_file.moves.homes u.held.homes);
       } in
-      let bd : IsBody names starts own first (result_of h.own.of) s later =
-      bodies own held hd.type (among_right h.own.formals (locals_in s)) in
+      let bd : IsBody own first (result_of h.own.of) s later =
+      bodies own held (among_partly (h.own.formals ++ locals_in s)) hd.type
+      (ap is_empty hd.to_later.moves.around)
+      (among_right h.own.formals (locals_in s)) in
       let out : Reaches lasting_alone hd.file (left later) =
       reaches_left lasting_alone own hd.file later hd.to_file.fit
+      (λ all. absurd (true≢false (sym (all 0))))
       (reaches_on own (entered hd.file) first later hd.to_later bd.0) in
       let to-out : Reaches lasting_alone env (left later) =
       reaches_on lasting_alone env hd.file (left later) hd.to_file out in
-      let before : IsUnitEnv ns (left later) = unit_on ns env (left later) u to-out in
+      let before : IsUnitEnv ts ns (left later) = unit_on ts ns env (left later) u to-out in
       let locals : AreNumbers (length env.tables.objects) (locals_in s) later =
       numbered held.fit.formed has in
       let x : IsKeptFunction later.tables.functions h.number hd.function =
@@ -345,6 +429,7 @@ module _ (names : List (List ℕ)) (starts : StartsAreTyped names) where
             (scene_grows own first later bd.0.moves held.fit.formed).stays (result_of h.own.of)
             hd.called);
         formals = record { formals = formals.formals; distinct = formals.distinct };
+        locals = bd.2;
         body = s;
         is = refl;
         typed = statement_stays (scene_of own later) (scene_of own (left later))
@@ -354,15 +439,15 @@ module _ (names : List (List ℕ)) (starts : StartsAreTyped names) where
             (goes_follows later.tables.structs (result_of h.own.of) (result_of x.function.of)
             follows) None s bd.1;
       } in
-      subst (λ o. IsUnitEnv (ns ++ h.number ∷ []) (body_set (left later) h s o)) (sym x.there)
-      (set_unit ns (left later) before h.number x.function (defined x.function h s) x.there
+      subst (λ o. IsUnitEnv ts (ns ++ h.number ∷ []) (body_set (left later) h s o)) (sym x.there)
+      (set_unit ts ns (left later) before h.number x.function (defined x.function h s) x.there
       (ap is_some x.body ∙ hd.bodiless) (
         λ i n at. let y = formals.formals i n at in get_below later.tables.objects n y.0 y.1,
         numbers_below (length env.tables.objects) later (locals_in s) locals,
-      ) refl d (length env.tables.objects)
+      ) refl refl d (length env.tables.objects)
       (λ i n y. listed_below (length env.tables.objects) env.tables.functions ns
       (λ k f at. let w = u.held.fit.formed.functions k f at in (w.1, w.2)) i n
-      (listed_before env.tables.functions later.tables.functions ns (there_of ns env u)
+      (listed_before env.tables.functions later.tables.functions ns (there_of ts ns env u)
       to-out.moves.kept i n y))
       (each_appended (λ k. length env.tables.objects ≤ k) h.own.formals (locals_in s)
       (λ i n at. (listed i n at).0) (λ i n at. (locals i n at).0)))
@@ -374,51 +459,54 @@ module _ (names : List (List ℕ)) (starts : StartsAreTyped names) where
         names = λ n o at seen. record { object = o; there = at; visible = seen; same = λ t h. h };
       }
 
-  abbrev IsUnitSoFar : List ℕ × Env → Type 0
-  IsUnitSoFar y = IsUnitEnv y.0 y.1
+  abbrev IsUnitSoFar : List ℕ → List ℕ × Env → Type 0
+  IsUnitSoFar ts y = IsUnitEnv ts y.0 y.1
 
-  definition_typed : (env : Env) (ns : List ℕ) (ss : Specifiers) (d : Declarator) (s : Statement)
-      → IsUnitEnv ns env → AreWrittenSpecifiers ss → IsWrittenDeclarator d → IsWrittenStatement s
-      → Gives IsUnitSoFar (definition_checked names env ns ss d s)
-  definition_typed env ns ss d s u w v z =
+  definition_typed : (ts : List ℕ) (env : Env) (ns : List ℕ) (ss : Specifiers) (d : Declarator)
+      (s : Statement)
+      → IsUnitEnv ts ns env → AreWrittenSpecifiers ss → IsWrittenDeclarator d → IsWrittenStatement s
+      → Gives (IsUnitSoFar ts) (definition_checked names env ns ss d s)
+  definition_typed ts env ns ss d s u w v z =
       let from : ℕ = length env.tables.objects in
-      gives_then (gives_both (gives_all (λ own. head_good names own env ss d u.held.fit w v))
+      gives_then (gives_both (gives_all (λ own. head_good names bytes own env ss d u.held.fit w v))
       (record
       { at = (head_formed names from env ss d u.held.fit.formed (omega arith)).at })) (λ h heads.
       gives_then (body_known from h.1 (result_of h.0.own.of) s z) (λ b bodies.
       gives {x = (ns ++ h.0.number ∷ [], with_body (left b.1) h.0 b.0)}
-      (defined_unit ns env h.0 h.1 b.0 b.1 u heads.0 bodies.0
+      (defined_unit ts ns env h.0 h.1 b.0 b.1 u heads.0 bodies.0
       (has_later from env h.1 heads.1.0 (omega arith)) heads.1.1 bodies.1)))
 
-  external_typed : (env : Env) (ns : List ℕ) (e : External) → IsUnitEnv ns env
-      → IsWrittenExternal e → Gives IsUnitSoFar (external_checked names env ns e)
-  external_typed env ns (definition ss d s) u w = definition_typed env ns ss d s u w.0 w.1 w.2
-  external_typed env ns (external_declaration d) u w =
-      gives_then {Q = λ x. Reaches lasting_alone env x.1}
-      (record { at = λ x e. ((file_typed names starts env d u.held u.file w).at x e).0 })
-      (λ x g. gives {x = (ns, x.1)} (unit_on ns env x.1 u g))
-  external_typed env ns semicolon u w = gives {x = (ns, env)} u
+  external_typed : (ts : List ℕ) (env : Env) (ns : List ℕ) (e : External) → IsUnitEnv ts ns env
+      → IsWrittenExternal e
+      → Gives (IsUnitSoFar (external_after ts e)) (external_checked names env ns e)
+  external_typed ts env ns (definition ss d s) u w =
+      definition_typed ts env ns ss d s u w.0 w.1 w.2
+  external_typed ts env ns (external_declaration d) u w =
+      let us : List ℕ = external_after ts (external_declaration d) in
+      gives_then {Q = λ x. IsFiled env us x.1}
+      (gives_more (λ y a. a.1) (file_typed names bytes env d ts u.held u.file w u.starts))
+      (λ x q. gives {x = (ns, x.1)} (unit_moved ts us ns env x.1 u q.fit q.moves q.starts))
+  external_typed ts env ns semicolon u w = gives {x = (ns, env)} u
 
-  externals_typed : (env : Env) (ns : List ℕ) (es : List External) → IsUnitEnv ns env
-      → AreWrittenExternals es → Gives IsUnitSoFar (externals_checked names env ns es)
-  externals_typed env ns [] u w = gives {x = (ns, env)} u
-  externals_typed env ns (e ∷ es) u w =
-      gives_then (external_typed env ns e u w.0) (λ x v. externals_typed x.1 x.0 es v w.1)
+  externals_typed : (ts : List ℕ) (env : Env) (ns : List ℕ) (es : List External)
+      → IsUnitEnv ts ns env → AreWrittenExternals es
+      → Gives (IsUnitSoFar (names_after ts es)) (externals_checked names env ns es)
+  externals_typed ts env ns [] u w = gives {x = (ns, env)} u
+  externals_typed ts env ns (e ∷ es) u w =
+      gives_then (external_typed ts env ns e u w.0)
+      (λ x v. externals_typed (external_after ts e) x.1 x.0 es v w.1)
 
 -- ---- the unit
 
 -- what a function sees
-lasts_same : (o : Option Object) → lasts o ≡ is_static_object o
-lasts_same None = refl
-lasts_same (Some o) = static_same o.storage
-
 or_other : (a b : Bool) → (a || b) ≡ true → (b || a) ≡ true
 or_other true true h = refl
 or_other true false h = refl
 or_other false true h = refl
 or_other false false h = h
 
-module _ (env : Env) (ns : List ℕ) (u : IsUnitEnv ns env) where
+module _ (env : Env) (ts ns : List ℕ) (u : IsUnitEnv ts ns env)
+    (closed : Each (IsClosedName env) ts) where
   sees_grows : (own : List ℕ) → Grows (scene_of (among own) env)
       (scene_in (checked_unit env.tables ns) own)
   sees_grows own = record {
@@ -427,8 +515,7 @@ module _ (env : Env) (ns : List ℕ) (u : IsUnitEnv ns env) where
     names = λ n o at seen. record {
       object = o;
       there = at;
-      visible = subst (λ b. (b || among own n) ≡ true) (lasts_same (slice_get env.tables.objects n))
-          (or_other (among own n) (lasts (slice_get env.tables.objects n)) seen);
+      visible = or_other (among own n) (lasts (slice_get env.tables.objects n)) seen;
       same = λ t h. h;
     };
   }
@@ -437,8 +524,22 @@ module _ (env : Env) (ns : List ℕ) (u : IsUnitEnv ns env) where
   function_typed g d = record {
     result = d.called;
     formals = λ i n at. let y = d.formals.formals i n at in
-        record { object = y.0; there = y.1; storage = y.2; sized = y.3 };
+        record {
+          object = y.0;
+          there = y.1;
+          storage = y.2;
+          private = formal_private y.0 (u.held.homes n y.0 y.1) y.2;
+          sized = y.3;
+        };
     distinct = d.formals.distinct;
+    locals = λ i n at. let y = d.locals i n at in
+        record {
+          object = y.object;
+          there = y.there;
+          private = linkage_same y.object.linkage ∙ y.private;
+          sized = y.sized;
+        };
+    bodied = ap is_some d.is;
     body = subst (λ o. IsTypedBody
         (scene_in (checked_unit env.tables ns) (g.formals ++ g.locals)) (result_of g.of) o)
         (sym d.is)
@@ -447,6 +548,65 @@ module _ (env : Env) (ns : List ℕ) (u : IsUnitEnv ns env) where
         (sees_grows (g.formals ++ g.locals)) (kept_there env.tables.objects) (labels_in d.body)
         (result_of g.of) (result_of g.of) (λ e h. h) None d.body d.typed);
   }
+
+  -- start values in the scene of what lasts
+  alone_grows : Grows (scene_of lasting_alone env) (scene_in (checked_unit env.tables ns) [])
+  alone_grows = record {
+    stays = record { longer = omega arith; complete = λ j s e at h. at };
+    functions = omega arith;
+    names = λ n o at seen. record {
+      object = o;
+      there = at;
+      visible = or_left (lasts (slice_get env.tables.objects n)) false seen;
+      same = λ t h. h;
+    };
+  }
+
+  twice : (b : Bool) → not b ≡ false → b ≡ true
+  twice true h = refl
+  twice false h = absurd (true≢false h)
+
+  abbrev alone : Scene
+  alone = scene_in (checked_unit env.tables ns) []
+
+  -- what waits until the end is an array whose length isn't told, or its struct is complete by now
+  closed_start : (k : ℕ) (o : Object) → slice_get env.tables.objects k ≡ Some o → o.start ≡ []
+      → IsFormed env.tables.structs o.of → (t : CType) → o.of ≡ t
+      → IsWaiting (waits_in ts env) env.tables.structs k t
+      → HasUnitStart (checked_unit env.tables ns) o Static
+  closed_start k o at none f (array t None) is h =
+      inr (
+        none,
+        subst (λ z. IsUnmeasured env.tables.structs z) (sym is)
+            (complete_sized env.tables.structs (fit_table lasting_alone env u.held.fit) t
+            (subst (λ z. IsFormed env.tables.structs z) is f) h).0,
+      )
+  closed_start k o at none f (structure j) is h =
+      let whole : is_complete env.tables.structs (structure j) ≡ true =
+      twice (is_complete env.tables.structs (structure j))
+      (subst (λ z. is_open_struct env.tables.structs z ≡ false) is
+      (waiting_closed env ts k o closed h at)) in
+      inl (complete_start alone (fit_table lasting_alone env u.held.fit) o none f
+      (u.held.fit.objects k o at)
+      (subst (λ z. is_complete env.tables.structs z ≡ true) (sym is) whole))
+  closed_start k o at none f (array t (Some n)) is h = absurd h
+  closed_start k o at none f void is h = absurd h
+  closed_start k o at none f (integer j) is h = absurd h
+  closed_start k o at none f (floating j) is h = absurd h
+  closed_start k o at none f (pointer t) is h = absurd h
+  closed_start k o at none f (function s) is h = absurd h
+
+  unit_start_of : (k : ℕ) (o : Object) (s : Storage) → slice_get env.tables.objects k ≡ Some o
+      → IsFormed env.tables.structs o.of → HasStart (waits_in ts env) env k o s
+      → HasUnitStart (checked_unit env.tables ns) o s
+  unit_start_of k o Static at f (inl h) =
+      inl (static_stays (scene_of lasting_alone env) alone u.held.fit.formed.table alone_grows o h)
+  unit_start_of k o Static at f (inr h) = closed_start k o at h.0 f o.of refl h.1
+  unit_start_of k o Text at f h =
+      static_stays (scene_of lasting_alone env) alone u.held.fit.formed.table alone_grows o h
+  unit_start_of k o Outside at f h = h
+  unit_start_of k o Auto at f h = tt
+  unit_start_of k o Formal at f h = tt
 
   typed_unit : IsTypedUnit (checked_unit env.tables ns)
   typed_unit = record {
@@ -458,33 +618,42 @@ module _ (env : Env) (ns : List ℕ) (u : IsUnitEnv ns env) where
       formed = (u.held.fit.formed.objects n o at).0;
       plain = (u.held.fit.formed.objects n o at).1;
       sound = u.held.fit.objects n o at;
+      home = λ e. u.held.homes n o at (sym (linkage_same o.linkage) ∙ e);
+      start = unit_start_of n o o.storage at (u.held.fit.formed.objects n o at).0 (u.starts n o at);
     };
     functions = λ n g at.
         ((u.held.fit.formed.functions n g at).0, u.held.fit.functions n g at);
     definitions = λ k n at. let x = u.defined k n at in (x.0, x.1, function_typed x.0 x.2);
     distinct = u.distinct;
+    defined = u.bodied;
+    apart = objects_apart env u.named;
+    named = functions_apart env u.named;
     owners = u.owners;
   }
 
 none_bad : {A : Type 0} (P : A → Type 0) (o : Option Place) (k : FaultKind) (c : Checked A)
-    → Gives P c → Gives P (where_none o k c)
-none_bad P None k c h = h
+    → (o ≡ None → Gives P c) → Gives P (where_none o k c)
+none_bad P None k c h = h refl
 none_bad P (Some p) k c h = gives_none
 
-told_typed : (env : Env) (ns : List ℕ) (us : List External) → IsUnitEnv ns env
-    → Gives IsTypedUnit (unit_told env ns us)
+told_typed : (env : Env) (ns : List ℕ) (us : List External)
+    → IsUnitEnv (names_after [] us) ns env → Gives IsTypedUnit (unit_told env ns us)
 told_typed env ns us u =
-    none_bad IsTypedUnit (open_tentative env us) _ _
-    (none_bad IsTypedUnit (undefined_function env.tables.objects env.tables.functions) _ _
-    (gives {x = checked_unit env.tables ns} (typed_unit env ns u)))
+    none_bad IsTypedUnit (open_tentative env us) _ _ (λ whole.
+    none_bad IsTypedUnit (undefined_function env.tables.objects env.tables.functions) _ _ (λ e.
+    gives {x = checked_unit env.tables ns} (typed_unit env (names_after [] us) ns u
+    (names_closed env [] us (each_none (IsClosedName env)) whole))))
 
-start_unit : IsUnitEnv [] unit_start
+start_unit : IsUnitEnv [] [] unit_start
 start_unit = record {
   held = record {
     fit = fit_of lasting_alone unit_start (start_sound lasting_alone);
     homes = λ k o at. absurd (none_some o at);
   };
+  starts = λ k o at. absurd (none_some o at);
   file = refl;
+  named = (λ k o at. absurd (none_some o at), λ k f at. absurd (none_some f at));
+  bodied = λ k f at. absurd (none_some f at);
   distinct = distinct_none;
   owners = owners_none [];
   defined = λ i n at. absurd (none_some n at);
@@ -492,6 +661,6 @@ start_unit = record {
 
 pub units_typed : UnitsAreTyped
 units_typed names us x bytes w e =
-    (gives_then (externals_typed names (starts_typed names bytes) unit_start [] us start_unit
+    (gives_then (externals_typed names bytes [] unit_start [] us start_unit
     w)
     (λ y u. told_typed y.1 y.0 us u)).at x e

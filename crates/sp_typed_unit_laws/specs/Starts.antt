@@ -12,17 +12,14 @@ use Rattle.sp_types.specs.Typed.{Typed}
 use Rattle.sp_initialisers.specs.StaticValues.{is_static}
 use Rattle.sp_typing.specs.Trees.{IsTyped}
 use Rattle.sp_typing.specs.Constants.{is_constant}
-use Rattle.sp_typing.specs.Starts.{IsStarted}
+use Rattle.sp_typing.specs.Starts.{AreLeafValues, IsStarted}
 use Rattle.sp_written_laws.specs.Written.{IsWrittenInit}
-use Rattle.sp_typed_laws.specs.Sound.{IsSound, IsSoundEnv, scene_of}
+use Rattle.sp_typed_laws.specs.Sound.{IsSound, IsSoundEnv, lasting_alone, scene_of}
 
--- objects that last alone
-abbrev pub lasting_alone : ℕ → Bool
-lasting_alone k = false
-
--- in the environment behind the initialiser, where the object doesn't last
+-- in the environment behind the initialiser; each value of an object that lasts goes to a leaf
 pub record IsStart (own : ℕ → Bool) (w : Target) (env : Env) (x : Started) : Type 0 where
   pub automatic : w.fixed ≡ false → IsStarted (scene_of own env) x.of x.values
+  pub static : w.fixed ≡ true → AreLeafValues (scene_of own env) x.of x.values
 
 -- an object of this type with this initialiser, in a sound environment
 abbrev pub StartsAreTyped : List (List ℕ) → Type 0

@@ -7,6 +7,10 @@
 //! and its body names objects that last and its own alone. So in `int f(int n) { static int c;
 //! return c + n; }` the body names the object `c`, which lasts, and the formal `n`.
 //!
+//! Start values of static objects and of literals are constants, which name what lasts alone. So in
+//! `int a[3]; int *p = a + 1;` the value of `p` is the address of an element of `a`, which has no
+//! values of its own.
+//!
 //! It computes nothing: a layer that rests on the law calls [`units_are_typed`] and has it from its
 //! contract.
 #![tactic(auto)]

@@ -1,25 +1,24 @@
 -- Which programs are well typed (C90 6.7).
-use Rattle.std.specs.Prelude.{◌≡◌, ℕ, ◌≤◌, nat_eq, ◌||◌, Bool, true, false, List, [], ◌++◌, length, Option, Some, None, slice_get, All, ⊤}
+use Rattle.std.specs.Prelude.{◌≡◌, ℕ, ◌≤◌, nat_eq, ◌||◌, Bool, false, List, [], ◌++◌, length, Option, Some, None, slice_get, ⊤}
 use Rattle.std.specs.List.{list_any}
 use Rattle.sp_types.specs.declared.program.Storage.{Storage}
-use Rattle.sp_types.specs.declared.program.Storage.TheVariants.{Static, Outside, Text, Auto, Formal}
+use Rattle.sp_types.specs.declared.program.Storage.TheVariants.{Static, Text, Formal}
 use Rattle.sp_types.specs.Types.{result_of}
 use Rattle.sp_types.specs.Structs.{IsTable, IsFormed, IsFormedSignature}
 use Rattle.sp_types.specs.Programs.{Object, Function, Program}
 use Rattle.sp_ir.specs.Terrain.{size_of}
 use Rattle.sp_layout_laws.specs.Laws.{HaveMembers}
 use Rattle.sp_typing.specs.Trees.{Scene, IsCalled}
-use Rattle.sp_typing.specs.Starts.{AreLeafValues}
-use Rattle.sp_typing.specs.Statements.{is_static, IsTypedBody}
-use Rattle.sp_typing.specs.Constants.{is_stored}
+use Rattle.sp_typing.specs.Starts.{IsStaticStart}
+use Rattle.sp_typing.specs.Statements.{is_lasting, IsTypedBody}
 
-abbrev pub is_static_object : Option Object → Bool
-is_static_object None = false
-is_static_object (Some o) = is_static o.storage
+abbrev pub lasts : Option Object → Bool
+lasts None = false
+lasts (Some o) = is_lasting o.storage
 
 -- a function sees the objects of static storage, and its own
 abbrev pub sees : List Object → List ℕ → ℕ → Bool
-sees os own n = is_static_object (slice_get os n) || list_any (nat_eq n) own
+sees os own n = lasts (slice_get os n) || list_any (nat_eq n) own
 
 abbrev pub scene_of : Program → List ℕ → Scene
 scene_of p own = record { structs = p.structs; objects = p.objects; functions = length p.functions; is_visible = sees p.objects own }
@@ -41,22 +40,16 @@ abbrev pub AreOwners : List Function → List ℕ → Type 0
 AreOwners functions definitions = (j k n : ℕ) → ListsIn functions definitions j n
     → ListsIn functions definitions k n → j ≡ k
 
--- start values that are known before the program runs; only what is complete has them
-pub record IsStaticStart (p : Program) (o : Object) : Type 0 where
-  pub sized : 1 ≤ size_of p.structs o.of
-  pub values : AreLeafValues (scene_of p []) o.of o.start
-  pub constants : All (λ e. is_stored e.1 ≡ true) o.start
-
 abbrev pub HasStaticStart : Program → Object → Storage → Type 0
-HasStaticStart p o Static = IsStaticStart p o
-HasStaticStart p o Text = IsStaticStart p o
+HasStaticStart p o Static = IsStaticStart (scene_of p []) o
+HasStaticStart p o Text = IsStaticStart (scene_of p []) o
 HasStaticStart p o storage = ⊤
 
 pub record IsTypedObject (p : Program) (n : ℕ) (o : Object) : Type 0 where
   pub formed : IsFormed p.structs o.of
   -- what a function lists is complete (C90 6.5)
-  pub sized : is_static o.storage ≡ false → 1 ≤ size_of p.structs o.of
-  pub owned : is_static o.storage ≡ false → (k : ℕ) × Lists p k n
+  pub sized : is_lasting o.storage ≡ false → 1 ≤ size_of p.structs o.of
+  pub owned : is_lasting o.storage ≡ false → (k : ℕ) × Lists p k n
   pub start : HasStaticStart p o o.storage
 
 pub record IsFormal (p : Program) (n : ℕ) : Type 0 where

@@ -43,6 +43,11 @@ IsStored ss (pointer t) = ⊤
 IsStored ss (structure k) = 1 ≤ size_of ss (structure k)
 IsStored ss t = ⊥
 
+-- a struct has a value only where it is complete (C90 6.2.2.1)
+abbrev pub IsKnown : List Struct → CType → Type 0
+IsKnown ss (structure k) = 1 ≤ size_of ss (structure k)
+IsKnown ss t = ⊤
+
 -- a step changes it by 1: an integer, or a pointer to what has a size (C90 6.3.2.4)
 abbrev pub IsStepped : List Struct → CType → Type 0
 IsStepped ss (integer k) = ⊤

@@ -1,12 +1,14 @@
 -- Which start values of an object are well typed (C90 6.5.7).
-use Rattle.std.specs.Prelude.{◌≡◌, ℕ, ◌<◌, ◌-◌, ◌%◌, ◌||◌, ◌⊎◌, nat_lt, true, List, [], ◌∷◌, Option, Some, None, slice_get, All, ⊤, if◌then◌else◌}
+use Rattle.std.specs.Prelude.{◌≡◌, ℕ, ◌<◌, ◌≤◌, ◌-◌, ◌%◌, ◌||◌, ◌⊎◌, nat_lt, true, List, [], ◌∷◌, Option, Some, None, slice_get, All, ⊤, if◌then◌else◌}
 use Rattle.sp_types.specs.Types.{CType}
 use Rattle.sp_types.specs.Typed.{Typed, of}
+use Rattle.sp_types.specs.Programs.{Object}
 use Rattle.sp_ir.specs.Shapes.{Shape, Shapes, scalar, floating_shape, union_of, array_of, struct_of, no_shapes, next_shape, HasShape, leaf_count}
 use Rattle.sp_ir.specs.Formed.{is_array, is_struct, is_scalar}
 use Rattle.sp_ir.specs.Terrain.{size_of}
 use Rattle.sp_typing.specs.Sorts.{same_value, IsStored}
 use Rattle.sp_typing.specs.Trees.{Scene, IsTyped}
+use Rattle.sp_typing.specs.Constants.{is_stored}
 
 -- the type of the scalar leaf of a number; those of a union are its first member's
 abbrev mutual
@@ -50,3 +52,13 @@ IsWholeValue s t (e ∷ es) = (es ≡ []) × IsTyped s e.1 × IsStored s.structs
 abbrev pub IsStarted : Scene → CType → List (ℕ × Typed) → Type 0
 IsStarted s t [] = ⊤
 IsStarted s t (e ∷ es) = IsWholeValue s t (e ∷ es) ⊎ (((is_array t || is_struct t) ≡ true) × AreLeafValues s t (e ∷ es))
+
+-- start values that are known before the program runs
+pub record AreKnown (s : Scene) (t : CType) (es : List (ℕ × Typed)) : Type 0 where
+  pub values : AreLeafValues s t es
+  pub constants : All (λ e. is_stored e.1 ≡ true) es
+
+-- those of an object that lasts; only what is complete has them
+pub record IsStaticStart (s : Scene) (o : Object) : Type 0 where
+  pub sized : 1 ≤ size_of s.structs o.of
+  pub known : AreKnown s o.of o.start

@@ -71,12 +71,12 @@ IsReturned s None = ⊤
 IsReturned s (Some e) = IsTyped s.scene e × IsStored s.scene.structs s.result × (same_value (of e) s.result ≡ true)
 
 -- it lives as long as the program does (C90 6.1.2.4)
-abbrev pub is_static : Storage → Bool
-is_static Static = true
-is_static Outside = true
-is_static Text = true
-is_static Auto = false
-is_static Formal = false
+abbrev pub is_lasting : Storage → Bool
+is_lasting Static = true
+is_lasting Outside = true
+is_lasting Text = true
+is_lasting Auto = false
+is_lasting Formal = false
 
 -- an automatic object is initialised where its block is entered
 abbrev pub IsEntered : Scene → Storage → CType → List (ℕ × Typed) → Type 0
@@ -89,7 +89,7 @@ pub record IsDeclared (s : Scene) (n : ℕ) : Type 0 where
   pub visible : s.is_visible n ≡ true
   pub entered : IsEntered s object.storage object.of object.start
   -- what passes is complete (C90 6.5)
-  pub sized : is_static object.storage ≡ false → 1 ≤ size_of s.structs object.of
+  pub sized : is_lasting object.storage ≡ false → 1 ≤ size_of s.structs object.of
 
 -- the objects of a block
 abbrev pub AreDeclared : Scene → List ℕ → Type 0

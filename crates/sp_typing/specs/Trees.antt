@@ -13,7 +13,7 @@ use Rattle.sp_types.specs.Programs.{Object}
 use Rattle.sp_ir.specs.Formed.{InKind, is_integer, is_pointer, is_array, is_struct, is_scalar, is_floating, is_operator}
 use Rattle.sp_ir.specs.Terrain.{size_of}
 use Rattle.sp_typing.specs.Refines.{Tells}
-use Rattle.sp_typing.specs.Sorts.{is_function, agrees, same_value, IsExact, IsSized, IsStored, IsStepped}
+use Rattle.sp_typing.specs.Sorts.{is_function, agrees, same_value, IsExact, IsSized, IsStored, IsStepped, IsKnown}
 
 -- What a tree may name: objects, of which a local one is visible in its own function alone, and
 -- functions, of which there are so many.
@@ -23,7 +23,7 @@ pub record Scene : Type 0 where
   pub functions : ℕ
   pub is_visible : ℕ → Bool
 
--- the object of this number, whose type tells at least what the tree's does
+-- the object of this number, which may be named with the tree's type
 pub record Names (s : Scene) (n : ℕ) (t : CType) : Type 0 where
   pub object : Object
   pub there : slice_get s.objects n ≡ Some object
@@ -166,7 +166,7 @@ abbrev mutual
   IsForm s t (tree.constant z) = IsNumber t z
   IsForm s t (tree.object n) = Names s n t
   IsForm s t (tree.function n) = (is_function t ≡ true) × (n < s.functions)
-  IsForm s t (tree.convert a) = IsTyped s a × Converts (of a) t
+  IsForm s t (tree.convert a) = IsTyped s a × Converts (of a) t × IsKnown s.structs t
   IsForm s t (tree.decay a) = IsTyped s a × (has_place a ≡ true)
       × ((is_array (of a) || is_function (of a)) ≡ true) × (is_pointer t ≡ true)
   IsForm s t (tree.index a b) = IsTyped s a × IsTyped s b × IsIndex s.structs (of a) (of b)
@@ -177,13 +177,14 @@ abbrev mutual
   IsForm s t (tree.arrow a n) = IsTyped s a × PointsToMember s.structs (of a) n t
   IsForm s t (tree.after op a) = IsTyped s a × IsStep s.structs a t
   IsForm s t (tree.unary op a) = IsTyped s a × IsUnary s.structs op a t
-  IsForm s t (tree.cast a) = IsTyped s a × Converts (of a) t
+  IsForm s t (tree.cast a) = IsTyped s a × Converts (of a) t × IsKnown s.structs t
   IsForm s t (tree.binary op a b) = IsTyped s a × IsTyped s b × IsBinary s.structs op (of a) (of b) t
   IsForm s t (tree.choice a b d) = IsTyped s a × IsTyped s b × IsTyped s d
       × (is_scalar (of a) ≡ true) × IsChoice s.structs t (of b) (of d)
   IsForm s t (tree.assign op a b) = IsTyped s a × IsTyped s b × (has_place a ≡ true)
       × IsStored s.structs t × (same_value (of a) t ≡ true) × IsAssigned s.structs op t (of b)
   IsForm s t (tree.comma a b) = IsTyped s a × IsTyped s b × (agrees (of b) t ≡ true)
+      × IsKnown s.structs t
 
   -- arguments are values
   pub AreArguments : Scene → TypedList → Type 0

@@ -54,7 +54,7 @@ module _ (names : List (List ℕ)) where
       leads_then (object_leads env k n t (storage_for l class (is_given start)) l (is_given start) p e h f) (λ later g.
       finished_leads later k p at l (storage_for l class (is_given start)) start g.formed)))
 
-  numbered : (from : ℕ) (env : Env) (ks : List ℕ) (n : ℕ) (l : Linkage) (p : Place) (later : Env) → Goes (object_reserved env n l p (entry_for env n l)) later → Has from env → AreNumbers from ks later
+  numbered : (from : ℕ) (env : Env) (ks : List ℕ) (n : ℕ) (l : Linkage) (p : Place) (later : Env) → Goes (object_reserved env n p (entry_for env n l)) later → Has from env → AreNumbers from ks later
       → AreNumbers from (with_number ks l (reserved_number env (entry_for env n l))) later
   numbered from env ks n External p later g l h = h
   numbered from env ks n Internal p later g l h = h
@@ -66,8 +66,8 @@ module _ (names : List (List ℕ)) where
       → IsFormedEnv env → Has from env → AreNumbers from ks env → IsType base env → names_function (is_function base) d ≡ false
       → After env (AreNumbers from) (object_at names env ks class base d start n p l (entry_for env n l))
   object_formed from env ks class base d start n p l h has ns t plain =
-      let r : Env = object_reserved env n l p (entry_for env n l) in
-      let to-r : Goes env r = goes_reserved env n l p (entry_for env n l) h in
+      let r : Env = object_reserved env n p (entry_for env n l) in
+      let to-r : Goes env r = goes_reserved env n p (entry_for env n l) h in
       carried to-r (next (declared_formed names r base d to-r.formed (type_kept env r to-r base t)) (λ x g u.
       lead (told_leads x.1 class x.0 (reserved_number env (entry_for env n l)) n p (declarator_place d) start l (entry_for env n l) g.formed (u.0, u.1 ∙ plain)) (λ e k.
       done (goes_nowhere e k.formed)

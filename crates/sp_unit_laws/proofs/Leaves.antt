@@ -1,6 +1,6 @@
 -- The rules that end expressions, specifiers and declarators leave the environment formed
 -- (C90 6.1, 6.3, 6.5).
-use Rattle.std.proofs.Common.{◌≡◌, ℕ, ◌+◌, ◌≤◌, ℤ, pos, Bool, true, false, if◌then◌else◌, length, List, Option, Some, None, refl, subst, arith}
+use Rattle.std.proofs.Common.{◌≡◌, ℕ, ◌+◌, ◌≤◌, ◌^◌, nat_le, ℤ, pos, Bool, true, false, if◌then◌else◌, length, List, Option, Some, None, refl, subst, arith}
 use Rattle.std.specs.Prelude.{not, ◌&&◌, int_le}
 use Rattle.sp_member_rules.specs.Members.{has_member}
 use Rattle.sp_tree.specs.declared.fault.Place.{Place}
@@ -64,7 +64,8 @@ pub text_formed : (names : List (List ℕ)) (env : Env) (ns : List ℕ) (p m : P
 text_formed names env ns p m h =
     let o = text_object (text_bytes names ns) p in
     let g : Goes env (with_object env o) = goes_object env h o (array_formed env.tables.structs (integer Char) (length (text_bytes names ns) + 1) tt (omega arith), refl) in
-    done (goes_on env (with_object env o) (with_text env (text_bytes names ns) p) g (goes_constant (with_object env o) g.formed (pos (length (text_bytes names ns) + 1)))) tt
+    met {b = nat_le (length (text_bytes names ns) + 1) (2 ^ 40)} _ _ (λ small.
+    done (goes_on env (with_object env o) (with_text env (text_bytes names ns) p) g (goes_constant (with_object env o) g.formed (pos (length (text_bytes names ns) + 1)))) tt)
 
 pub call_formed : (names : List (List ℕ)) (env : Env) (e : Expression) → IsFormedEnv env → Leads env (with_implicit names env e)
 call_formed names env (expression (syntax.name n) p m) h = implicit_formed names env n p h

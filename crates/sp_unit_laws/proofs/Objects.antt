@@ -1,6 +1,6 @@
 -- Declarations of objects leave the environment formed (C90 6.1.2.2, 6.1.2.6, 6.7.2).
-use Rattle.std.proofs.Common.{ℕ, ◌≤◌, ◌<◌, arith, Bool, true, false, ◌||◌, if◌then◌else◌, length, List, Option, Some, None, refl, ◌∙◌}
-use Rattle.std.specs.Prelude.{slice_get}
+use Rattle.std.proofs.Common.{ℕ, ◌≤◌, ◌<◌, arith, Bool, true, false, ◌||◌, not, if◌then◌else◌, length, List, Option, Some, None, refl, ◌∙◌}
+use Rattle.std.specs.Prelude.{is_some, slice_get}
 use Rattle.sp_tree.specs.declared.fault.Place.{Place}
 use Rattle.sp_types.specs.Types.{CType, void, Struct}
 use Rattle.sp_types.specs.Programs.{Object}
@@ -15,7 +15,7 @@ use Rattle.sp_env.specs.declared.env.Entity.TheVariants as entities
 use Rattle.sp_env.specs.Env.{Env, declared, with_typing, set_object, object_type}
 use Rattle.sp_names.specs.Composite.{composite}
 use Rattle.sp_names.specs.Functions.{is_retyped, retyped}
-use Rattle.sp_objects.specs.Objects.{is_outside, new_object, object_reserved, linked_to, object_added, is_more_defined, joined_object, may_join, joined_at, object_joined, object_declared, may_wait, object_unvalued}
+use Rattle.sp_objects.specs.Objects.{is_outside, new_object, entry_for, object_reserved, linked_to, object_added, is_more_defined, joined_object, may_join, joined_at, object_joined, object_declared, may_wait, object_unvalued}
 use Rattle.sp_unit_laws.proofs.Composites.{composite_formed, composite_function}
 use Rattle.sp_unit_laws.proofs.Lists.{Each}
 use Rattle.sp_unit_laws.proofs.Envs.{IsFormedEnv, IsFormedObject, AreBelow, Goes, goes_nowhere, goes_on}
@@ -46,10 +46,10 @@ numbers_kept from env later g ks h = λ i k at.
 pub numbers_below : (from : ℕ) (env : Env) (ks : List ℕ) → AreNumbers from ks env → AreBelow (length env.tables.objects) ks
 numbers_below from env ks h = λ i k at. (h i k at).1
 
-pub goes_reserved : (env : Env) (n : ℕ) (l : Linkage) (p : Place) (o : Option Entity) → IsFormedEnv env → Goes env (object_reserved env n l p o)
-goes_reserved env n l p None h = goes_object env h (new_object n void Outside l p) (tt, refl)
-goes_reserved env n l p (Some (entities.Object k)) h = goes_nowhere env h
-goes_reserved env n l p (Some (entities.Function k)) h = goes_object env h (new_object n void Outside l p) (tt, refl)
+pub goes_reserved : (env : Env) (n : ℕ) (p : Place) (o : Option Entity) → IsFormedEnv env → Goes env (object_reserved env n p o)
+goes_reserved env n p None h = goes_object env h (new_object n void Outside Inner p) (tt, refl)
+goes_reserved env n p (Some (entities.Object k)) h = goes_nowhere env h
+goes_reserved env n p (Some (entities.Function k)) h = goes_object env h (new_object n void Outside Inner p) (tt, refl)
 
 goes_linked_to : (env : Env) (n : ℕ) (l : Linkage) (k : ℕ) → IsFormedEnv env → Goes env (linked_to env n l k)
 goes_linked_to env n External k h = goes_linked env h n (entities.Object k)
@@ -64,7 +64,8 @@ added_leads env k n t s l p h f =
     let to-a : Goes env a = goes_object_set env h k (new_object n t s l p) f in
     let to-b : Goes a b = goes_linked_to a n l k to-a.formed in
     let to-c : Goes b c = goes_typing b to-b.formed l n t p (type_kept a b to-b t f.0) in
-    leads_carried (goes_on env a c to-a (goes_on a b c to-b to-c)) (leads_declared c to-c.formed n (means.object k) p tt)
+    leads_met {b = not (is_some (entry_for env n l))} _ _ (λ first.
+    leads_carried (goes_on env a c to-a (goes_on a b c to-b to-c)) (leads_declared c to-c.formed n (means.object k) p tt))
 
 -- ---- a further declaration
 

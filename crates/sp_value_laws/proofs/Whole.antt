@@ -19,9 +19,9 @@ use Rattle.sp_lower_objects.specs.Initials.{initials_from}
 use Rattle.sp_lower_objects.specs.Objects.{kind_of_storage, start_leaves, start_of, zero_of}
 use Rattle.sp_lower_objects.specs.Regions.{all_regions}
 use Rattle.sp_lower.specs.Programs.{program_context}
-use Rattle.sp_typing.specs.Programs.{IsTypedProgram, IsStaticStart, HasStaticStart, sees}
-use Rattle.sp_typing.specs.Statements.{is_static}
-use Rattle.sp_typing.specs.Starts.{AreLeafValues}
+use Rattle.sp_typing.specs.Programs.{IsTypedProgram, HasStaticStart, sees, scene_of}
+use Rattle.sp_typing.specs.Statements.{is_lasting}
+use Rattle.sp_typing.specs.Starts.{AreLeafValues, IsStaticStart}
 use Rattle.sp_draft_laws.specs.Stands.{table, scene, Fits}
 use Rattle.sp_draft_laws.proofs.Sorts.{false_true}
 use Rattle.sp_body_laws.specs.Frames.{AreLeavesOf}
@@ -44,16 +44,16 @@ module _ (p : Program) (names : List (List ℕ)) (site : ℕ) (os : List Object)
     abbrev Formed : ℕ × Typed → Type 0
     Formed e = IsFormedValue c os None (of e.1) (start_value c e.1)
 
-    values_good : IsStaticStart p o → All Formed o.start
+    values_good : IsStaticStart (scene_of p []) o → All Formed o.start
     values_good s k d low =
-        start_value_good c os (sees p.objects []) fits (slice_index_or o.start k d).1 (s.values.values k d low).typed (s.constants k d low)
+        start_value_good c os (sees p.objects []) fits (slice_index_or o.start k d).1 (s.known.values.values k d low).typed (s.known.constants k d low)
 
-    static_start : IsStaticStart p o
+    static_start : IsStaticStart (scene_of p []) o
         → IsStart (table c os) (all_regions p.structs 0 os) None n o.of (start_leaves c (known_initial (slice_get is n)).cells 0 o.start) (known_initial (slice_get is n)).zero
     static_start s =
         subst (λ (i : Initial). IsStart (table c os) (all_regions p.structs 0 os) None n o.of (start_leaves c i.cells 0 o.start) (known_initial (slice_get is n)).zero)
         (sym (initial_here c os lowered h.structs h.members n o there s.sized))
-        (start_good c os lowered h.structs h.members n o there s.sized (sees p.objects []) None _ s.values
+        (start_good c os lowered h.structs h.members n o there s.sized (sees p.objects []) None _ s.known.values
         (static_filled c os (layout_of p.structs o.of) (root_from p.structs 0 p.objects n) o.start (values_good s)))
 
     stored_start : (s : Storage) → starts (kind_of_storage s) ≡ true → HasStaticStart p o s
@@ -75,7 +75,7 @@ module _ (p : Program) (names : List (List ℕ)) (site : ℕ) (os : List Object)
       (automatic_filled d os (layout_of p.structs o.of) (root_from p.structs 0 p.objects n) o.start ls
       (subst (λ (i : Initial). AreLeavesOf d os i.cells o.start ls) (initial_here c os lowered h.structs h.members n o there big) are))
 
-automatic_local : (s : Storage) → is_automatic s ≡ true → is_static s ≡ false
+automatic_local : (s : Storage) → is_automatic s ≡ true → is_lasting s ≡ false
 automatic_local storage.Auto h = refl
 automatic_local storage.Formal h = refl
 automatic_local storage.Static h = false_true h

@@ -1,7 +1,7 @@
 -- Parts of a text of bytes are bytes.
-use Rattle.std.proofs.Common.{ℕ, zero, suc, ◌<◌, Bool, true, false, cond, List, [], ◌∷◌, ◌++◌, drop, All}
+use Rattle.std.proofs.Common.{ℕ, zero, suc, ◌<◌, Bool, true, false, cond, List, [], ◌∷◌, ◌++◌, take, drop, All}
 use Rattle.std.proofs.lemmas.List.Elements.{All-nil, All-cons, All-head, All-tail}
-use Rattle.sp_lexer.specs.Bytes.{after}
+use Rattle.sp_lexer.specs.Bytes.{front, after}
 
 abbrev pub AreBytes : List ℕ → Type 0
 AreBytes bs = All (λ b. b < 256) bs
@@ -24,6 +24,16 @@ pub bytes_drop : (n : ℕ) (xs : List ℕ) → AreBytes xs → AreBytes (drop n 
 bytes_drop zero xs h = h
 bytes_drop (suc n) [] h = h
 bytes_drop (suc n) (x ∷ xs) h = bytes_drop n xs (bytes_rest x xs h)
+
+pub bytes_take : (n : ℕ) (xs : List ℕ) → AreBytes xs → AreBytes (take n xs)
+bytes_take zero xs h = All-nil (λ c. c < 256)
+bytes_take (suc n) [] h = h
+bytes_take (suc n) (x ∷ xs) h = All-cons (λ c. c < 256) x (take n xs) (byte_first x xs h) (bytes_take n xs (bytes_rest x xs h))
+
+pub bytes_front : (p : ℕ → Bool) (xs : List ℕ) → AreBytes xs → AreBytes (front p xs)
+bytes_front p [] h = h
+bytes_front p (x ∷ xs) h = choose AreBytes (p x) _ _
+    (All-cons (λ c. c < 256) x (front p xs) (byte_first x xs h) (bytes_front p xs (bytes_rest x xs h))) (All-nil (λ c. c < 256))
 
 pub bytes_after : (p : ℕ → Bool) (xs : List ℕ) → AreBytes xs → AreBytes (after p xs)
 bytes_after p [] h = h

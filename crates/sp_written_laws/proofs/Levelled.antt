@@ -104,7 +104,7 @@ module _ (s : Scope) where
 
     written_specifier : (x : Specifier) → IsLevelledSpecifier s x → AreInRange (specifier_tokens x)
         → IsWrittenSpecifier x
-    written_specifier (storage k) l h = tt
+    written_specifier (storage k) l h = l
     written_specifier (qualifier k) l h = tt
     written_specifier (basic k) l h = tt
     written_specifier (named n) l h = tt

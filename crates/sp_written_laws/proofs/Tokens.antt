@@ -38,7 +38,7 @@ kind_in_range names (string bytes) k h is = subst IsInRange (sym is.2) tt
 kind_in_range names (punctuator p) k h is = subst IsInRange (sym is) tt
 
 module _ (names : List (List ℕ)) where
-  bytes_next : (text next : List ℕ) (spot beyond : Spot) (o : Option Token) → AreBytes text → Step names text spot o next beyond → AreBytes next
+  pub bytes_next : (text next : List ℕ) (spot beyond : Spot) (o : Option Token) → AreBytes text → Step names text spot o next beyond → AreBytes next
   bytes_next text next spot beyond o h (over_blank b p is t y) = bytes_rest b next (subst AreBytes is h)
   bytes_next text next spot beyond o h (over_line_comment p t is y) = subst AreBytes (sym is) (bytes_after is_not_newline text h)
   bytes_next text next spot beyond o h (over_block_comment n p c t is y) = subst AreBytes (sym is) (bytes_drop n text h)

@@ -1,9 +1,9 @@
 -- Trees as a text can have them (C90 6.1.3, 6.3, 6.5.2.1): a number is one of 64 bits, a character
--- is an int, an operator stands where the grammar has one, and the braces of a struct hold a
--- member.
+-- is an int, operators and storage classes stand where the grammar has them, and the braces of a
+-- struct hold a member.
 use Rattle.std.specs.Prelude.{◌≡◌, ◌^◌, ◌<◌, ◌==◌, ◌||◌, Bool, true, false, ⊤}
 use Rattle.sp_types.specs.declared.ctype.IntKind.TheVariants.{Int}
-use Rattle.sp_syntax.specs.Words.{binary_level, is_step, is_unary}
+use Rattle.sp_syntax.specs.Words.{is_storage, binary_level, is_step, is_unary}
 use Rattle.sp_syntax.specs.Syntax.{Expression, expression, ExpressionForm, name, number, character, text, paren, index, call, member, arrow, after, unary, sizeof_expr, sizeof_type, cast, binary, choice, assign, comma, Expressions, no_expressions, next_expression, MaybeExpression, no_expression, some_expression}
 use Rattle.sp_syntax.specs.Syntax.{Specifier, storage, qualifier, basic, named, struct_specifier, enum_specifier, Specifiers, no_specifiers, next_specifier, StructSpec, struct_spec, Members, no_members, some_members, EnumSpec, enum_spec, Constants, no_constants, some_constants, Enumerators, no_enumerators, next_enumerator}
 use Rattle.sp_syntax.specs.Syntax.{Declarator, declarator, DeclaratorForm, absent, declared, group, pointer, array, function, Param, param, Params, no_params, next_param, TypeName, type_name}
@@ -62,7 +62,7 @@ abbrev mutual
   IsWrittenName (type_name ss d) = AreWrittenSpecifiers ss × IsWrittenDeclarator d
 
   pub IsWrittenSpecifier : Specifier → Type 0
-  IsWrittenSpecifier (storage k) = ⊤
+  IsWrittenSpecifier (storage k) = is_storage k ≡ true
   IsWrittenSpecifier (qualifier k) = ⊤
   IsWrittenSpecifier (basic k) = ⊤
   IsWrittenSpecifier (named n) = ⊤

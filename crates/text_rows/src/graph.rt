@@ -1,5 +1,7 @@
 //! The graph of a lowered program as text.
-use sp_formed::is_formed;
+ghost use Rattle.sp_ir.specs.Programs.{lowered_of};
+ghost use Rattle.sp_ir.specs.Formed.{IsFormed};
+
 use sp_graph::{Flow, localise, supergraph};
 use sp_ir::{Command, Lowered};
 use sp_pre::{PointsTo, points_to};
@@ -92,10 +94,9 @@ fn add_edges(alloc: Global, line: &mut String, flow: &Flow) -> Result<(), AllocE
 
 /// What points where, which functions are called, and the supergraph. No function is said to access
 /// anything, which changes what passes along edges and not which there are.
-pub fn graph_of(alloc: Global, lowered: &Lowered) -> Result<String, AllocError> {
-    if !is_formed(alloc, lowered)? {
-        return String::from_str(alloc, "not formed");
-    }
+pub fn graph_of(alloc: Global, lowered: &Lowered) -> Result<String, AllocError>
+    requires { IsFormed (lowered_of lowered.now) }
+{
     let pre = points_to(alloc, lowered)?;
     let flow = supergraph(alloc, lowered, pre.calls())?;
     let accessed = NumberSet::empty_sets(alloc, lowered.functions.len())?;

@@ -54,6 +54,9 @@ mod types;
 mod units;
 mod words;
 
+ghost use Rattle.sp_ir.specs.Programs as ir;
+ghost use Rattle.sp_ir.specs.Formed.{IsFormed};
+
 use row_lowerings::lowered_of;
 use row_texts::{refused, text_of_pieces, texts_of};
 use sp_ir::Lowered;
@@ -69,7 +72,9 @@ enum Part {
     Graph,
 }
 
-fn told(alloc: Global, part: Part, lowered: &Lowered) -> Result<String, AllocError> {
+fn told(alloc: Global, part: Part, lowered: &Lowered) -> Result<String, AllocError>
+    requires { IsFormed (ir.lowered_of lowered.now) }
+{
     match part {
         Part::Whole => lowered::shown(alloc, lowered),
         Part::Counts => lowered::counted(alloc, lowered),

@@ -13,18 +13,6 @@ use Rattle.sp_c_reader.proofs.+reader.Answers.Specifiers as read_specifiers
 use Rattle.sp_c_reader.proofs.+reader.Answers.Enumerations as read_enumerations
 use Rattle.sp_c_reader.proofs.+reader.Goals as goal
 
-pub expressions::read_cast-returns-then-depth-lt2 : goal.expressions::read_cast-returns-then-depth-lt2
-expressions::read_cast-returns-then-depth-lt2 = read_operators.expressions::read_cast-returns-then-depth-lt2
-
-pub expressions::read_cast-returns-then-is_mark : goal.expressions::read_cast-returns-then-is_mark
-expressions::read_cast-returns-then-is_mark = read_operators.expressions::read_cast-returns-then-is_mark
-
-pub expressions::read_cast-returns-in_err-part : goal.expressions::read_cast-returns-in_err-part
-expressions::read_cast-returns-in_err-part = read_operators.expressions::read_cast-returns-in_err-part
-
-pub expressions::read_cast-returns : goal.expressions::read_cast-returns
-expressions::read_cast-returns = read_operators.expressions::read_cast-returns
-
 pub expressions::read_level-returns-in_err-part : goal.expressions::read_level-returns-in_err-part
 expressions::read_level-returns-in_err-part = read_operators.expressions::read_level-returns-in_err-part
 
@@ -45,18 +33,6 @@ expressions::read_operators-operators-preserved = read_operators.expressions::re
 
 pub expressions::read_operators-returns : goal.expressions::read_operators-returns
 expressions::read_operators-returns = read_operators.expressions::read_operators-returns
-
-pub expressions::read_sequence-returns-then-reached-depth : goal.expressions::read_sequence-returns-then-reached-depth
-expressions::read_sequence-returns-then-reached-depth = read_operators.expressions::read_sequence-returns-then-reached-depth
-
-pub expressions::read_sequence-returns-in_err-right : goal.expressions::read_sequence-returns-in_err-right
-expressions::read_sequence-returns-in_err-right = read_operators.expressions::read_sequence-returns-in_err-right
-
-pub expressions::read_sequence-commas-preserved : goal.expressions::read_sequence-commas-preserved
-expressions::read_sequence-commas-preserved = read_operators.expressions::read_sequence-commas-preserved
-
-pub expressions::read_sequence-returns : goal.expressions::read_sequence-returns
-expressions::read_sequence-returns = read_operators.expressions::read_sequence-returns
 
 pub expressions::read_assignment-returns-then-not-continues_level : goal.expressions::read_assignment-returns-then-not-continues_level
 expressions::read_assignment-returns-then-not-continues_level = read_operators.expressions::read_assignment-returns-then-not-continues_level
@@ -88,110 +64,47 @@ expressions::read_conditional-returns-in_err-second = read_operators.expressions
 pub expressions::read_conditional-returns : goal.expressions::read_conditional-returns
 expressions::read_conditional-returns = read_operators.expressions::read_conditional-returns
 
-pub expressions::read_after_paren-returns-in_err-name : goal.expressions::read_after_paren-returns-in_err-name
-expressions::read_after_paren-returns-in_err-name = read_operators.expressions::read_after_paren-returns-in_err-name
+pub expressions::read_cast-returns-in_err-part : goal.expressions::read_cast-returns-in_err-part
+expressions::read_cast-returns-in_err-part = read_operators.expressions::read_cast-returns-in_err-part
 
-pub expressions::read_after_paren-returns-in_err-rest : goal.expressions::read_after_paren-returns-in_err-rest
-expressions::read_after_paren-returns-in_err-rest = read_operators.expressions::read_after_paren-returns-in_err-rest
+pub expressions::read_cast-returns-then-not-is_mark : goal.expressions::read_cast-returns-then-not-is_mark
+expressions::read_cast-returns-then-not-is_mark = read_operators.expressions::read_cast-returns-then-not-is_mark
 
-pub expressions::read_after_paren-returns-in_err-operand : goal.expressions::read_after_paren-returns-in_err-operand
-expressions::read_after_paren-returns-in_err-operand = read_operators.expressions::read_after_paren-returns-in_err-operand
+pub expressions::read_cast-returns-then-depth-lt2 : goal.expressions::read_cast-returns-then-depth-lt2
+expressions::read_cast-returns-then-depth-lt2 = read_operators.expressions::read_cast-returns-then-depth-lt2
 
-pub expressions::read_after_paren-returns-then-is_specifier : goal.expressions::read_after_paren-returns-then-is_specifier
-expressions::read_after_paren-returns-then-is_specifier = read_operators.expressions::read_after_paren-returns-then-is_specifier
+pub expressions::read_cast-returns-in_err-part-2 : goal.expressions::read_cast-returns-in_err-part-2
+expressions::read_cast-returns-in_err-part-2 = read_operators.expressions::read_cast-returns-in_err-part-2
 
-pub expressions::read_after_paren-returns-in_err-inner : goal.expressions::read_after_paren-returns-in_err-inner
-expressions::read_after_paren-returns-in_err-inner = read_operators.expressions::read_after_paren-returns-in_err-inner
+pub expressions::read_cast-returns-then-not-is_specifier : goal.expressions::read_cast-returns-then-not-is_specifier
+expressions::read_cast-returns-then-not-is_specifier = read_operators.expressions::read_cast-returns-then-not-is_specifier
 
-pub expressions::read_after_paren-returns-in_err-rest-2 : goal.expressions::read_after_paren-returns-in_err-rest-2
-expressions::read_after_paren-returns-in_err-rest-2 = read_operators.expressions::read_after_paren-returns-in_err-rest-2
+pub expressions::read_cast-returns-in_err-name : goal.expressions::read_cast-returns-in_err-name
+expressions::read_cast-returns-in_err-name = read_operators.expressions::read_cast-returns-in_err-name
 
-pub expressions::read_after_paren-returns-in_err-part : goal.expressions::read_after_paren-returns-in_err-part
-expressions::read_after_paren-returns-in_err-part = read_operators.expressions::read_after_paren-returns-in_err-part
+pub expressions::read_cast-returns-in_err-rest : goal.expressions::read_cast-returns-in_err-rest
+expressions::read_cast-returns-in_err-rest = read_operators.expressions::read_cast-returns-in_err-rest
 
-pub expressions::read_after_paren-returns : goal.expressions::read_after_paren-returns
-expressions::read_after_paren-returns = read_operators.expressions::read_after_paren-returns
+pub expressions::read_cast-returns-in_err-operand : goal.expressions::read_cast-returns-in_err-operand
+expressions::read_cast-returns-in_err-operand = read_operators.expressions::read_cast-returns-in_err-operand
 
-pub expressions::read_unary-returns-then-is_mark : goal.expressions::read_unary-returns-then-is_mark
-expressions::read_unary-returns-then-is_mark = read_operands.expressions::read_unary-returns-then-is_mark
+pub expressions::read_cast-returns : goal.expressions::read_cast-returns
+expressions::read_cast-returns = read_operators.expressions::read_cast-returns
 
-pub expressions::read_after_sizeof-returns-then-is_mark : goal.expressions::read_after_sizeof-returns-then-is_mark
-expressions::read_after_sizeof-returns-then-is_mark = read_operands.expressions::read_after_sizeof-returns-then-is_mark
+pub expressions::read_grouped-returns-in_err-rest : goal.expressions::read_grouped-returns-in_err-rest
+expressions::read_grouped-returns-in_err-rest = read_operators.expressions::read_grouped-returns-in_err-rest
 
-pub expressions::read_after_sizeof-returns-in_err-operand : goal.expressions::read_after_sizeof-returns-in_err-operand
-expressions::read_after_sizeof-returns-in_err-operand = read_operands.expressions::read_after_sizeof-returns-in_err-operand
+pub expressions::read_grouped-returns-in_err-inner : goal.expressions::read_grouped-returns-in_err-inner
+expressions::read_grouped-returns-in_err-inner = read_operators.expressions::read_grouped-returns-in_err-inner
 
-pub expressions::read_after_sizeof-returns : goal.expressions::read_after_sizeof-returns
-expressions::read_after_sizeof-returns = read_operands.expressions::read_after_sizeof-returns
-
-pub expressions::read_sizeof_after_paren-returns-in_err-name : goal.expressions::read_sizeof_after_paren-returns-in_err-name
-expressions::read_sizeof_after_paren-returns-in_err-name = read_operands.expressions::read_sizeof_after_paren-returns-in_err-name
-
-pub expressions::read_sizeof_after_paren-returns-in_err-rest : goal.expressions::read_sizeof_after_paren-returns-in_err-rest
-expressions::read_sizeof_after_paren-returns-in_err-rest = read_operands.expressions::read_sizeof_after_paren-returns-in_err-rest
-
-pub expressions::read_sizeof_after_paren-returns-then-is_specifier : goal.expressions::read_sizeof_after_paren-returns-then-is_specifier
-expressions::read_sizeof_after_paren-returns-then-is_specifier = read_operands.expressions::read_sizeof_after_paren-returns-then-is_specifier
-
-pub expressions::read_sizeof_after_paren-returns-in_err-inner : goal.expressions::read_sizeof_after_paren-returns-in_err-inner
-expressions::read_sizeof_after_paren-returns-in_err-inner = read_operands.expressions::read_sizeof_after_paren-returns-in_err-inner
-
-pub expressions::read_sizeof_after_paren-returns-in_err-rest-2 : goal.expressions::read_sizeof_after_paren-returns-in_err-rest-2
-expressions::read_sizeof_after_paren-returns-in_err-rest-2 = read_operands.expressions::read_sizeof_after_paren-returns-in_err-rest-2
-
-pub expressions::read_sizeof_after_paren-returns-in_err-operand : goal.expressions::read_sizeof_after_paren-returns-in_err-operand
-expressions::read_sizeof_after_paren-returns-in_err-operand = read_operands.expressions::read_sizeof_after_paren-returns-in_err-operand
-
-pub expressions::read_sizeof_after_paren-returns : goal.expressions::read_sizeof_after_paren-returns
-expressions::read_sizeof_after_paren-returns = read_operands.expressions::read_sizeof_after_paren-returns
+pub expressions::read_grouped-returns : goal.expressions::read_grouped-returns
+expressions::read_grouped-returns = read_operators.expressions::read_grouped-returns
 
 pub expressions::read_suffixes-returns-then-part-depth : goal.expressions::read_suffixes-returns-then-part-depth
 expressions::read_suffixes-returns-then-part-depth = read_operands.expressions::read_suffixes-returns-then-part-depth
 
 pub expressions::read_suffixes-returns : goal.expressions::read_suffixes-returns
 expressions::read_suffixes-returns = read_operands.expressions::read_suffixes-returns
-
-pub expressions::read_primary-returns-then-depth-lt2 : goal.expressions::read_primary-returns-then-depth-lt2
-expressions::read_primary-returns-then-depth-lt2 = read_operands.expressions::read_primary-returns-then-depth-lt2
-
-pub expressions::read_primary-returns-in_err-inner : goal.expressions::read_primary-returns-in_err-inner
-expressions::read_primary-returns-in_err-inner = read_operands.expressions::read_primary-returns-in_err-inner
-
-pub expressions::read_primary-returns-in_err-rest : goal.expressions::read_primary-returns-in_err-rest
-expressions::read_primary-returns-in_err-rest = read_operands.expressions::read_primary-returns-in_err-rest
-
-pub expressions::read_primary-returns-then-is_mark : goal.expressions::read_primary-returns-then-is_mark
-expressions::read_primary-returns-then-is_mark = read_operands.expressions::read_primary-returns-then-is_mark
-
-pub expressions::read_primary-returns-then-not-is_operand : goal.expressions::read_primary-returns-then-not-is_operand
-expressions::read_primary-returns-then-not-is_operand = read_operands.expressions::read_primary-returns-then-not-is_operand
-
-pub expressions::read_primary-returns-then-depth-lt1 : goal.expressions::read_primary-returns-then-depth-lt1
-expressions::read_primary-returns-then-depth-lt1 = read_operands.expressions::read_primary-returns-then-depth-lt1
-
-pub expressions::read_primary-returns : goal.expressions::read_primary-returns
-expressions::read_primary-returns = read_operands.expressions::read_primary-returns
-
-pub expressions::read_unary-returns-then-is_prefix : goal.expressions::read_unary-returns-then-is_prefix
-expressions::read_unary-returns-then-is_prefix = read_operands.expressions::read_unary-returns-then-is_prefix
-
-pub expressions::read_unary-returns-in_err-operand : goal.expressions::read_unary-returns-in_err-operand
-expressions::read_unary-returns-in_err-operand = read_operands.expressions::read_unary-returns-in_err-operand
-
-pub expressions::read_unary-returns-then-is_mark-2 : goal.expressions::read_unary-returns-then-is_mark-2
-expressions::read_unary-returns-then-is_mark-2 = read_operands.expressions::read_unary-returns-then-is_mark-2
-
-pub expressions::read_unary-returns-in_err-operand-2 : goal.expressions::read_unary-returns-in_err-operand-2
-expressions::read_unary-returns-in_err-operand-2 = read_operands.expressions::read_unary-returns-in_err-operand-2
-
-pub expressions::read_unary-returns-then-is_prefix-2 : goal.expressions::read_unary-returns-then-is_prefix-2
-expressions::read_unary-returns-then-is_prefix-2 = read_operands.expressions::read_unary-returns-then-is_prefix-2
-
-pub expressions::read_unary-returns-in_err-part : goal.expressions::read_unary-returns-in_err-part
-expressions::read_unary-returns-in_err-part = read_operands.expressions::read_unary-returns-in_err-part
-
-pub expressions::read_unary-returns : goal.expressions::read_unary-returns
-expressions::read_unary-returns = read_operands.expressions::read_unary-returns
 
 pub expressions::read_arguments-returns-then-not-begins_expression : goal.expressions::read_arguments-returns-then-not-begins_expression
 expressions::read_arguments-returns-then-not-begins_expression = read_operands.expressions::read_arguments-returns-then-not-begins_expression
@@ -220,23 +133,65 @@ expressions::read_suffix-returns-in_err-rest = read_operands.expressions::read_s
 pub expressions::read_suffix-returns-then-is_mark : goal.expressions::read_suffix-returns-then-is_mark
 expressions::read_suffix-returns-then-is_mark = read_operands.expressions::read_suffix-returns-then-is_mark
 
-pub expressions::read_suffix-returns-then-not-is_name : goal.expressions::read_suffix-returns-then-not-is_name
-expressions::read_suffix-returns-then-not-is_name = read_operands.expressions::read_suffix-returns-then-not-is_name
+pub expressions::read_suffix-returns-in_err-arguments : goal.expressions::read_suffix-returns-in_err-arguments
+expressions::read_suffix-returns-in_err-arguments = read_operands.expressions::read_suffix-returns-in_err-arguments
 
-pub expressions::read_suffix-returns-then-is_mark-3 : goal.expressions::read_suffix-returns-then-is_mark-3
-expressions::read_suffix-returns-then-is_mark-3 = read_operands.expressions::read_suffix-returns-then-is_mark-3
+pub expressions::read_suffix-returns-in_err-rest-2 : goal.expressions::read_suffix-returns-in_err-rest-2
+expressions::read_suffix-returns-in_err-rest-2 = read_operands.expressions::read_suffix-returns-in_err-rest-2
+
+pub expressions::read_suffix-returns-then-is_mark-2 : goal.expressions::read_suffix-returns-then-is_mark-2
+expressions::read_suffix-returns-then-is_mark-2 = read_operands.expressions::read_suffix-returns-then-is_mark-2
 
 pub expressions::read_suffix-returns : goal.expressions::read_suffix-returns
 expressions::read_suffix-returns = read_operands.expressions::read_suffix-returns
 
-pub expressions::read_call-returns-in_err-arguments : goal.expressions::read_call-returns-in_err-arguments
-expressions::read_call-returns-in_err-arguments = read_operands.expressions::read_call-returns-in_err-arguments
+pub expressions::read_unary-returns-then-begins_nested : goal.expressions::read_unary-returns-then-begins_nested
+expressions::read_unary-returns-then-begins_nested = read_operands.expressions::read_unary-returns-then-begins_nested
 
-pub expressions::read_call-returns-in_err-rest : goal.expressions::read_call-returns-in_err-rest
-expressions::read_call-returns-in_err-rest = read_operands.expressions::read_call-returns-in_err-rest
+pub expressions::read_unary-returns-then-is_mark : goal.expressions::read_unary-returns-then-is_mark
+expressions::read_unary-returns-then-is_mark = read_operands.expressions::read_unary-returns-then-is_mark
 
-pub expressions::read_call-returns : goal.expressions::read_call-returns
-expressions::read_call-returns = read_operands.expressions::read_call-returns
+pub expressions::read_unary-returns-then-is_mark-2 : goal.expressions::read_unary-returns-then-is_mark-2
+expressions::read_unary-returns-then-is_mark-2 = read_operands.expressions::read_unary-returns-then-is_mark-2
+
+pub expressions::read_unary-returns-in_err-operand : goal.expressions::read_unary-returns-in_err-operand
+expressions::read_unary-returns-in_err-operand = read_operands.expressions::read_unary-returns-in_err-operand
+
+pub expressions::read_unary-returns-then-is_mark-3 : goal.expressions::read_unary-returns-then-is_mark-3
+expressions::read_unary-returns-then-is_mark-3 = read_operands.expressions::read_unary-returns-then-is_mark-3
+
+pub expressions::read_unary-returns-in_err-operand-2 : goal.expressions::read_unary-returns-in_err-operand-2
+expressions::read_unary-returns-in_err-operand-2 = read_operands.expressions::read_unary-returns-in_err-operand-2
+
+pub expressions::read_unary-returns-then-is_prefix : goal.expressions::read_unary-returns-then-is_prefix
+expressions::read_unary-returns-then-is_prefix = read_operands.expressions::read_unary-returns-then-is_prefix
+
+pub expressions::read_unary-returns-in_err-part : goal.expressions::read_unary-returns-in_err-part
+expressions::read_unary-returns-in_err-part = read_operands.expressions::read_unary-returns-in_err-part
+
+pub expressions::read_unary-returns : goal.expressions::read_unary-returns
+expressions::read_unary-returns = read_operands.expressions::read_unary-returns
+
+pub expressions::read_after_sizeof-returns-in_err-operand : goal.expressions::read_after_sizeof-returns-in_err-operand
+expressions::read_after_sizeof-returns-in_err-operand = read_operands.expressions::read_after_sizeof-returns-in_err-operand
+
+pub expressions::read_after_sizeof-returns-then-not-is_mark : goal.expressions::read_after_sizeof-returns-then-not-is_mark
+expressions::read_after_sizeof-returns-then-not-is_mark = read_operands.expressions::read_after_sizeof-returns-then-not-is_mark
+
+pub expressions::read_after_sizeof-returns-in_err-operand-2 : goal.expressions::read_after_sizeof-returns-in_err-operand-2
+expressions::read_after_sizeof-returns-in_err-operand-2 = read_operands.expressions::read_after_sizeof-returns-in_err-operand-2
+
+pub expressions::read_after_sizeof-returns-then-not-is_specifier : goal.expressions::read_after_sizeof-returns-then-not-is_specifier
+expressions::read_after_sizeof-returns-then-not-is_specifier = read_operands.expressions::read_after_sizeof-returns-then-not-is_specifier
+
+pub expressions::read_after_sizeof-returns-in_err-name : goal.expressions::read_after_sizeof-returns-in_err-name
+expressions::read_after_sizeof-returns-in_err-name = read_operands.expressions::read_after_sizeof-returns-in_err-name
+
+pub expressions::read_after_sizeof-returns-in_err-rest : goal.expressions::read_after_sizeof-returns-in_err-rest
+expressions::read_after_sizeof-returns-in_err-rest = read_operands.expressions::read_after_sizeof-returns-in_err-rest
+
+pub expressions::read_after_sizeof-returns : goal.expressions::read_after_sizeof-returns
+expressions::read_after_sizeof-returns = read_operands.expressions::read_after_sizeof-returns
 
 pub declarators::read_type_name-returns-in_err-specifiers : goal.declarators::read_type_name-returns-in_err-specifiers
 declarators::read_type_name-returns-in_err-specifiers = read_declarators.declarators::read_type_name-returns-in_err-specifiers
@@ -247,38 +202,11 @@ declarators::read_type_name-returns-in_err-part = read_declarators.declarators::
 pub declarators::read_type_name-returns : goal.declarators::read_type_name-returns
 declarators::read_type_name-returns = read_declarators.declarators::read_type_name-returns
 
-pub declarators::read_declarator-returns-then-depth-lt2 : goal.declarators::read_declarator-returns-then-depth-lt2
-declarators::read_declarator-returns-then-depth-lt2 = read_declarators.declarators::read_declarator-returns-then-depth-lt2
-
-pub declarators::read_declarator-returns-then-is_mark : goal.declarators::read_declarator-returns-then-is_mark
-declarators::read_declarator-returns-then-is_mark = read_declarators.declarators::read_declarator-returns-then-is_mark
-
-pub declarators::read_declarator-returns-in_err-head : goal.declarators::read_declarator-returns-in_err-head
-declarators::read_declarator-returns-in_err-head = read_declarators.declarators::read_declarator-returns-in_err-head
-
-pub declarators::read_declarator-returns : goal.declarators::read_declarator-returns
-declarators::read_declarator-returns = read_declarators.declarators::read_declarator-returns
-
 pub declarators::read_pointer-returns-in_err-inner : goal.declarators::read_pointer-returns-in_err-inner
 declarators::read_pointer-returns-in_err-inner = read_declarators.declarators::read_pointer-returns-in_err-inner
 
 pub declarators::read_pointer-returns : goal.declarators::read_pointer-returns
 declarators::read_pointer-returns = read_declarators.declarators::read_pointer-returns
-
-pub declarators::read_direct-returns-then-depth-lt2 : goal.declarators::read_direct-returns-then-depth-lt2
-declarators::read_direct-returns-then-depth-lt2 = read_declarators.declarators::read_direct-returns-then-depth-lt2
-
-pub declarators::read_direct-returns-then-is_mark : goal.declarators::read_direct-returns-then-is_mark
-declarators::read_direct-returns-then-is_mark = read_declarators.declarators::read_direct-returns-then-is_mark
-
-pub declarators::read_direct-returns-in-Some : goal.declarators::read_direct-returns-in-Some
-declarators::read_direct-returns-in-Some = read_declarators.declarators::read_direct-returns-in-Some
-
-pub declarators::read_direct-returns-then-is_concrete : goal.declarators::read_direct-returns-then-is_concrete
-declarators::read_direct-returns-then-is_concrete = read_declarators.declarators::read_direct-returns-then-is_concrete
-
-pub declarators::read_direct-returns : goal.declarators::read_direct-returns
-declarators::read_direct-returns = read_declarators.declarators::read_direct-returns
 
 pub declarators::read_declarator_after_paren-returns-in_err-parameters : goal.declarators::read_declarator_after_paren-returns-in_err-parameters
 declarators::read_declarator_after_paren-returns-in_err-parameters = read_declarators.declarators::read_declarator_after_paren-returns-in_err-parameters
@@ -337,9 +265,6 @@ declarators::read_declarator_suffixes-suffixes-preserved = read_declarators.decl
 pub declarators::read_declarator_suffixes-returns : goal.declarators::read_declarator_suffixes-returns
 declarators::read_declarator_suffixes-returns = read_declarators.declarators::read_declarator_suffixes-returns
 
-pub declarators::read_declarator-read_declarator_suffixes-requires : goal.declarators::read_declarator-read_declarator_suffixes-requires
-declarators::read_declarator-read_declarator_suffixes-requires = read_declarators.declarators::read_declarator-read_declarator_suffixes-requires
-
 pub declarators::read_group-read_declarator_suffixes-requires : goal.declarators::read_group-read_declarator_suffixes-requires
 declarators::read_group-read_declarator_suffixes-requires = read_declarators.declarators::read_group-read_declarator_suffixes-requires
 
@@ -348,6 +273,30 @@ declarators::read_group-read_declarator_suffixes-requires-in-Some = read_declara
 
 pub declarators::read_group-read_declarator_suffixes-requires-then-begins_array : goal.declarators::read_group-read_declarator_suffixes-requires-then-begins_array
 declarators::read_group-read_declarator_suffixes-requires-then-begins_array = read_declarators.declarators::read_group-read_declarator_suffixes-requires-then-begins_array
+
+pub declarators::read_declarator-returns-then-begins_inner : goal.declarators::read_declarator-returns-then-begins_inner
+declarators::read_declarator-returns-then-begins_inner = read_declarators.declarators::read_declarator-returns-then-begins_inner
+
+pub declarators::read_declarator-returns-then-is_mark : goal.declarators::read_declarator-returns-then-is_mark
+declarators::read_declarator-returns-then-is_mark = read_declarators.declarators::read_declarator-returns-then-is_mark
+
+pub declarators::read_declarator-returns-in_err-head : goal.declarators::read_declarator-returns-in_err-head
+declarators::read_declarator-returns-in_err-head = read_declarators.declarators::read_declarator-returns-in_err-head
+
+pub declarators::read_declarator-returns-then-is_mark-2 : goal.declarators::read_declarator-returns-then-is_mark-2
+declarators::read_declarator-returns-then-is_mark-2 = read_declarators.declarators::read_declarator-returns-then-is_mark-2
+
+pub declarators::read_declarator-returns-in_err-head-2 : goal.declarators::read_declarator-returns-in_err-head-2
+declarators::read_declarator-returns-in_err-head-2 = read_declarators.declarators::read_declarator-returns-in_err-head-2
+
+pub declarators::read_declarator-returns : goal.declarators::read_declarator-returns
+declarators::read_declarator-returns = read_declarators.declarators::read_declarator-returns
+
+pub declarators::read_declarator-read_declarator_suffixes-requires : goal.declarators::read_declarator-read_declarator_suffixes-requires
+declarators::read_declarator-read_declarator_suffixes-requires = read_declarators.declarators::read_declarator-read_declarator_suffixes-requires
+
+pub declarators::read_declarator-read_declarator_suffixes-requires-2 : goal.declarators::read_declarator-read_declarator_suffixes-requires-2
+declarators::read_declarator-read_declarator_suffixes-requires-2 = read_declarators.declarators::read_declarator-read_declarator_suffixes-requires-2
 
 pub declarators::read_parameter-returns-in_err-specifiers : goal.declarators::read_parameter-returns-in_err-specifiers
 declarators::read_parameter-returns-in_err-specifiers = read_parameters.declarators::read_parameter-returns-in_err-specifiers
@@ -373,14 +322,17 @@ declarators::read_part-returns-then-is_mark = read_parameters.declarators::read_
 pub declarators::read_array-returns-in_err-rest : goal.declarators::read_array-returns-in_err-rest
 declarators::read_array-returns-in_err-rest = read_parameters.declarators::read_array-returns-in_err-rest
 
-pub declarators::read_function-returns-in_err-parameters : goal.declarators::read_function-returns-in_err-parameters
-declarators::read_function-returns-in_err-parameters = read_parameters.declarators::read_function-returns-in_err-parameters
+pub declarators::read_array-returns : goal.declarators::read_array-returns
+declarators::read_array-returns = read_parameters.declarators::read_array-returns
 
-pub declarators::read_function-returns-in_err-rest : goal.declarators::read_function-returns-in_err-rest
-declarators::read_function-returns-in_err-rest = read_parameters.declarators::read_function-returns-in_err-rest
+pub declarators::read_part-returns-in_err-parameters : goal.declarators::read_part-returns-in_err-parameters
+declarators::read_part-returns-in_err-parameters = read_parameters.declarators::read_part-returns-in_err-parameters
 
-pub declarators::read_function-returns : goal.declarators::read_function-returns
-declarators::read_function-returns = read_parameters.declarators::read_function-returns
+pub declarators::read_part-returns-in_err-rest : goal.declarators::read_part-returns-in_err-rest
+declarators::read_part-returns-in_err-rest = read_parameters.declarators::read_part-returns-in_err-rest
+
+pub declarators::read_part-returns : goal.declarators::read_part-returns
+declarators::read_part-returns = read_parameters.declarators::read_part-returns
 
 pub declarators::read_parameters-returns-then-not-begins_specifiers : goal.declarators::read_parameters-returns-then-not-begins_specifiers
 declarators::read_parameters-returns-then-not-begins_specifiers = read_parameters.declarators::read_parameters-returns-then-not-begins_specifiers
@@ -439,18 +391,6 @@ specifiers::read_structure-returns-then-is_mark = read_specifiers.specifiers::re
 pub specifiers::read_structure-returns-in_default : goal.specifiers::read_structure-returns-in_default
 specifiers::read_structure-returns-in_default = read_specifiers.specifiers::read_structure-returns-in_default
 
-pub specifiers::read_structure-returns : goal.specifiers::read_structure-returns
-specifiers::read_structure-returns = read_specifiers.specifiers::read_structure-returns
-
-pub specifiers::read_tagged-returns-then-depth-lt2 : goal.specifiers::read_tagged-returns-then-depth-lt2
-specifiers::read_tagged-returns-then-depth-lt2 = read_specifiers.specifiers::read_tagged-returns-then-depth-lt2
-
-pub specifiers::read_tagged-returns-then-is_mark : goal.specifiers::read_tagged-returns-then-is_mark
-specifiers::read_tagged-returns-then-is_mark = read_specifiers.specifiers::read_tagged-returns-then-is_mark
-
-pub specifiers::read_tagged-returns : goal.specifiers::read_tagged-returns
-specifiers::read_tagged-returns = read_specifiers.specifiers::read_tagged-returns
-
 pub specifiers::read_member-returns-in_err-specifiers : goal.specifiers::read_member-returns-in_err-specifiers
 specifiers::read_member-returns-in_err-specifiers = read_specifiers.specifiers::read_member-returns-in_err-specifiers
 
@@ -481,6 +421,18 @@ specifiers::read_items-returns = read_specifiers.specifiers::read_items-returns
 pub specifiers::read_member-read_items-next-requires : goal.specifiers::read_member-read_items-next-requires
 specifiers::read_member-read_items-next-requires = read_specifiers.specifiers::read_member-read_items-next-requires
 
+pub specifiers::read_structure-returns-then-depth-lt2-2 : goal.specifiers::read_structure-returns-then-depth-lt2-2
+specifiers::read_structure-returns-then-depth-lt2-2 = read_specifiers.specifiers::read_structure-returns-then-depth-lt2-2
+
+pub specifiers::read_structure-returns-then-is_mark-2 : goal.specifiers::read_structure-returns-then-is_mark-2
+specifiers::read_structure-returns-then-is_mark-2 = read_specifiers.specifiers::read_structure-returns-then-is_mark-2
+
+pub specifiers::read_structure-returns : goal.specifiers::read_structure-returns
+specifiers::read_structure-returns = read_specifiers.specifiers::read_structure-returns
+
+pub specifiers::read_body-returns : goal.specifiers::read_body-returns
+specifiers::read_body-returns = read_specifiers.specifiers::read_body-returns
+
 pub specifiers::read_enumerators-enumerators-init : goal.specifiers::read_enumerators-enumerators-init
 specifiers::read_enumerators-enumerators-init = read_enumerations.specifiers::read_enumerators-enumerators-init
 
@@ -505,18 +457,6 @@ specifiers::read_enumeration-returns-then-is_mark = read_enumerations.specifiers
 pub specifiers::read_enumeration-returns-in_default : goal.specifiers::read_enumeration-returns-in_default
 specifiers::read_enumeration-returns-in_default = read_enumerations.specifiers::read_enumeration-returns-in_default
 
-pub specifiers::read_enumeration-returns : goal.specifiers::read_enumeration-returns
-specifiers::read_enumeration-returns = read_enumerations.specifiers::read_enumeration-returns
-
-pub specifiers::read_named-returns-then-is_mark : goal.specifiers::read_named-returns-then-is_mark
-specifiers::read_named-returns-then-is_mark = read_enumerations.specifiers::read_named-returns-then-is_mark
-
-pub specifiers::read_named-returns : goal.specifiers::read_named-returns
-specifiers::read_named-returns = read_enumerations.specifiers::read_named-returns
-
-pub specifiers::read_constants-returns : goal.specifiers::read_constants-returns
-specifiers::read_constants-returns = read_enumerations.specifiers::read_constants-returns
-
 pub specifiers::read_enumerator-returns-then-depth-lt1 : goal.specifiers::read_enumerator-returns-then-depth-lt1
 specifiers::read_enumerator-returns-then-depth-lt1 = read_enumerations.specifiers::read_enumerator-returns-then-depth-lt1
 
@@ -525,3 +465,12 @@ specifiers::read_enumerator-returns-in_err-value = read_enumerations.specifiers:
 
 pub specifiers::read_enumerator-returns : goal.specifiers::read_enumerator-returns
 specifiers::read_enumerator-returns = read_enumerations.specifiers::read_enumerator-returns
+
+pub specifiers::read_enumeration-returns-then-is_mark-2 : goal.specifiers::read_enumeration-returns-then-is_mark-2
+specifiers::read_enumeration-returns-then-is_mark-2 = read_enumerations.specifiers::read_enumeration-returns-then-is_mark-2
+
+pub specifiers::read_enumeration-returns : goal.specifiers::read_enumeration-returns
+specifiers::read_enumeration-returns = read_enumerations.specifiers::read_enumeration-returns
+
+pub specifiers::read_constants-returns : goal.specifiers::read_constants-returns
+specifiers::read_constants-returns = read_enumerations.specifiers::read_constants-returns

@@ -1,6 +1,6 @@
 -- The readers end since each takes a token before it comes back to a looser part. In a loop the part that was read so far stands
 -- for all that was read.
-use Rattle.std.proofs.Common.{◌≡◌, ◌+◌, ◌-◌, ◌*◌, ◌≤◌, [], ◌∷◌, true, length, map}
+use Rattle.std.proofs.Common.{◌≡◌, ◌==◌, ◌+◌, ◌-◌, ◌*◌, ◌≤◌, [], ◌∷◌, true, false, length, map}
 use Rattle.std.specs.Prelude.{is_some}
 use Rattle.sp_syntax.specs.Syntax.{Declarator}
 use Rattle.sp_syntax.specs.View.{tree_of, expressions, specifiers_of, declaration_of, declarations, param_of, params, declarator_of}
@@ -9,13 +9,10 @@ use Rattle.sp_grammar.specs.CTable as grammar
 use Rattle.sp_c_tokens.specs.Makers.{settle, first_place, all_items, all_enumerators}
 use Rattle.sp_c_tokens.specs.Ended.{IsEnded}
 use Rattle.sp_c_tokens.specs.Scopes.{there}
-use Rattle.sp_c_reader.specs.Reading.{IsRead, IsStep, operand_seen}
-use Rattle.sp_c_reader.specs.Declaring.{declared_seen, item_seen, constant_seen}
-use Rattle.sp_c_reader.proofs.Lists.{SpecifiersSoFar, ItemsSoFar, ParametersSoFar, SuffixedSoFar}
+use Rattle.sp_c_steps.specs.Reading.{IsRead, IsStep, operand_seen}
+use Rattle.sp_c_steps.specs.Declaring.{declared_seen, item_seen, constant_seen}
+use Rattle.sp_c_steps.proofs.Lists.{SpecifiersSoFar, ItemsSoFar, ParametersSoFar, SuffixedSoFar}
 use Rattle.sp_c_reader.proofs.+reader.Given as goal
-
-abbrev pub decreases-expressions::read_primary : goal.decreases-expressions::read_primary
-decreases-expressions::read_primary l = 8 * length l.tokens.now
 
 abbrev pub decreases-expressions::read_unary : goal.decreases-expressions::read_unary
 decreases-expressions::read_unary l = 8 * length l.tokens.now + 1
@@ -27,10 +24,7 @@ abbrev pub decreases-expressions::read_level : goal.decreases-expressions::read_
 decreases-expressions::read_level l = 8 * length l.tokens.now + 3
 
 abbrev pub decreases-expressions::read_operators : goal.decreases-expressions::read_operators
-decreases-expressions::read_operators l = 8 * length l.tokens.now
-
-abbrev pub decreases-expressions::read_sequence : goal.decreases-expressions::read_sequence
-decreases-expressions::read_sequence l = 8 * length l.tokens.now
+decreases-expressions::read_operators l = 8 * length l.tokens.now + 1
 
 abbrev pub decreases-expressions::read_assignment : goal.decreases-expressions::read_assignment
 decreases-expressions::read_assignment l = 8 * length l.tokens.now
@@ -38,14 +32,8 @@ decreases-expressions::read_assignment l = 8 * length l.tokens.now
 abbrev pub decreases-expressions::read_conditional : goal.decreases-expressions::read_conditional
 decreases-expressions::read_conditional l = 8 * length l.tokens.now
 
-abbrev pub decreases-expressions::read_level_tail : goal.decreases-expressions::read_level_tail
-decreases-expressions::read_level_tail l = 8 * length l.tokens.now + 1
-
 abbrev pub decreases-expressions::read_arguments : goal.decreases-expressions::read_arguments
 decreases-expressions::read_arguments l = 8 * length l.tokens.now + 4
-
-abbrev pub decreases-expressions::read_call : goal.decreases-expressions::read_call
-decreases-expressions::read_call l = 8 * length l.tokens.now + 5
 
 abbrev pub decreases-expressions::read_suffix : goal.decreases-expressions::read_suffix
 decreases-expressions::read_suffix l = 8 * length l.tokens.now + 6
@@ -56,11 +44,8 @@ decreases-expressions::read_suffixes l = 8 * length l.tokens.now
 abbrev pub decreases-expressions::read_after_sizeof : goal.decreases-expressions::read_after_sizeof
 decreases-expressions::read_after_sizeof l = 8 * length l.tokens.now + 2
 
-abbrev pub decreases-expressions::read_sizeof_after_paren : goal.decreases-expressions::read_sizeof_after_paren
-decreases-expressions::read_sizeof_after_paren l = 8 * length l.tokens.now + 5
-
-abbrev pub decreases-expressions::read_after_paren : goal.decreases-expressions::read_after_paren
-decreases-expressions::read_after_paren l = 8 * length l.tokens.now + 5
+abbrev pub decreases-expressions::read_grouped : goal.decreases-expressions::read_grouped
+decreases-expressions::read_grouped l = 8 * length l.tokens.now + 4
 
 abbrev pub decreases-declarators::read_type_name : goal.decreases-declarators::read_type_name
 decreases-declarators::read_type_name l = 8 * length l.tokens.now + 2
@@ -70,9 +55,6 @@ decreases-declarators::read_declarator l = 8 * length l.tokens.now + 1
 
 abbrev pub decreases-declarators::read_pointer : goal.decreases-declarators::read_pointer
 decreases-declarators::read_pointer l = 8 * length l.tokens.now + 2
-
-abbrev pub decreases-declarators::read_direct : goal.decreases-declarators::read_direct
-decreases-declarators::read_direct l = 8 * length l.tokens.now
 
 abbrev pub decreases-declarators::read_declarator_after_paren : goal.decreases-declarators::read_declarator_after_paren
 decreases-declarators::read_declarator_after_paren l = 8 * length l.tokens.now + 4
@@ -92,9 +74,6 @@ decreases-declarators::read_array l = 8 * length l.tokens.now + 5
 abbrev pub decreases-declarators::read_length : goal.decreases-declarators::read_length
 decreases-declarators::read_length l = 8 * length l.tokens.now + 4
 
-abbrev pub decreases-declarators::read_function : goal.decreases-declarators::read_function
-decreases-declarators::read_function l = 8 * length l.tokens.now + 4
-
 abbrev pub decreases-declarators::read_parameters : goal.decreases-declarators::read_parameters
 decreases-declarators::read_parameters l = 8 * length l.tokens.now + 3
 
@@ -110,9 +89,6 @@ decreases-specifiers::read_specifier l = 8 * length l.tokens.now + 1
 abbrev pub decreases-specifiers::read_structure : goal.decreases-specifiers::read_structure
 decreases-specifiers::read_structure l = 8 * length l.tokens.now
 
-abbrev pub decreases-specifiers::read_tagged : goal.decreases-specifiers::read_tagged
-decreases-specifiers::read_tagged l = 8 * length l.tokens.now
-
 abbrev pub decreases-specifiers::read_body : goal.decreases-specifiers::read_body
 decreases-specifiers::read_body l = 8 * length l.tokens.now + 2
 
@@ -127,9 +103,6 @@ decreases-specifiers::read_items l = 8 * length l.tokens.now
 
 abbrev pub decreases-specifiers::read_enumeration : goal.decreases-specifiers::read_enumeration
 decreases-specifiers::read_enumeration l = 8 * length l.tokens.now
-
-abbrev pub decreases-specifiers::read_named : goal.decreases-specifiers::read_named
-decreases-specifiers::read_named l = 8 * length l.tokens.now
 
 abbrev pub decreases-specifiers::read_constants : goal.decreases-specifiers::read_constants
 decreases-specifiers::read_constants l = 8 * length l.tokens.now + 1
@@ -162,6 +135,8 @@ invariant-expressions::read_operators-operators l = record {
   shallow : l.reached ≤ l.depth;
   ended : IsEnded l.rest;
   fewer : length l.rest ≤ length l.fn.tokens;
+  not_assigning : (l.fn.level == 12) ≡ false;
+  not_choosing : (l.fn.level == 11) ≡ false;
   same_level : l.level ≡ l.fn.level;
   same_depth : l.depth ≡ l.fn.depth;
   same_types : l.context.types.now ≡ l.fn.context.types.now;
@@ -170,21 +145,6 @@ invariant-expressions::read_operators-operators l = record {
 
 abbrev pub decreases-expressions::read_operators-operators : goal.decreases-expressions::read_operators-operators
 decreases-expressions::read_operators-operators l = length l.rest
-
-abbrev pub invariant-expressions::read_sequence-commas : goal.invariant-expressions::read_sequence-commas
-invariant-expressions::read_sequence-commas l = record {
-  step : IsStep (there l.context.types.now l.context.scope) (grammar.after 13 (operand_seen l.fn.left)) (grammar.after 13 (record { tree = tree_of l.tree; unary = l.unary })) (λ a. a) l.fn.tokens l.rest;
-  deep : l.reached ≡ depth_of (tree_of l.tree);
-  shallow : l.reached ≤ l.depth;
-  ended : IsEnded l.rest;
-  fewer : length l.rest ≤ length l.fn.tokens;
-  same_depth : l.depth ≡ l.fn.depth;
-  same_types : l.context.types.now ≡ l.fn.context.types.now;
-  same_scope : l.context.scope ≡ l.fn.context.scope;
-}
-
-abbrev pub decreases-expressions::read_sequence-commas : goal.decreases-expressions::read_sequence-commas
-decreases-expressions::read_sequence-commas l = length l.rest
 
 abbrev pub invariant-expressions::read_suffixes-suffixes : goal.invariant-expressions::read_suffixes-suffixes
 invariant-expressions::read_suffixes-suffixes l = record {

@@ -1,30 +1,24 @@
 -- What each part of the work answers. Want of memory says nothing.
-use Rattle.std.specs.Prelude.{◌≡◌, ◌⊎◌, ℕ, false, true, List, map, Result, Ok, Err, ⊤}
+use Rattle.std.specs.Prelude.{◌≡◌, ◌⊎◌, ℕ, List, map, Result, Ok, Err, ⊤}
 use Rattle.std.specs.declared.alloc.Global.{Global}
 use Rattle.std.specs.declared.vec.Vec.{Vec}
 use Rattle.sp_tree.specs.declared.fault.Fault.{Fault}
-use Rattle.sp_tree.specs.declared.fault.FaultKind.TheVariants.{Unbuilt}
 use Rattle.sp_tree.specs.declared.token.Token.{Token}
 use Rattle.sp_syntax.specs.Syntax.{External}
 use Rattle.sp_c_units.specs.Answers.{IsUnit}
 use Rattle.sp_decl_parser.specs.Parsing.{IsUnitRefused}
-use Rattle.sp_types.specs.Programs.{Program, program_of}
+use Rattle.sp_types.specs.Programs.{program_of}
 use Rattle.sp_types.specs.declared.program.Program.{Program as CodeProgram}
 use Rattle.sp_operands.specs.Answers.{accepted, refused}
 use Rattle.sp_units.specs.Units.{CheckedUnit, checked_unit_of}
 use Rattle.sp_units.specs.declared.unit.CheckedUnit.{CheckedUnit as CodeUnit}
 use Rattle.sp_decl_check.specs.Units.{unit_checked}
-use Rattle.sp_ir.specs.Programs.{Lowered, lowered_of}
-use Rattle.sp_ir.specs.Formed.{IsFormed}
-use Rattle.sp_ir.specs.declared.program.Lowered.{Lowered as CodeLowered}
-use Rattle.sp_lower.specs.Programs.{start_place, IsLowering}
-use Rattle.sp_lower.specs.Answers.{Fits, Refuses}
 use Rattle.sp_front.specs.declared.files.ReadFile.{ReadFile}
 use Rattle.sp_front.specs.declared.front.FrontError.{FrontError}
 use Rattle.sp_front.specs.declared.front.FrontError.TheVariants as errors
 use Rattle.sp_front.specs.Sources.{Source}
 use Rattle.sp_front.specs.Files.{Progress, beginning, max_depth, IsScanned, IsFileOf, IsFileRefused, AreFilesOf}
-use Rattle.sp_front.specs.Answers.{IsProgramOf, IsRefusedAt, IsUnlinked, calls_library}
+use Rattle.sp_front.specs.Answers.{IsProgramOf, IsRefusedAt, IsUnlinked}
 
 -- ---- one file
 
@@ -75,25 +69,3 @@ MakesProgram sources names (Ok p) = IsProgramOf sources names (program_of p)
 MakesProgram sources names (Err (errors.Fault f)) =
     IsRefusedAt sources names f ⊎ IsUnlinked sources names f
 MakesProgram sources names (Err errors.NoMemory) = ⊤
-
--- ---- the program
-
--- its lowering, which is formed and has no form that isn't built
-pub record IsLoweredProgram (p : Program) (names : List (List ℕ)) (l : Lowered) : Type 0 where
-  pub lowering : IsLowering p names l
-  pub fits : Fits l
-  pub built : calls_library l ≡ false
-  pub formed : IsFormed l
-
--- past a limit, or with a form that isn't built
-pub data IsRefusedProgram (p : Program) (names : List (List ℕ)) (fault : Fault) : Type 0 where
-  past_limit :
-      Refuses p names fault.kind → fault.place ≡ start_place → IsRefusedProgram p names fault
-  unbuilt :
-      (l : Lowered) → IsLowering p names l → Fits l → calls_library l ≡ true
-      → fault ≡ record { kind = Unbuilt; place = start_place } → IsRefusedProgram p names fault
-
-abbrev pub LowersProgram : Program → List (List ℕ) → Result CodeLowered FrontError → Type 0
-LowersProgram p names (Ok l) = IsLoweredProgram p names (lowered_of l)
-LowersProgram p names (Err (errors.Fault f)) = IsRefusedProgram p names f
-LowersProgram p names (Err errors.NoMemory) = ⊤

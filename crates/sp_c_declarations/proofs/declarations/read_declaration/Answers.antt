@@ -5,8 +5,8 @@ use Rattle.sp_grammar.specs.CTokens as sorts_there
 use Rattle.sp_grammar.specs.CTable as grammar
 use Rattle.sp_grammar.specs.CTable.{begins_items, begins_specifiers}
 use Rattle.sp_c_tokens.specs.Scopes.{there}
-use Rattle.sp_c_reader.proofs.Steps.{got}
-use Rattle.sp_c_reader.proofs.Parts.{stop_part, stop_mark}
+use Rattle.sp_c_steps.proofs.Steps.{got}
+use Rattle.sp_c_steps.proofs.Parts.{stop_part, stop_mark}
 use Rattle.sp_c_declarations.proofs.DeclarationSteps as steps
 use Rattle.sp_syntax.specs.View.{declaration_of}
 use Rattle.sp_c_tokens.specs.Makers.{first_place}

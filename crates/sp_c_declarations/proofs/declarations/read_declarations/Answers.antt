@@ -4,14 +4,14 @@ use Rattle.sp_grammar.specs.CTable as grammar
 use Rattle.sp_grammar.specs.CTable.{begins_items, begins_specifiers}
 use Rattle.sp_c_tokens.specs.Sorts.{c_tokens}
 use Rattle.sp_c_tokens.specs.Scopes.{there}
-use Rattle.sp_c_reader.specs.Reading.{IsStep}
-use Rattle.sp_c_reader.proofs.Steps.{begun, got, last}
-use Rattle.sp_c_reader.proofs.Parts.{stop_part}
+use Rattle.sp_c_steps.specs.Reading.{IsStep}
+use Rattle.sp_c_steps.proofs.Steps.{begun, got, last}
+use Rattle.sp_c_steps.proofs.Parts.{stop_part}
 use Rattle.sp_c_declarations.proofs.DeclarationSteps as steps
 use Rattle.sp_syntax.specs.View.{declaration_of, declarations}
 use Rattle.sp_syntax.specs.Depth.{declarations_depth}
 use Rattle.sp_c_tokens.proofs.Settled.{declarations_snoc}
-use Rattle.sp_c_reader.proofs.ListSteps.{map_more}
+use Rattle.sp_c_steps.proofs.ListSteps.{map_more}
 use Rattle.sp_c_declarations.proofs.declarations.read_declarations.Goals as goal
 
 pub declarations-init : goal.declarations-init

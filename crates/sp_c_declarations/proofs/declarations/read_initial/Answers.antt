@@ -7,8 +7,8 @@ use Rattle.sp_grammar.specs.CTable.{begins_items, begins_specifiers}
 use Rattle.sp_grammar.specs.Table.{done}
 use Rattle.sp_c_tokens.specs.Sorts.{sort_of}
 use Rattle.sp_c_tokens.specs.Scopes.{there}
-use Rattle.sp_c_reader.proofs.Steps.{got, finished}
-use Rattle.sp_c_reader.proofs.Parts.{stop_part}
+use Rattle.sp_c_steps.proofs.Steps.{got, finished}
+use Rattle.sp_c_steps.proofs.Parts.{stop_part}
 use Rattle.sp_c_declarations.proofs.DeclarationSteps as steps
 use Rattle.sp_c_declarations.proofs.declarations.read_initial.Goals as goal
 

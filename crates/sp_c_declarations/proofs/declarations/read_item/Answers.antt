@@ -5,11 +5,11 @@ use Rattle.sp_grammar.specs.CTable as grammar
 use Rattle.sp_grammar.specs.CTable.{begins_items, begins_specifiers}
 use Rattle.sp_grammar.specs.Table.{done}
 use Rattle.sp_c_tokens.specs.Scopes.{there}
-use Rattle.sp_c_reader.proofs.Steps.{got}
-use Rattle.sp_c_reader.proofs.Parts.{stop_part}
+use Rattle.sp_c_steps.proofs.Steps.{got}
+use Rattle.sp_c_steps.proofs.Parts.{stop_part}
 use Rattle.sp_c_declarations.proofs.DeclarationSteps as steps
 use Rattle.sp_syntax.specs.View.{declarator_of}
-use Rattle.sp_c_reader.specs.Declaring.{declared_seen}
+use Rattle.sp_c_steps.specs.Declaring.{declared_seen}
 use Rattle.sp_c_declarations.specs.Seen.{init_seen, item_part}
 use Rattle.sp_c_declarations.proofs.declarations.read_item.Goals as goal
 

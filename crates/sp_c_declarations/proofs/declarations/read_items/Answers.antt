@@ -4,13 +4,13 @@ use Rattle.sp_grammar.specs.CTable as grammar
 use Rattle.sp_grammar.specs.CTable.{begins_items, begins_specifiers}
 use Rattle.sp_grammar.specs.Table.{done}
 use Rattle.sp_c_tokens.specs.Scopes.{there}
-use Rattle.sp_c_reader.specs.Reading.{IsStep}
-use Rattle.sp_c_reader.proofs.Steps.{got, last}
-use Rattle.sp_c_reader.proofs.Parts.{stop_part}
+use Rattle.sp_c_steps.specs.Reading.{IsStep}
+use Rattle.sp_c_steps.proofs.Steps.{got, last}
+use Rattle.sp_c_steps.proofs.Parts.{stop_part}
 use Rattle.sp_c_declarations.proofs.DeclarationSteps as steps
 use Rattle.sp_c_declarations.specs.Seen.{item_part, items_part}
-use Rattle.sp_c_reader.specs.Declaring.{item_seen}
-use Rattle.sp_c_reader.proofs.Faulting.{result_before}
+use Rattle.sp_c_steps.specs.Declaring.{item_seen}
+use Rattle.sp_c_steps.proofs.Faulting.{result_before}
 use Rattle.sp_c_declarations.proofs.declarations.read_items.Goals as goal
 
 pub returns-then-not-begins_items : goal.returns-then-not-begins_items

@@ -6,15 +6,15 @@ use Rattle.sp_grammar.specs.CTable as grammar
 use Rattle.sp_grammar.specs.CTable.{begins_items, begins_specifiers}
 use Rattle.sp_c_tokens.specs.Sorts.{c_tokens}
 use Rattle.sp_c_tokens.specs.Scopes.{there, purpose_seen}
-use Rattle.sp_c_reader.specs.Reading.{IsStep}
-use Rattle.sp_c_reader.proofs.Steps.{begun}
-use Rattle.sp_c_reader.proofs.Parts.{stop_part}
+use Rattle.sp_c_steps.specs.Reading.{IsStep}
+use Rattle.sp_c_steps.proofs.Steps.{begun}
+use Rattle.sp_c_steps.proofs.Parts.{stop_part}
 use Rattle.sp_c_declarations.proofs.DeclarationSteps as steps
 use Rattle.sp_syntax.specs.Depth.{items_depth}
 use Rattle.sp_c_tokens.specs.Makers.{all_items}
 use Rattle.sp_c_tokens.proofs.Settled.{items_both}
-use Rattle.sp_c_reader.specs.Declaring.{item_seen}
-use Rattle.sp_c_reader.proofs.ListSteps.{map_more}
+use Rattle.sp_c_steps.specs.Declaring.{item_seen}
+use Rattle.sp_c_steps.proofs.ListSteps.{map_more}
 use Rattle.sp_c_declarations.specs.Seen.{item_part}
 use Rattle.sp_c_declarations.proofs.DeclarationSteps.{several, several_same}
 use Rattle.sp_c_declarations.proofs.declarations.read_more_items.Goals as goal

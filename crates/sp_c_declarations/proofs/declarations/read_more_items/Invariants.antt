@@ -5,8 +5,8 @@ use Rattle.sp_grammar.specs.CTable as grammar
 use Rattle.sp_c_tokens.specs.Ended.{IsEnded}
 use Rattle.sp_c_tokens.specs.Makers.{all_items}
 use Rattle.sp_c_tokens.specs.Scopes.{there, purpose_seen}
-use Rattle.sp_c_reader.specs.Reading.{IsStep}
-use Rattle.sp_c_reader.specs.Declaring.{item_seen}
+use Rattle.sp_c_steps.specs.Reading.{IsStep}
+use Rattle.sp_c_steps.specs.Declaring.{item_seen}
 use Rattle.sp_c_declarations.specs.Seen.{item_part}
 use Rattle.sp_c_declarations.proofs.DeclarationSteps.{several}
 use Rattle.sp_c_declarations.proofs.declarations.read_more_items.Given as goal

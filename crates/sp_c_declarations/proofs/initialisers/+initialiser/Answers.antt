@@ -17,13 +17,13 @@ use Rattle.sp_c_tokens.specs.SyntaxTrees.{syntax_trees}
 use Rattle.sp_c_tokens.specs.Ended.{IsEnded}
 use Rattle.sp_c_tokens.specs.Scopes.{there, purpose_seen}
 use Rattle.sp_c_tokens.proofs.Settled.{inits_snoc}
-use Rattle.sp_c_reader.specs.Reading.{IsStep, operand_seen}
-use Rattle.sp_c_reader.proofs.Steps.{begun, got, last}
-use Rattle.sp_c_reader.proofs.Parts.{stop_part, stop_mark}
-use Rattle.sp_c_reader.proofs.Marks.{brace_is}
-use Rattle.sp_c_reader.proofs.ListSteps.{map_more}
-use Rattle.sp_c_reader.proofs.ParameterSteps.{ended_comma}
-use Rattle.sp_c_reader.proofs.Suffixes.{purposed}
+use Rattle.sp_c_steps.specs.Reading.{IsStep, operand_seen}
+use Rattle.sp_c_steps.proofs.Steps.{begun, got, last}
+use Rattle.sp_c_steps.proofs.Parts.{stop_part, stop_mark}
+use Rattle.sp_c_steps.proofs.Marks.{brace_is}
+use Rattle.sp_c_steps.proofs.ListSteps.{map_more}
+use Rattle.sp_c_steps.proofs.ParameterSteps.{ended_comma}
+use Rattle.sp_c_steps.proofs.Suffixes.{purposed}
 use Rattle.sp_c_declarations.specs.Seen.{init_seen, inits_seen}
 use Rattle.sp_c_declarations.proofs.InitSteps.{single_on, single_read, braced_on, braced_deep, braced_more, braced_close, braced_done, braced_read, inits_more, inits_end, inits_comma, inits_last, inits_on}
 use Rattle.sp_c_declarations.proofs.initialisers.+initialiser.Goals as goal

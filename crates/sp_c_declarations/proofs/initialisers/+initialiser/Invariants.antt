@@ -5,7 +5,7 @@ use Rattle.sp_syntax.specs.Depth.{inits_depth}
 use Rattle.sp_grammar.specs.CTable as grammar
 use Rattle.sp_c_tokens.specs.Ended.{IsEnded}
 use Rattle.sp_c_tokens.specs.Scopes.{there}
-use Rattle.sp_c_reader.specs.Reading.{IsStep}
+use Rattle.sp_c_steps.specs.Reading.{IsStep}
 use Rattle.sp_c_declarations.specs.Seen.{init_seen}
 use Rattle.sp_c_declarations.proofs.initialisers.+initialiser.Given as goal
 

@@ -11,26 +11,26 @@ use Rattle.sp_grammar.specs.Table.{done}
 use Rattle.sp_c_tokens.specs.Sorts.{terminal, sort_of, c_tokens}
 use Rattle.sp_c_tokens.specs.Ended.{IsEnded}
 use Rattle.std.specs.Prelude.{is_some}
-use Rattle.sp_c_reader.proofs.Qualifiers.{words_of}
+use Rattle.sp_c_steps.proofs.Qualifiers.{words_of}
 use Rattle.sp_c_tokens.specs.Scopes.{there, purpose_seen}
-use Rattle.sp_c_reader.specs.Reading.{IsStop, IsStep}
-use Rattle.sp_c_reader.proofs.Steps.{got, last}
-use Rattle.sp_c_reader.proofs.Parts.{stop_before, stop_part, stop_mark}
-use Rattle.sp_c_reader.proofs.Marks.{opening_is, star_is}
-use Rattle.sp_c_reader.proofs.ExpressionSteps.{built, first_deep}
-use Rattle.sp_c_reader.specs.Declaring.{form_seen, declared_seen, IsFunction}
-use Rattle.sp_c_reader.proofs.DeclaratorSteps.{type_on, type_made, type_name_read, star_on, direct_on, pointer_plan, pointer_result, declared_before, behind_qualifiers, declared_same}
-use Rattle.std.specs.Prelude.{not, ◌&&◌}
+use Rattle.sp_c_steps.specs.Reading.{IsStop, IsStep}
+use Rattle.sp_c_steps.proofs.Steps.{got, last}
+use Rattle.sp_c_steps.proofs.Parts.{stop_before, stop_part, stop_mark}
+use Rattle.sp_c_steps.proofs.Marks.{opening_is, star_is}
+use Rattle.sp_c_steps.proofs.ExpressionSteps.{built, first_deep}
+use Rattle.sp_c_steps.specs.Declaring.{form_seen, declared_seen, IsFunction}
+use Rattle.sp_c_steps.proofs.DeclaratorSteps.{type_on, type_made, type_name_read, star_on, direct_on, pointer_result, declared_before, behind_qualifiers, declared_same}
+use Rattle.std.specs.Prelude.{not, ◌&&◌, ◌||◌}
 use Rattle.sp_syntax.specs.declared.tree.DeclaratorForm.TheFolds.{fold-roll-TypeName}
 use Rattle.sp_syntax.specs.Syntax.{type_name}
 use Rattle.sp_syntax.specs.View.{specifiers_of}
 use Rattle.sp_grammar.specs.CTable.{is_concrete, is_parameters}
 use Rattle.sp_c_tokens.specs.Makers.{settle, first_place, make_absent}
-use Rattle.sp_c_reader.specs.Declaring.{head_name, begins_array, begins_deeper, begins_part}
-use Rattle.sp_c_reader.proofs.Steps.{joined, before_at}
-use Rattle.sp_c_reader.proofs.Parts.{IsOn}
-use Rattle.sp_c_reader.proofs.DeclaratorParts.{parts_read, part_deep, settled_deep, declared_deep, array_plan, array_deep, array_settled, array_step, array_stop, parameters_seen}
-use Rattle.sp_c_reader.proofs.GroupSteps.{none_named, absent_seen, absent_tree, direct_group_on, direct_begins_open, named_seen, named_settled, named_deep, named_ended, named_read, absent_read, concrete_refused, pending_of, absent_more, absent_closing, inner_more, inner_closing, absent_on, inner_on, absent_function, grouped_declarator, group_deeper, group_star_on, group_open_on, group_named_on, group_array_on, group_refused}
+use Rattle.sp_c_steps.specs.Declaring.{head_name, begins_array, begins_deeper, begins_part}
+use Rattle.sp_c_steps.proofs.Steps.{joined, before_at}
+use Rattle.sp_c_steps.proofs.Parts.{IsOn}
+use Rattle.sp_c_steps.proofs.DeclaratorParts.{parts_read, part_deep, settled_deep, declared_deep, array_plan, array_deep, array_settled, array_step, array_stop, parameters_seen}
+use Rattle.sp_c_steps.proofs.GroupSteps.{inner_deep, open_stop, open_suffixes, none_named, absent_seen, absent_tree, named_seen, named_settled, named_deep, named_ended, pending_of, absent_more, absent_closing, inner_more, inner_closing, absent_on, inner_on, absent_function, grouped_declarator, group_deeper, group_star_on, group_open_on, group_named_on, group_array_on, group_refused}
 use Rattle.sp_c_reader.proofs.+reader.Goals as goal
 
 pub declarators::read_type_name-returns-in_err-specifiers : goal.declarators::read_type_name-returns-in_err-specifiers
@@ -52,44 +52,6 @@ declarators::read_type_name-returns t c =
     let ss = c.in_ok-specifiers.specifiers.tree in
     let d = c.in_ok-part.part.tree in
     rw (fold-roll-TypeName, c.in_ok-part.ensures.1) (type_name_read g c.args.depth c.in_ok-specifiers.specifiers.depth c.in_ok-part.part.depth c.max.result c.args.tokens.now c.in_ok-specifiers.specifiers.rest.now c.in_ok-part.part.rest.now ss d c.requires.ended (type_name (specifiers_of ss.all.items) (declarator_of d.tree)) c.in_ok-specifiers.ensures (MatchResult-at_ok _ _ _ c.in_ok-part.ensures.0 c.read_declarator-next.ensures) c.max.ensures refl)
-
-pub declarators::read_declarator-returns-then-depth-lt2 : goal.declarators::read_declarator-returns-then-depth-lt2
-declarators::read_declarator-returns-then-depth-lt2 t c =
-    let g = there c.args.context.types.now c.args.context.scope in
-    let f = form_seen c.args.form in
-    let x = c.next_token.result.0 in
-    let is = star_is (view g.types (sort_of x.kind)) (sym (c.is_mark.ensures ∙ ap (λ s. is_mark sorts_there.star s) c.sort_at.ensures) ∙ c.if-is_mark.true) in
-    (first_deep g (grammar.declarator f) c.args.tokens.now c.next_token.result.1.now x (sorts_there.mark sorts_there.star) c.next_token.ensures (sym is) c.args.depth (λ y. pointer_plan g (grammar.declarator f) (λ d. d) f (terminal x)) refl (omega arith), c.requires.ended)
-
-pub declarators::read_declarator-returns-then-is_mark : goal.declarators::read_declarator-returns-then-is_mark
-declarators::read_declarator-returns-then-is_mark t c =
-    let g = there c.args.context.types.now c.args.context.scope in
-    let f = form_seen c.args.form in
-    let x = c.next_token.result.0 in
-    let xs = c.next_token.result.1.now in
-    let is = star_is (view g.types (sort_of x.kind)) (sym (c.is_mark.ensures ∙ ap (λ s. is_mark sorts_there.star s) c.sort_at.ensures) ∙ c.if-is_mark.true) in
-    let shorter : length c.args.tokens.now ≡ length (x ∷ xs) = ap length c.next_token.ensures in
-    pointer_result g (grammar.declarator f) (λ d. d) f x c.args.depth c.args.tokens.now xs (star_on g c.args.tokens.now xs x c.next_token.ensures f (sym is)) c.requires.room (λ a. refl) refl (omega (arith, shorter)) c.read_pointer.result c.read_pointer.ensures
-
-pub declarators::read_declarator-returns-in_err-head : goal.declarators::read_declarator-returns-in_err-head
-declarators::read_declarator-returns-in_err-head t c =
-    let p = err_from_is_err_and c.from_residual.result c.from_residual.ensures.1 in
-    let g = there c.args.context.types.now c.args.context.scope in
-    let f = form_seen c.args.form in
-    let x = c.next_token.result.0 in
-    let other = sym (c.is_mark.ensures ∙ ap (λ s. is_mark sorts_there.star s) c.sort_at.ensures) ∙ c.if-is_mark.false in
-    rw (p.1, p.2) (stop_part g g g (grammar.declarator f) (grammar.declarator f) (grammar.direct f) (λ a. a) (λ d. get g (grammar.declarator_suffixes d) (λ v. done v)) c.args.depth c.args.depth c.args.tokens.now c.args.tokens.now (direct_on g c.args.tokens.now c.next_token.result.1.now x c.next_token.ensures f other) (omega arith) c.in_err-head.field-0.0 c.in_err-head.ensures)
-
-pub declarators::read_declarator-returns : goal.declarators::read_declarator-returns
-declarators::read_declarator-returns t c =
-    let g = there c.args.context.types.now c.args.context.scope in
-    let f = form_seen c.args.form in
-    let x = c.next_token.result.0 in
-    let h = c.in_ok-head.ensures in
-    let head = declared_seen c.in_ok-head.head.tree h.pending in
-    let other = sym (c.is_mark.ensures ∙ ap (λ s. is_mark sorts_there.star s) c.sort_at.ensures) ∙ c.if-is_mark.false in
-    let on = direct_on g c.args.tokens.now c.next_token.result.1.now x c.next_token.ensures f other in
-    declared_before g (grammar.declarator f) (grammar.declarator_suffixes head) (λ v. v) (λ v. v) c.args.depth c.args.tokens.now c.in_ok-head.head.rest.now (last (got on h.read.reads)) (λ a. refl) (omega (arith, h.read.fewer)) c.read_declarator_suffixes.result (c.read_declarator_suffixes.ensures h.pending h.settled h.named)
 
 pub declarators::read_pointer-returns-in_err-inner : goal.declarators::read_pointer-returns-in_err-inner
 declarators::read_pointer-returns-in_err-inner t c =
@@ -123,50 +85,6 @@ declarators::read_pointer-returns t c =
       deeper = refl;
       fewer = q.fewer;
     }
-
-pub declarators::read_direct-returns-then-depth-lt2 : goal.declarators::read_direct-returns-then-depth-lt2
-declarators::read_direct-returns-then-depth-lt2 t c =
-    let g = there c.args.context.types.now c.args.context.scope in
-    let f = form_seen c.args.form in
-    let x = c.next_token.result.0 in
-    let is = opening_is (view g.types (sort_of x.kind)) (sym (c.is_mark.ensures ∙ ap (λ s. is_mark sorts_there.opening s) c.sort_at-sort.ensures) ∙ c.if-is_mark.true) in
-    (first_deep g (grammar.direct f) c.args.tokens.now c.next_token.result.1.now x (sorts_there.mark sorts_there.opening) c.next_token.ensures (sym is) c.args.depth (λ y. get g (grammar.behind_group f (terminal x)) (λ d. done d)) (direct_begins_open g f (terminal x)) (omega arith), c.requires.ended)
-
-pub declarators::read_direct-returns-then-is_mark : goal.declarators::read_direct-returns-then-is_mark
-declarators::read_direct-returns-then-is_mark t c =
-    let g = there c.args.context.types.now c.args.context.scope in
-    let f = form_seen c.args.form in
-    let x = c.next_token.result.0 in
-    let xs = c.next_token.result.1.now in
-    let is = opening_is (view g.types (sort_of x.kind)) (sym (c.is_mark.ensures ∙ ap (λ s. is_mark sorts_there.opening s) c.sort_at-sort.ensures) ∙ c.if-is_mark.true) in
-    let shorter : length c.args.tokens.now ≡ length (x ∷ xs) = ap length c.next_token.ensures in
-    declared_before g (grammar.direct f) (grammar.behind_group f (terminal x)) (λ v. v) (λ v. v) c.args.depth c.args.tokens.now xs (last (direct_group_on g f c.args.tokens.now xs x c.next_token.ensures (sym is))) (λ a. refl) (omega (arith, shorter)) c.read_declarator_after_paren.result c.read_declarator_after_paren.ensures
-
-pub declarators::read_direct-returns-in-Some : goal.declarators::read_direct-returns-in-Some
-declarators::read_direct-returns-in-Some t c =
-    let g = there c.args.context.types.now c.args.context.scope in
-    let f = form_seen c.args.form in
-    let x = c.next_token.result.0 in
-    let is = sym (c.head_name.ensures ∙ ap (λ s. head_name f s) c.sort_at-sort.ensures) ∙ c.in-Some.is in
-    named_read g f c.args.tokens.now c.next_token.result.1.now x c.next_token.ensures c.args.depth c.in-Some.name c.named.result is c.named.ensures c.requires.room c.requires.ended
-
-pub declarators::read_direct-returns-then-is_concrete : goal.declarators::read_direct-returns-then-is_concrete
-declarators::read_direct-returns-then-is_concrete t c =
-    let types = c.args.context.types.now in
-    let f = form_seen c.args.form in
-    let x = c.next_token.result.0 in
-    let other = sym (c.is_mark.ensures ∙ ap (λ s. is_mark sorts_there.opening s) c.sort_at-sort.ensures) ∙ c.if-is_mark.false in
-    let none = none_named f c.head_name.result (view types (sort_of x.kind)) (c.head_name.ensures ∙ ap (λ s. head_name f s) c.sort_at-sort.ensures) c.in_default.not-Some in
-    concrete_refused types c.args.context.scope f c.args.depth c.args.tokens.now c.next_token.result.1.now x c.next_token.ensures (sym c.is_concrete.ensures ∙ c.if-is_concrete.true) other none c.requires.ended c.fault.result c.fault.ensures
-
-pub declarators::read_direct-returns : goal.declarators::read_direct-returns
-declarators::read_direct-returns t c =
-    let g = there c.args.context.types.now c.args.context.scope in
-    let f = form_seen c.args.form in
-    let x = c.next_token.result.0 in
-    let other = sym (c.is_mark.ensures ∙ ap (λ s. is_mark sorts_there.opening s) c.sort_at-sort.ensures) ∙ c.if-is_mark.false in
-    let none = none_named f c.head_name.result (view g.types (sort_of x.kind)) (c.head_name.ensures ∙ ap (λ s. head_name f s) c.sort_at-sort.ensures) c.in_default.not-Some in
-    absent_read g f c.args.tokens.now c.next_token.result.1.now x c.next_token.ensures c.args.depth c.absent.result c.absent.ensures (sym c.is_concrete.ensures ∙ c.if-is_concrete.false) other none c.requires.room c.requires.ended
 
 pub declarators::read_declarator_after_paren-returns-in_err-parameters : goal.declarators::read_declarator_after_paren-returns-in_err-parameters
 declarators::read_declarator_after_paren-returns-in_err-parameters t c =
@@ -409,12 +327,6 @@ declarators::read_declarator_suffixes-returns t c =
       read = built g (grammar.declarator_suffixes (declared_seen c.args.head pending)) c.args.depth part.depth c.args.tokens.now part.rest.now now now (parts_read g (declared_seen c.args.head pending) now c.args.tokens.now part.rest.now c.next_token.result.1.now x s.step c.next_token.ensures other) refl (settled_deep (first_place part.rest.now) (declarator_of part.tree.tree) s.pending part.depth i.deep s.settled) i.shallow i.ended (omega (arith, i.fewer));
     }
 
-pub declarators::read_declarator-read_declarator_suffixes-requires : goal.declarators::read_declarator-read_declarator_suffixes-requires
-declarators::read_declarator-read_declarator_suffixes-requires t c =
-    let h = c.in_ok-head.ensures in
-    let deep = declared_deep (first_place c.in_ok-head.head.rest.now) (declarator_of c.in_ok-head.head.tree.tree) h.pending c.in_ok-head.head.depth h.settled h.read.deep in
-    (first_of (omega (arith, h.read.fewer), search rules, grind (arith, h.read.fewer)), (h.read.ended, (deep, (h.read.shallow, record { pending = h.pending; settled = h.settled; named = h.named }))))
-
 pub declarators::read_group-read_declarator_suffixes-requires : goal.declarators::read_group-read_declarator_suffixes-requires
 declarators::read_group-read_declarator_suffixes-requires t c =
     let h = c.in_ok-head.ensures in
@@ -445,3 +357,79 @@ declarators::read_group-read_declarator_suffixes-requires-then-begins_array t c 
     let shorter : length c.args.tokens.now ≡ length (x ∷ xs) = ap length c.next_token.ensures in
     let less : length a.mid ≡ length (a.closes.first ∷ part.rest.now) = ap length a.closes.whole in
     (first_of (omega (arith, a.read.fewer, shorter, less), search rules), (a.closes.ended, (array_deep g head part.tree c.args.depth part.depth xs part.rest.now a, (a.shallow, pending_of part.tree (first_place part.rest.now) (array_settled g head part.tree c.args.depth part.depth xs part.rest.now a)))))
+
+pub declarators::read_declarator-returns-then-begins_inner : goal.declarators::read_declarator-returns-then-begins_inner
+declarators::read_declarator-returns-then-begins_inner t c =
+    let g = there c.args.context.types.now c.args.context.scope in
+    let f = form_seen c.args.form in
+    let x = c.next_token.result.0 in
+    let stands = sym (c.begins_inner.ensures ∙ ap (λ v. is_mark sorts_there.star v || is_mark sorts_there.opening v) c.sort_at-sort.ensures) ∙ c.if-begins_inner.true in
+    (inner_deep g f c.args.tokens.now c.next_token.result.1.now x c.next_token.ensures c.args.depth (omega arith) stands, c.requires.ended)
+
+pub declarators::read_declarator-returns-then-is_mark : goal.declarators::read_declarator-returns-then-is_mark
+declarators::read_declarator-returns-then-is_mark t c =
+    let g = there c.args.context.types.now c.args.context.scope in
+    let f = form_seen c.args.form in
+    let x = c.next_token.result.0 in
+    let xs = c.next_token.result.1.now in
+    let is = star_is (view g.types (sort_of x.kind)) (sym (c.is_mark.ensures ∙ ap (λ s. is_mark sorts_there.star s) c.sort_at-sort.ensures) ∙ c.if-is_mark.true) in
+    let shorter : length c.args.tokens.now ≡ length (x ∷ xs) = ap length c.next_token.ensures in
+    pointer_result g (grammar.declarator f) (λ d. d) f x c.args.depth c.args.tokens.now xs (star_on g c.args.tokens.now xs x c.next_token.ensures f (sym is)) c.requires.room (λ a. refl) refl (omega (arith, shorter)) c.read_pointer.result c.read_pointer.ensures
+
+pub declarators::read_declarator-returns-in_err-head : goal.declarators::read_declarator-returns-in_err-head
+declarators::read_declarator-returns-in_err-head t c =
+    let p = err_from_is_err_and c.from_residual.result c.from_residual.ensures.1 in
+    let g = there c.args.context.types.now c.args.context.scope in
+    let f = form_seen c.args.form in
+    let x = c.next_token.result.0 in
+    let is = opening_is (view g.types (sort_of x.kind)) (sym (c.is_mark-2.ensures ∙ ap (λ s. is_mark sorts_there.opening s) c.sort_at-sort.ensures) ∙ c.if-is_mark-2.true) in
+    rw (p.1, p.2) (open_stop g f c.args.tokens.now c.next_token.result.1.now x c.next_token.ensures c.args.depth (sym is) c.in_err-head.field-0.0 c.in_err-head.ensures)
+
+pub declarators::read_declarator-returns-then-is_mark-2 : goal.declarators::read_declarator-returns-then-is_mark-2
+declarators::read_declarator-returns-then-is_mark-2 t c =
+    let g = there c.args.context.types.now c.args.context.scope in
+    let f = form_seen c.args.form in
+    let x = c.next_token.result.0 in
+    let xs = c.next_token.result.1.now in
+    let h = c.in_ok-head.ensures in
+    let part = c.in_ok-head.head in
+    let head = declared_seen part.tree h.pending in
+    let is = opening_is (view g.types (sort_of x.kind)) (sym (c.is_mark-2.ensures ∙ ap (λ s. is_mark sorts_there.opening s) c.sort_at-sort.ensures) ∙ c.if-is_mark-2.true) in
+    let shorter : length c.args.tokens.now ≡ length (x ∷ xs) = ap length c.next_token.ensures in
+    declared_before g (grammar.declarator f) (grammar.declarator_suffixes head) (λ v. v) (λ v. v) c.args.depth c.args.tokens.now part.rest.now (open_suffixes g f c.args.tokens.now xs x c.next_token.ensures c.args.depth (sym is) head part.rest.now h.read.reads) (λ a. refl) (omega (arith, h.read.fewer, shorter)) c.read_declarator_suffixes.result (c.read_declarator_suffixes.ensures h.pending h.settled h.named)
+
+pub declarators::read_declarator-returns-in_err-head-2 : goal.declarators::read_declarator-returns-in_err-head-2
+declarators::read_declarator-returns-in_err-head-2 t c =
+    let p = err_from_is_err_and c.from_residual-in_err-head-2.result c.from_residual-in_err-head-2.ensures.1 in
+    let g = there c.args.context.types.now c.args.context.scope in
+    let f = form_seen c.args.form in
+    let x = c.next_token.result.0 in
+    let other = sym (c.is_mark.ensures ∙ ap (λ s. is_mark sorts_there.star s) c.sort_at-sort.ensures) ∙ c.if-is_mark.false in
+    rw (p.1, p.2) (stop_part g g g (grammar.declarator f) (grammar.declarator f) (grammar.direct f) (λ a. a) (λ d. get g (grammar.declarator_suffixes d) (λ v. done v)) c.args.depth c.args.depth c.args.tokens.now c.args.tokens.now (direct_on g c.args.tokens.now c.next_token.result.1.now x c.next_token.ensures f other) (omega arith) c.in_err-head-2.field-0.0 (c.in_err-head-2.ensures c.args.depth c.requires.room))
+
+pub declarators::read_declarator-returns : goal.declarators::read_declarator-returns
+declarators::read_declarator-returns t c =
+    let g = there c.args.context.types.now c.args.context.scope in
+    let f = form_seen c.args.form in
+    let x = c.next_token.result.0 in
+    let part = c.in_ok-head-2.head in
+    let h = c.in_ok-head-2.ensures c.args.depth c.requires.room in
+    let head = declared_seen part.tree h.pending in
+    let other = sym (c.is_mark.ensures ∙ ap (λ s. is_mark sorts_there.star s) c.sort_at-sort.ensures) ∙ c.if-is_mark.false in
+    let on = direct_on g c.args.tokens.now c.next_token.result.1.now x c.next_token.ensures f other in
+    declared_before g (grammar.declarator f) (grammar.declarator_suffixes head) (λ v. v) (λ v. v) c.args.depth c.args.tokens.now part.rest.now (last (got on h.read.reads)) (λ a. refl) (omega (arith, h.read.fewer)) c.read_declarator_suffixes-2.result (c.read_declarator_suffixes-2.ensures h.pending h.settled h.named)
+
+pub declarators::read_declarator-read_declarator_suffixes-requires : goal.declarators::read_declarator-read_declarator_suffixes-requires
+declarators::read_declarator-read_declarator_suffixes-requires t c =
+    let h = c.in_ok-head.ensures in
+    let part = c.in_ok-head.head in
+    let deep = declared_deep (first_place part.rest.now) (declarator_of part.tree.tree) h.pending part.depth h.settled h.read.deep in
+    let shorter : length c.args.tokens.now ≡ length (c.next_token.result.0 ∷ c.next_token.result.1.now) = ap length c.next_token.ensures in
+    (first_of (omega (arith, h.read.fewer, shorter), search rules, grind (arith, h.read.fewer)), (h.read.ended, (deep, (h.read.shallow, record { pending = h.pending; settled = h.settled; named = h.named }))))
+
+pub declarators::read_declarator-read_declarator_suffixes-requires-2 : goal.declarators::read_declarator-read_declarator_suffixes-requires-2
+declarators::read_declarator-read_declarator_suffixes-requires-2 t c =
+    let h = c.in_ok-head-2.ensures c.args.depth c.requires.room in
+    let part = c.in_ok-head-2.head in
+    let deep = declared_deep (first_place part.rest.now) (declarator_of part.tree.tree) h.pending part.depth h.settled h.read.deep in
+    (first_of (omega (arith, h.read.fewer), search rules, grind (arith, h.read.fewer)), (h.read.ended, (deep, (h.read.shallow, record { pending = h.pending; settled = h.settled; named = h.named }))))

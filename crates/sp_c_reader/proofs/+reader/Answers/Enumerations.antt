@@ -3,7 +3,7 @@ use Rattle.std.proofs.Common.{◌≡◌, ◌∷◌, ◌++◌, [], map, length, S
 use Rattle.std.proofs.lemmas.Result.{err_from_is_err_and, MatchResult-at_ok, MatchResult-at_err}
 use Rattle.sp_syntax.specs.View.{tree_of}
 use Rattle.sp_syntax.specs.Depth.{enumerators_depth}
-use Rattle.sp_grammar.specs.CTokens.{is_mark, view}
+use Rattle.sp_grammar.specs.CTokens.{is_mark, is_name, view}
 use Rattle.sp_grammar.specs.CTokens as sorts_there
 use Rattle.sp_grammar.specs.CTable as grammar
 use Rattle.sp_grammar.specs.Table.{done}
@@ -16,24 +16,21 @@ use Rattle.sp_c_tokens.specs.declared.scope.AlsoAllowed.TheVariants as purposes
 use Rattle.sp_c_tokens.specs.Codes.{sort_seen}
 use Rattle.sp_c_tokens.proofs.Viewing.{ended_other}
 use Rattle.sp_c_tokens.specs.Scopes.{there}
-use Rattle.sp_c_reader.specs.Reading.{IsStep}
-use Rattle.sp_c_reader.proofs.Steps.{begun, got, last, finished}
-use Rattle.sp_c_reader.proofs.Parts.{stop_part}
-use Rattle.sp_c_reader.proofs.ExpressionSteps.{built}
-use Rattle.sp_c_reader.proofs.Faulting.{stop_unread, result_before}
-use Rattle.sp_c_reader.specs.Declaring.{constant_seen}
-use Rattle.sp_c_reader.proofs.EnumeratorSteps.{enumerator_none, enumerator_of, name_no_end, value_step, value_plan, value_deep, name_number}
-use Rattle.sp_c_reader.proofs.ListSteps.{choice_ends, enumerators_on, enumerators_end, enumerators_more, map_more}
-use Rattle.sp_syntax.specs.declared.tree.DeclaratorForm.TheFolds.{fold-roll-Specifier, fold-roll-EnumSpec}
+use Rattle.sp_c_steps.specs.Reading.{IsStep}
+use Rattle.sp_c_steps.proofs.Steps.{begun, got, last, finished}
+use Rattle.sp_c_steps.proofs.Parts.{stop_part}
+use Rattle.sp_c_steps.proofs.ExpressionSteps.{built, read_before}
+use Rattle.sp_c_steps.proofs.Suffixes.{ended_name}
+use Rattle.sp_c_steps.proofs.Faulting.{stop_unread, result_before}
+use Rattle.sp_c_steps.specs.Declaring.{constant_seen}
+use Rattle.sp_c_steps.proofs.EnumeratorSteps.{enumerator_none, enumerator_of, name_no_end, value_step, value_plan, value_deep, name_number}
+use Rattle.sp_c_steps.proofs.ListSteps.{choice_ends, enumerators_on, enumerators_end, enumerators_more, map_more}
 use Rattle.sp_syntax.specs.Syntax.{enum_specifier, enum_spec}
-use Rattle.sp_syntax.specs.View.{specifier_of}
-use Rattle.sp_syntax.specs.declared.tree.Specifier.{Enum}
-use Rattle.sp_syntax.specs.declared.tree.Specifier.TheVariants.{rolls-Enum}
 use Rattle.sp_c_tokens.specs.Makers.{number_of, some_constants}
-use Rattle.sp_c_reader.specs.Declaring.{placed}
-use Rattle.sp_c_reader.proofs.Marks.{brace_is}
-use Rattle.sp_c_reader.proofs.ListSteps.{choice_taken}
-use Rattle.sp_c_reader.proofs.StructureSteps.{spec_at, enum_view, constants_seen, constants_result, enum_none, enum_tag_step, enum_brace_on, named_brace_on, named_alone}
+use Rattle.sp_c_steps.specs.Declaring.{placed}
+use Rattle.sp_c_steps.proofs.Marks.{brace_is}
+use Rattle.sp_c_steps.proofs.ListSteps.{choice_taken}
+use Rattle.sp_c_steps.proofs.StructureSteps.{spec_at, constants_result, enum_none, enum_tag_step, enum_brace_on, named_brace_on, named_alone}
 use Rattle.sp_c_reader.proofs.+reader.Goals as goal
 
 pub specifiers::read_enumerators-enumerators-init : goal.specifiers::read_enumerators-enumerators-init
@@ -140,66 +137,6 @@ specifiers::read_enumeration-returns-in_default t c =
     let other = sym (c.is_mark.ensures ∙ ap (λ s. is_mark sorts_there.brace s) c.sort_at.ensures) ∙ c.if-is_mark.false in
     stop_unread types c.args.context.scope purposes.Nothing (grammar.behind_enum y) (grammar.behind_enum y) (λ a. a) c.args.depth c.args.tokens.now c.args.tokens.now c.next_token.result.1.now x (begun (grammar.at g (grammar.behind_enum y)) (c_tokens c.args.tokens.now)) c.next_token.ensures (enum_none types g y (terminal x) x.kind c.in_default.not-Name other) (λ v. refl) c.requires c.fault.result c.fault.ensures
 
-pub specifiers::read_enumeration-returns : goal.specifiers::read_enumeration-returns
-specifiers::read_enumeration-returns t c =
-    let g = there c.args.context.types.now c.args.context.scope in
-    let word = c.args.word in
-    let y = terminal word in
-    let x = c.next_token.result.0 in
-    let xs = c.next_token.result.1.now in
-    let n = c.in-Name.tag in
-    let shorter : length c.args.tokens.now ≡ length (x ∷ xs) = ap length c.next_token.ensures in
-    result_before g (grammar.behind_enum y) (grammar.enum_body y (terminal x)) (λ v. v) (λ s. placed s word) c.args.depth c.args.tokens.now xs (enum_tag_step g y c.args.tokens.now xs x c.next_token.ensures n (sym c.in-Name.is)) (λ a. refl) (omega (arith, shorter)) c.read_named.result (c.read_named.ensures x (ap (λ k. number_of k) c.in-Name.is))
-
-pub specifiers::read_named-returns-then-is_mark : goal.specifiers::read_named-returns-then-is_mark
-specifiers::read_named-returns-then-is_mark t c =
-    let types = c.args.context.types.now in
-    let g = there types c.args.context.scope in
-    let word = c.args.word in
-    let y = terminal word in
-    let x = c.next_token.result.0 in
-    let xs = c.next_token.result.1.now in
-    let stands = sym (c.is_mark.ensures ∙ ap (λ s. is_mark sorts_there.brace s) c.sort_at.ensures) ∙ c.if-is_mark.true in
-    let shorter : length c.args.tokens.now ≡ length (x ∷ xs) = ap length c.next_token.ensures in
-    λ name same. constants_result types c.args.context.scope (grammar.enum_body y (terminal name)) (λ es. syntax_trees.enumeration y (Some (terminal name)) (Some es)) c.args.depth c.args.tokens.now xs (named_brace_on g y c.args.tokens.now xs x c.next_token.ensures (terminal name) stands) word (Some c.args.tag) (λ s. placed s word) (λ s es e. ap (λ v. spec_at v word.place) e ∙ ap (λ n. spec_at (enum_specifier (enum_spec (Some n) (some_constants (Some es)) word.place)) word.place) (sym same)) (λ es. refl) (omega (arith, shorter)) c.read_constants.result c.read_constants.ensures
-
-pub specifiers::read_named-returns : goal.specifiers::read_named-returns
-specifiers::read_named-returns t c =
-    let g = there c.args.context.types.now c.args.context.scope in
-    let word = c.args.word in
-    let y = terminal word in
-    let x = c.next_token.result.0 in
-    let other = sym (c.is_mark.ensures ∙ ap (λ s. is_mark sorts_there.brace s) c.sort_at.ensures) ∙ c.if-is_mark.false in
-    let makes : specifier_of (Enum c.in_ok-new.field-0) ≡ enum_specifier (enum_spec (Some c.args.tag) (some_constants None) word.place) = rw (sym (rolls-Enum c.in_ok-new.field-0)) (rw fold-roll-Specifier (rw (c.in_ok-new.ensures.ok, fold-roll-EnumSpec) refl)) in
-    λ name same.
-    let made = syntax_trees.enumeration y (Some (terminal name)) None in
-    built g (grammar.enum_body y (terminal name)) c.args.depth 0 c.args.tokens.now c.args.tokens.now made (spec_at (specifier_of (Enum c.in_ok-new.field-0)) word.place) (finished (named_alone g y c.args.tokens.now c.next_token.result.1.now x c.next_token.ensures (terminal name) other)) (ap (λ v. spec_at v word.place) makes ∙ ap (λ n. spec_at (enum_specifier (enum_spec (Some n) (some_constants None) word.place)) word.place) (sym same)) refl (omega arith) c.requires (omega arith)
-
-pub specifiers::read_constants-returns : goal.specifiers::read_constants-returns
-specifiers::read_constants-returns t c =
-    let first = c.in_ok-first in
-    let constants = c.in_ok-constants.constants in
-    let h = c.in_ok-constants.ensures in
-    let closes = (MatchResult-at_ok _ _ _ c.in_ok-rest.ensures.0 c.expect-next.ensures) in
-    let items = constants.tree.items in
-    let whole : specifier_of (Enum c.in_ok-new.field-0) ≡ enum_specifier (enum_view c.in_ok-new.field-0.value) = rw (sym (rolls-Enum c.in_ok-new.field-0)) (rw fold-roll-Specifier refl) in
-    let rolled = rw (c.in_ok-rest.ensures.1, fold-roll-EnumSpec) at (ap (λ v. enum_view v) c.in_ok-new.ensures.ok) in
-    let seen = constants_seen _ items c.args.tag c.args.word.place (enum_view c.in_ok-new.field-0.value) rolled (λ n p. refl) (λ n p e. refl) in
-    let less : length constants.rest.now ≡ length (closes.first ∷ c.in_ok-rest.rest.now) = ap length closes.whole in
-    record {
-      first = constant_seen first.first.tree;
-      mid = first.first.rest.now;
-      one = first.ensures.reads;
-      all = map constant_seen items;
-      last = constants.rest.now;
-      more = h.reads;
-      closes = closes;
-      makes = whole ∙ ap (λ v. enum_specifier v) seen;
-      deeper = h.deep;
-      shallow = h.shallow;
-      fewer = omega (arith, first.ensures.fewer, h.fewer, less);
-    }
-
 pub specifiers::read_enumerator-returns-then-depth-lt1 : goal.specifiers::read_enumerator-returns-then-depth-lt1
 specifiers::read_enumerator-returns-then-depth-lt1 t c =
     let types = c.args.context.types.now in
@@ -240,3 +177,64 @@ specifiers::read_enumerator-returns t c =
     let shorter : length c.args.tokens.now ≡ length (x ∷ rest) = ap length c.next_token.ensures in
     let less : length rest ≡ length (y ∷ ys) = ap length c.next_token-2.ensures in
     built g grammar.enumerator c.args.depth value.depth c.args.tokens.now value.rest.now (syntax_trees.enumerator (terminal x) (Some (tree_of value.tree.tree))) (enumerator_of c.in-Name.name x.place (Some (tree_of value.tree.tree))) (finished (got on h.reads)) same h.deep h.shallow h.ended (omega (arith, h.fewer, shorter, less))
+
+pub specifiers::read_enumeration-returns-then-is_mark-2 : goal.specifiers::read_enumeration-returns-then-is_mark-2
+specifiers::read_enumeration-returns-then-is_mark-2 t c =
+    let types = c.args.context.types.now in
+    let g = there types c.args.context.scope in
+    let word = c.args.word in
+    let y = terminal word in
+    let x = c.next_token.result.0 in
+    let xs = c.next_token.result.1.now in
+    let b = c.next_token-2.result.0 in
+    let bs = c.next_token-2.result.1.now in
+    let same = ap (λ k. number_of k) c.in-Name.is in
+    let step = enum_tag_step g y c.args.tokens.now xs x c.next_token.ensures c.in-Name.tag (sym c.in-Name.is) in
+    let shorter : length c.args.tokens.now ≡ length (x ∷ xs) = ap length c.next_token.ensures in
+    let less : length xs ≡ length (b ∷ bs) = ap length c.next_token-2.ensures in
+    let stands = sym (c.is_mark-2.ensures ∙ ap (λ s. is_mark sorts_there.brace s) c.sort_at-2.ensures) ∙ c.if-is_mark-2.true in
+    result_before g (grammar.behind_enum y) (grammar.enum_body y (terminal x)) (λ v. v) (λ s. placed s word) c.args.depth c.args.tokens.now xs step (λ a. refl) (omega (arith, shorter)) c.read_constants-then-is_mark-2.result
+    (constants_result types c.args.context.scope (grammar.enum_body y (terminal x)) (λ es. syntax_trees.enumeration y (Some (terminal x)) (Some es)) c.args.depth xs bs (named_brace_on g y xs bs b c.next_token-2.ensures (terminal x) stands) word (Some c.in-Name.tag) (λ s. placed s word) (λ s es e. ap (λ v. spec_at v word.place) e ∙ ap (λ n. spec_at (enum_specifier (enum_spec (Some n) (some_constants (Some es)) word.place)) word.place) (sym same)) (λ es. refl) (omega (arith, less)) c.read_constants-then-is_mark-2.result c.read_constants-then-is_mark-2.ensures)
+
+pub specifiers::read_enumeration-returns : goal.specifiers::read_enumeration-returns
+specifiers::read_enumeration-returns t c =
+    let types = c.args.context.types.now in
+    let g = there types c.args.context.scope in
+    let word = c.args.word in
+    let y = terminal word in
+    let x = c.next_token.result.0 in
+    let xs = c.next_token.result.1.now in
+    let b = c.next_token-2.result.0 in
+    let bs = c.next_token-2.result.1.now in
+    let same = ap (λ k. number_of k) c.in-Name.is in
+    let step = enum_tag_step g y c.args.tokens.now xs x c.next_token.ensures c.in-Name.tag (sym c.in-Name.is) in
+    let shorter : length c.args.tokens.now ≡ length (x ∷ xs) = ap length c.next_token.ensures in
+    let less : length xs ≡ length (b ∷ bs) = ap length c.next_token-2.ensures in
+    let other = sym (c.is_mark-2.ensures ∙ ap (λ s. is_mark sorts_there.brace s) c.sort_at-2.ensures) ∙ c.if-is_mark-2.false in
+    let made = syntax_trees.enumeration y (Some (terminal x)) None in
+    let makes = ap (λ v. spec_at v word.place) c.in_ok-tagged_enumeration.ensures ∙ ap (λ n. spec_at (enum_specifier (enum_spec (Some n) (some_constants None) word.place)) word.place) (sym same) in
+    let ended = ended_name x xs (ap (λ k. is_name (sort_of k)) c.in-Name.is) (subst IsEnded c.next_token.ensures c.requires) in
+    read_before g (grammar.behind_enum y) (grammar.enum_body y (terminal x)) (λ v. v) c.args.depth 0 c.args.tokens.now xs xs (placed c.in_ok-tagged_enumeration.field-0 word) step
+    (built g (grammar.enum_body y (terminal x)) c.args.depth 0 xs xs made (placed c.in_ok-tagged_enumeration.field-0 word) (finished (named_alone g y xs bs b c.next_token-2.ensures (terminal x) other)) makes refl (omega arith) ended (omega arith)) refl (omega (arith, shorter))
+
+pub specifiers::read_constants-returns : goal.specifiers::read_constants-returns
+specifiers::read_constants-returns t c =
+    let first = c.in_ok-first in
+    let constants = c.in_ok-constants.constants in
+    let h = c.in_ok-constants.ensures in
+    let closes = MatchResult-at_ok _ _ _ c.in_ok-rest.ensures.0 c.expect-next.ensures in
+    let word = c.args.word in
+    let less : length constants.rest.now ≡ length (closes.first ∷ c.in_ok-rest.rest.now) = ap length closes.whole in
+    record {
+      first = constant_seen first.first.tree;
+      mid = first.first.rest.now;
+      one = first.ensures.reads;
+      all = map constant_seen constants.tree.items;
+      last = constants.rest.now;
+      more = h.reads;
+      closes = closes;
+      makes = c.in_ok-enumeration.ensures ∙ ap (λ v. enum_specifier (enum_spec c.args.tag (some_constants (Some (map constant_seen v.items))) word.place)) c.in_ok-rest.ensures.1;
+      deeper = h.deep;
+      shallow = h.shallow;
+      fewer = omega (arith, first.ensures.fewer, h.fewer, less);
+    }

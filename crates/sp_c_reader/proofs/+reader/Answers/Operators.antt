@@ -12,48 +12,17 @@ use Rattle.sp_grammar.specs.CTable.{stands_behind, get, operand}
 use Rattle.sp_grammar.specs.Table.{done}
 use Rattle.sp_c_tokens.specs.Sorts.{terminal, sort_of, c_tokens}
 use Rattle.sp_c_tokens.specs.SyntaxTrees.{syntax_trees}
-use Rattle.sp_c_tokens.proofs.Settled.{settle_type_depth}
 use Rattle.sp_c_tokens.specs.declared.scope.AlsoAllowed.TheVariants as purposes
 use Rattle.sp_c_tokens.specs.Scopes.{there}
-use Rattle.sp_c_reader.specs.Reading.{IsRead, IsStop, IsStep, operand_seen}
-use Rattle.sp_c_reader.proofs.Steps.{begun, got, last, finished}
-use Rattle.sp_c_reader.proofs.Parts.{stop_before, stop_part, stop_mark, on_mark}
-use Rattle.sp_c_reader.proofs.Marks.{opening_is}
-use Rattle.sp_c_reader.proofs.ExpressionSteps.{built, read_before, first_deep, level_on, level_stop, level_after, operator_binary}
-use Rattle.sp_c_reader.proofs.Casts.{cast_open, cast_unary}
-use Rattle.sp_c_reader.proofs.Operators.{after_ends, after_deep, after_on, comma_body, assign_body, choice_body, binary_body, choice_done, choice_colon, comma_plan, assign_plan, choice_plan, binary_deep}
-use Rattle.sp_c_reader.proofs.Parentheses.{cast_on, group_on, cast_operand, cast_closing, group_suffixes, group_closing, settled_at}
+use Rattle.sp_c_steps.specs.Reading.{IsStep, joined_tree, operand_seen}
+use Rattle.sp_c_steps.proofs.Steps.{begun, got, last, finished}
+use Rattle.sp_c_steps.proofs.Parts.{stop_before, stop_part, stop_mark, on_mark}
+use Rattle.sp_c_steps.proofs.Marks.{opening_is}
+use Rattle.sp_c_steps.proofs.ExpressionSteps.{built, read_before, first_deep, level_on, level_stop, level_after}
+use Rattle.sp_c_steps.proofs.Casts.{cast_unary, operand_read, cast_group_stop, cast_group_read, cast_type_stop, cast_unclosed, cast_operand_stop, cast_read}
+use Rattle.sp_c_steps.proofs.Operators.{after_ends, after_deep, after_on, assign_body, choice_body, joined_body, joined_plan, joined_depth, choice_done, choice_colon, assign_plan, choice_plan, binary_deep}
+use Rattle.sp_c_steps.proofs.Parentheses.{paren_stop, inner_stop, grouped_result}
 use Rattle.sp_c_reader.proofs.+reader.Goals as goal
-
-pub expressions::read_cast-returns-then-depth-lt2 : goal.expressions::read_cast-returns-then-depth-lt2
-expressions::read_cast-returns-then-depth-lt2 t c =
-    let g = there c.args.context.types.now c.args.context.scope in
-    let x = c.next_token.result.0 in
-    let is = opening_is (view g.types (sort_of x.kind)) (sym (c.is_mark.ensures ∙ ap (λ s. is_mark sorts_there.opening s) c.sort_at.ensures) ∙ c.if-is_mark.true) in
-    (first_deep g (grammar.level 0) c.args.tokens.now c.next_token.result.1.now x (sorts_there.mark sorts_there.opening) c.next_token.ensures (sym is) c.args.depth _ refl (omega arith), c.requires)
-
-pub expressions::read_cast-returns-then-is_mark : goal.expressions::read_cast-returns-then-is_mark
-expressions::read_cast-returns-then-is_mark t c =
-    let g = there c.args.context.types.now c.args.context.scope in
-    let x = c.next_token.result.0 in
-    let is = opening_is (view g.types (sort_of x.kind)) (sym (c.is_mark.ensures ∙ ap (λ s. is_mark sorts_there.opening s) c.sort_at.ensures) ∙ c.if-is_mark.true) in
-    cast_open c.args.context.types.now c.args.context.scope c.args.depth c.args.tokens.now c.next_token.result.1.now x c.next_token.ensures (sym is) c.read_after_paren.result c.read_after_paren.ensures
-
-pub expressions::read_cast-returns-in_err-part : goal.expressions::read_cast-returns-in_err-part
-expressions::read_cast-returns-in_err-part t c =
-    let p = err_from_is_err_and c.from_residual.result c.from_residual.ensures.1 in
-    let g = there c.args.context.types.now c.args.context.scope in
-    let x = c.next_token.result.0 in
-    let other = sym (c.is_mark.ensures ∙ ap (λ s. is_mark sorts_there.opening s) c.sort_at.ensures) ∙ c.if-is_mark.false in
-    rw (p.1, p.2) (stop_before g (grammar.level 0) grammar.unary (λ e. grammar.operand e true) c.args.depth c.args.tokens.now c.args.tokens.now (cast_unary g c.args.tokens.now c.next_token.result.1.now x c.next_token.ensures other) c.in_err-part.field-0.0 c.in_err-part.ensures)
-
-pub expressions::read_cast-returns : goal.expressions::read_cast-returns
-expressions::read_cast-returns t c =
-    let g = there c.args.context.types.now c.args.context.scope in
-    let x = c.next_token.result.0 in
-    let other = sym (c.is_mark.ensures ∙ ap (λ s. is_mark sorts_there.opening s) c.sort_at.ensures) ∙ c.if-is_mark.false in
-    let h = c.in_ok-part.ensures in
-    read_before g (grammar.level 0) grammar.unary (λ e. grammar.operand e true) c.args.depth c.in_ok-part.part.depth c.args.tokens.now c.args.tokens.now c.in_ok-part.part.rest.now (tree_of c.in_ok-part.part.tree) (cast_unary g c.args.tokens.now c.next_token.result.1.now x c.next_token.ensures other) h refl h.fewer
 
 pub expressions::read_level-returns-in_err-part : goal.expressions::read_level-returns-in_err-part
 expressions::read_level-returns-in_err-part t c =
@@ -101,8 +70,8 @@ expressions::read_operators-returns-in_err-right t c =
     let k = c.args.level in
     let now : grammar.Operand syntax_trees = record { tree = tree_of c.operators.tree; unary = c.operators.unary } in
     let stands = sym (c.continues_level.ensures ∙ ap (λ s. stands_behind k c.operators.unary s) c.sort_at.ensures) ∙ c.if-not-continues_level.false in
-    let on = after_on g k (operand_seen c.args.left) now c.args.tokens.now c.operators.rest.now xs x i.step c.next_token.ensures (binary_body g k now (terminal x)) stands (operator_binary g k now x (view g.types (sort_of x.kind)) c.requires.tightest c.requires.binary stands) in
-    rw (p.1, p.2) (stop_part g g g (grammar.after k (operand_seen c.args.left)) (grammar.after k now) (grammar.level (k - 1)) (λ o. o) (λ r. get g (grammar.after k (operand (syntax_trees.binary (terminal x) now.tree r.tree) false)) (λ o. done o)) c.args.depth (c.args.depth - 1) c.args.tokens.now xs on (omega arith) c.in_err-right.field-0.0 (MatchResult-at_err _ _ _ c.in_err-right.ensures c.read_level-next.ensures))
+    let on = after_on g k (operand_seen c.args.left) now c.args.tokens.now c.operators.rest.now xs x i.step c.next_token.ensures (joined_body g k now (terminal x)) stands (joined_plan g k now x c.requires.tightest c.requires.loosest i.not_assigning i.not_choosing stands) in
+    rw (p.1, p.2) (stop_part g g g (grammar.after k (operand_seen c.args.left)) (grammar.after k now) (grammar.level (k - 1)) (λ o. o) (λ r. get g (grammar.after k (operand (joined_tree k (terminal x) now.tree r.tree) false)) (λ o. done o)) c.args.depth (c.args.depth - 1) c.args.tokens.now xs on (omega arith) c.in_err-right.field-0.0 (MatchResult-at_err _ _ _ c.in_err-right.ensures c.read_level-next.ensures))
 
 pub expressions::read_operators-operators-preserved : goal.expressions::read_operators-operators-preserved
 expressions::read_operators-operators-preserved t c =
@@ -115,17 +84,19 @@ expressions::read_operators-operators-preserved t c =
     let r = operand_seen c.in_ok-right.right.tree in
     let first = operand_seen c.args.left in
     let now : grammar.Operand syntax_trees = record { tree = tree_of c.operators.tree; unary = c.operators.unary } in
-    let made = syntax_trees.binary (terminal x) now.tree r.tree in
+    let made = joined_tree k (terminal x) now.tree r.tree in
     let stands = sym (c.continues_level.ensures ∙ ap (λ s. stands_behind k c.operators.unary s) c.sort_at.ensures) ∙ c.if-not-continues_level.false in
-    let on = after_on g k first now c.args.tokens.now c.operators.rest.now xs x i.step c.next_token.ensures (binary_body g k now (terminal x)) stands (operator_binary g k now x (view g.types (sort_of x.kind)) c.requires.tightest c.requires.binary stands) in
-    let same : tree_of c.in_ok-tree.tree ≡ made = c.in_ok-tree.ensures ∙ ap (λ l. expression (binary c.punct_of-punct.result (tree_of l) r.tree) (place_of (tree_of l)) x.place) c.in_ok-right.ensures.1 ∙ ap (λ o. expression (binary o now.tree r.tree) (place_of now.tree) x.place) c.punct_of-punct.ensures in
+    let on = after_on g k first now c.args.tokens.now c.operators.rest.now xs x i.step c.next_token.ensures (joined_body g k now (terminal x)) stands (joined_plan g k now x c.requires.tightest c.requires.loosest i.not_assigning i.not_choosing stands) in
+    let same : tree_of c.in_ok-tree.tree ≡ made = c.in_ok-tree.ensures ∙ ap (λ l. joined_tree k (terminal x) (tree_of l) r.tree) c.in_ok-right.ensures.1 in
     let shorter : length c.operators.rest.now ≡ length (x ∷ xs) = ap length c.next_token.ensures in
     record {
       step = subst (λ v. IsStep g (grammar.after k first) (grammar.after k (record { tree = v; unary = false })) (λ a. a) c.args.tokens.now c.in_ok-right.right.rest.now) (sym same) (last (got on h.reads));
-      deep = binary_deep now.tree r.tree made (tree_of c.in_ok-tree.tree) c.operators.reached c.in_ok-right.right.depth c.max-reached.result i.deep h.deep c.max-reached.ensures refl same;
+      deep = binary_deep now.tree r.tree made (tree_of c.in_ok-tree.tree) c.operators.reached c.in_ok-right.right.depth c.max-reached.result i.deep h.deep c.max-reached.ensures (joined_depth k (terminal x) now.tree r.tree) same;
       shallow = omega (arith, h.shallow, c.max-reached.ensures, c.if-reached-depth.false);
       ended = h.ended;
       fewer = omega (arith, h.fewer, i.fewer, shorter);
+      not_assigning = i.not_assigning;
+      not_choosing = i.not_choosing;
       same_level = refl;
       same_depth = refl;
       same_types = refl;
@@ -140,62 +111,6 @@ expressions::read_operators-returns t c =
     let now : grammar.Operand syntax_trees = record { tree = tree_of c.operators.tree; unary = c.operators.unary } in
     let other = sym (c.continues_level.ensures ∙ ap (λ s. stands_behind c.args.level c.operators.unary s) c.sort_at.ensures) ∙ c.if-not-continues_level.true in
     after_ends g c.args.level (operand_seen c.args.left) now c.args.tokens.now c.operators.rest.now c.next_token.result.1.now x i.step c.next_token.ensures c.args.depth c.operators.reached other i.deep i.shallow i.ended i.fewer
-
-pub expressions::read_sequence-returns-then-reached-depth : goal.expressions::read_sequence-returns-then-reached-depth
-expressions::read_sequence-returns-then-reached-depth t c =
-    let g = there c.args.context.types.now c.args.context.scope in
-    let i = c.commas.invariant in
-    let x = c.next_token.result.0 in
-    let now : grammar.Operand syntax_trees = record { tree = tree_of c.commas.tree; unary = c.commas.unary } in
-    let stands = sym (c.continues_level.ensures ∙ ap (λ s. stands_behind 13 c.commas.unary s) c.sort_at.ensures) ∙ c.if-not-continues_level.false in
-    (after_deep g 13 (operand_seen c.args.left) now c.args.tokens.now c.commas.rest.now c.next_token.result.1.now x i.step c.next_token.ensures c.args.depth c.commas.reached stands i.deep c.if-reached-depth.true, i.ended)
-
-pub expressions::read_sequence-returns-in_err-right : goal.expressions::read_sequence-returns-in_err-right
-expressions::read_sequence-returns-in_err-right t c =
-    let p = err_from_is_err_and c.from_residual.result c.from_residual.ensures.1 in
-    let g = there c.args.context.types.now c.args.context.scope in
-    let i = c.commas.invariant in
-    let x = c.next_token.result.0 in
-    let xs = c.next_token.result.1.now in
-    let now : grammar.Operand syntax_trees = record { tree = tree_of c.commas.tree; unary = c.commas.unary } in
-    let stands = sym (c.continues_level.ensures ∙ ap (λ s. stands_behind 13 c.commas.unary s) c.sort_at.ensures) ∙ c.if-not-continues_level.false in
-    let on = after_on g 13 (operand_seen c.args.left) now c.args.tokens.now c.commas.rest.now xs x i.step c.next_token.ensures (comma_body g now (terminal x)) stands (comma_plan g now x stands) in
-    rw (p.1, p.2) (stop_part g g g (grammar.after 13 (operand_seen c.args.left)) (grammar.after 13 now) (grammar.level 12) (λ o. o) (λ r. get g (grammar.after 13 (operand (syntax_trees.sequence (terminal x) now.tree r.tree) false)) (λ o. done o)) c.args.depth (c.args.depth - 1) c.args.tokens.now xs on (omega arith) c.in_err-right.field-0.0 (MatchResult-at_err _ _ _ c.in_err-right.ensures c.read_level-next.ensures))
-
-pub expressions::read_sequence-commas-preserved : goal.expressions::read_sequence-commas-preserved
-expressions::read_sequence-commas-preserved t c =
-    let g = there c.args.context.types.now c.args.context.scope in
-    let i = c.commas.invariant in
-    let x = c.next_token.result.0 in
-    let xs = c.next_token.result.1.now in
-    let h = (MatchResult-at_ok _ _ _ c.in_ok-right.ensures.0 c.read_level-next.ensures) in
-    let r = operand_seen c.in_ok-right.right.tree in
-    let first = operand_seen c.args.left in
-    let now : grammar.Operand syntax_trees = record { tree = tree_of c.commas.tree; unary = c.commas.unary } in
-    let made = syntax_trees.sequence (terminal x) now.tree r.tree in
-    let stands = sym (c.continues_level.ensures ∙ ap (λ s. stands_behind 13 c.commas.unary s) c.sort_at.ensures) ∙ c.if-not-continues_level.false in
-    let on = after_on g 13 first now c.args.tokens.now c.commas.rest.now xs x i.step c.next_token.ensures (comma_body g now (terminal x)) stands (comma_plan g now x stands) in
-    let same : tree_of c.in_ok-tree.tree ≡ made = c.in_ok-tree.ensures ∙ ap (λ l. syntax_trees.sequence (terminal x) (tree_of l) r.tree) c.in_ok-right.ensures.1 in
-    let shorter : length c.commas.rest.now ≡ length (x ∷ xs) = ap length c.next_token.ensures in
-    record {
-      step = subst (λ v. IsStep g (grammar.after 13 first) (grammar.after 13 (record { tree = v; unary = false })) (λ a. a) c.args.tokens.now c.in_ok-right.right.rest.now) (sym same) (last (got on h.reads));
-      deep = binary_deep now.tree r.tree made (tree_of c.in_ok-tree.tree) c.commas.reached c.in_ok-right.right.depth c.max-reached.result i.deep h.deep c.max-reached.ensures refl same;
-      shallow = omega (arith, h.shallow, c.max-reached.ensures, c.if-reached-depth.false);
-      ended = h.ended;
-      fewer = omega (arith, h.fewer, i.fewer, shorter);
-      same_depth = refl;
-      same_types = refl;
-      same_scope = refl;
-    }
-
-pub expressions::read_sequence-returns : goal.expressions::read_sequence-returns
-expressions::read_sequence-returns t c =
-    let g = there c.args.context.types.now c.args.context.scope in
-    let i = c.commas.invariant in
-    let x = c.next_token.result.0 in
-    let now : grammar.Operand syntax_trees = record { tree = tree_of c.commas.tree; unary = c.commas.unary } in
-    let other = sym (c.continues_level.ensures ∙ ap (λ s. stands_behind 13 c.commas.unary s) c.sort_at.ensures) ∙ c.if-not-continues_level.true in
-    after_ends g 13 (operand_seen c.args.left) now c.args.tokens.now c.commas.rest.now c.next_token.result.1.now x i.step c.next_token.ensures c.args.depth c.commas.reached other i.deep i.shallow i.ended i.fewer
 
 pub expressions::read_assignment-returns-then-not-continues_level : goal.expressions::read_assignment-returns-then-not-continues_level
 expressions::read_assignment-returns-then-not-continues_level t c =
@@ -314,112 +229,118 @@ expressions::read_conditional-returns t c =
     let deep : 1 + c.max-2.result ≡ depth_of made = omega (arith, c.max-2.ensures, c.max.ensures, c.requires.deep, h.deep, w.deep) in
     built g (grammar.after 11 l) c.args.depth (1 + c.max-2.result) c.args.tokens.now c.in_ok-second.second.rest.now (operand made false) (operand (tree_of c.in_ok-tree.tree) false) (finished (got behind w.reads)) (ap (λ v. operand v false) same) deep (omega (arith, h.shallow, w.shallow, c.max.ensures, c.max-2.ensures, c.if-inner-depth.false)) w.ended (omega (arith, h.fewer, w.fewer, shorter, less))
 
-pub expressions::read_after_paren-returns-in_err-name : goal.expressions::read_after_paren-returns-in_err-name
-expressions::read_after_paren-returns-in_err-name t c =
+pub expressions::read_cast-returns-in_err-part : goal.expressions::read_cast-returns-in_err-part
+expressions::read_cast-returns-in_err-part t c =
     let p = err_from_is_err_and c.from_residual.result c.from_residual.ensures.1 in
     let g = there c.args.context.types.now c.args.context.scope in
     let x = c.next_token.result.0 in
-    let y = terminal c.args.opening in
-    let stands = sym (c.is_specifier.ensures ∙ ap (λ s. is_specifier s) c.sort_at.ensures) ∙ c.if-is_specifier.true in
-    rw (p.1, p.2) (stop_part g g g (grammar.behind_open y) (grammar.behind_open y) grammar.type_name (λ o. o) (cast_closing g y) c.args.depth (c.args.depth - 1) c.args.tokens.now c.args.tokens.now (cast_on g y c.args.tokens.now c.next_token.result.1.now x c.next_token.ensures stands) (omega arith) c.in_err-name.field-0.0 c.in_err-name.ensures)
+    let other = sym (c.is_mark.ensures ∙ ap (λ s. is_mark sorts_there.opening s) c.sort_at.ensures) ∙ c.if-not-is_mark.true in
+    rw (p.1, p.2) (stop_before g (grammar.level 0) grammar.unary (λ e. grammar.operand e true) c.args.depth c.args.tokens.now c.args.tokens.now (cast_unary g c.args.tokens.now c.next_token.result.1.now x c.next_token.ensures other) c.in_err-part.field-0.0 c.in_err-part.ensures)
 
-pub expressions::read_after_paren-returns-in_err-rest : goal.expressions::read_after_paren-returns-in_err-rest
-expressions::read_after_paren-returns-in_err-rest t c =
-    let p = err_from_is_err_and c.from_residual-in_err-rest.result c.from_residual-in_err-rest.ensures.1 in
-    let types = c.args.context.types.now in
-    let g = there types c.args.context.scope in
-    let x = c.next_token.result.0 in
-    let y = terminal c.args.opening in
-    let h = c.in_ok-name.ensures in
-    let stands = sym (c.is_specifier.ensures ∙ ap (λ s. is_specifier s) c.sort_at.ensures) ∙ c.if-is_specifier.true in
-    let on = cast_on g y c.args.tokens.now c.next_token.result.1.now x c.next_token.ensures stands in
-    rw (p.1, p.2) (stop_mark types c.args.context.scope g (grammar.behind_open y) (grammar.behind_open y) (λ o. o) sorts_there.closing c.in_ok-name.name.tree.behind (cast_operand g y h.pending) g c.args.depth c.args.tokens.now c.in_ok-name.name.rest.now (got on h.read.reads) h.read.ended c.in_err-rest.field-0.0 (MatchResult-at_err _ _ _ c.in_err-rest.ensures c.expect-next.ensures))
-
-pub expressions::read_after_paren-returns-in_err-operand : goal.expressions::read_after_paren-returns-in_err-operand
-expressions::read_after_paren-returns-in_err-operand t c =
-    let p = err_from_is_err_and c.from_residual-in_err-operand.result c.from_residual-in_err-operand.ensures.1 in
-    let types = c.args.context.types.now in
-    let g = there types c.args.context.scope in
-    let x = c.next_token.result.0 in
-    let y = terminal c.args.opening in
-    let h = c.in_ok-name.ensures in
-    let closes = (MatchResult-at_ok _ _ _ c.in_ok-rest.ensures.0 c.expect-next.ensures) in
-    let stands = sym (c.is_specifier.ensures ∙ ap (λ s. is_specifier s) c.sort_at.ensures) ∙ c.if-is_specifier.true in
-    let on = cast_on g y c.args.tokens.now c.next_token.result.1.now x c.next_token.ensures stands in
-    let behind = on_mark types c.args.context.scope g (grammar.behind_open y) (grammar.behind_open y) (λ o. o) sorts_there.closing c.in_ok-name.name.tree.behind (cast_operand g y h.pending) g c.args.tokens.now c.in_ok-name.name.rest.now c.in_ok-rest.rest.now (got on h.read.reads) closes in
-    rw (p.1, p.2) (stop_part g g g (grammar.behind_open y) (grammar.behind_open y) (grammar.level 0) (λ o. o) (λ o. done (operand (syntax_trees.cast y h.pending (terminal closes.first) o.tree) false)) c.args.depth (c.args.depth - 1) c.args.tokens.now c.in_ok-rest.rest.now behind (omega arith) c.in_err-operand.field-0.0 (MatchResult-at_err _ _ _ c.in_err-operand.ensures c.read_cast.ensures))
-
-pub expressions::read_after_paren-returns-then-is_specifier : goal.expressions::read_after_paren-returns-then-is_specifier
-expressions::read_after_paren-returns-then-is_specifier t c =
-    let types = c.args.context.types.now in
-    let g = there types c.args.context.scope in
-    let x = c.next_token.result.0 in
-    let y = terminal c.args.opening in
-    let h = c.in_ok-name.ensures in
-    let w = (MatchResult-at_ok _ _ _ c.in_ok-operand.ensures.0 c.read_cast.ensures) in
-    let closes = (MatchResult-at_ok _ _ _ c.in_ok-rest.ensures.0 c.expect-next.ensures) in
-    let e = tree_of c.in_ok-operand.operand.tree.tree in
-    let made = syntax_trees.cast y h.pending (terminal closes.first) e in
-    let stands = sym (c.is_specifier.ensures ∙ ap (λ s. is_specifier s) c.sort_at.ensures) ∙ c.if-is_specifier.true in
-    let on = cast_on g y c.args.tokens.now c.next_token.result.1.now x c.next_token.ensures stands in
-    let behind = on_mark types c.args.context.scope g (grammar.behind_open y) (grammar.behind_open y) (λ o. o) sorts_there.closing c.in_ok-name.name.tree.behind (cast_operand g y h.pending) g c.args.tokens.now c.in_ok-name.name.rest.now c.in_ok-rest.rest.now (got on h.read.reads) closes in
-    let settled = settled_at c.in_ok-name.name.rest.now c.in_ok-rest.rest.now (type_name_of c.in_ok-name.name.tree.tree) h.pending closes.first h.settled closes.whole in
-    let same : tree_of c.in_ok-tree.tree ≡ made = c.in_ok-tree.ensures ∙ ap (λ n. expression (cast (type_name_of n) e) c.args.opening.place c.args.opening.place) (c.in_ok-operand.ensures.1 ∙ c.in_ok-rest.ensures.1) ∙ ap (λ n. expression (cast n e) c.args.opening.place c.args.opening.place) settled in
-    let less : length c.in_ok-name.name.rest.now ≡ length (closes.first ∷ c.in_ok-rest.rest.now) = ap length closes.whole in
-    let deep : 1 + c.max.result ≡ depth_of made = omega (arith, c.max.ensures, h.read.deep, w.deep, settle_type_depth closes.first.place h.pending) in
-    built g (grammar.behind_open y) c.args.depth (1 + c.max.result) c.args.tokens.now c.in_ok-operand.operand.rest.now (operand made false) (operand (tree_of c.in_ok-tree.tree) false) (finished (got behind w.reads)) (ap (λ v. operand v false) same) deep (omega (arith, h.read.shallow, w.shallow, c.max.ensures, c.requires.room)) w.ended (omega (arith, h.read.fewer, w.fewer, less))
-
-pub expressions::read_after_paren-returns-in_err-inner : goal.expressions::read_after_paren-returns-in_err-inner
-expressions::read_after_paren-returns-in_err-inner t c =
-    let p = err_from_is_err_and c.from_residual-in_err-inner.result c.from_residual-in_err-inner.ensures.1 in
+pub expressions::read_cast-returns-then-not-is_mark : goal.expressions::read_cast-returns-then-not-is_mark
+expressions::read_cast-returns-then-not-is_mark t c =
     let g = there c.args.context.types.now c.args.context.scope in
     let x = c.next_token.result.0 in
-    let y = terminal c.args.opening in
-    let other = sym (c.is_specifier.ensures ∙ ap (λ s. is_specifier s) c.sort_at.ensures) ∙ c.if-is_specifier.false in
-    rw (p.1, p.2) (stop_part g g g (grammar.behind_open y) (grammar.behind_open y) (grammar.level 13) (λ o. o) (group_closing g y) c.args.depth (c.args.depth - 1) c.args.tokens.now c.args.tokens.now (group_on g y c.args.tokens.now c.next_token.result.1.now x c.next_token.ensures other) (omega arith) c.in_err-inner.field-0.0 c.in_err-inner.ensures)
+    let part = c.in_ok-part.part in
+    let now = c.as_operand.result in
+    let other = sym (c.is_mark.ensures ∙ ap (λ s. is_mark sorts_there.opening s) c.sort_at.ensures) ∙ c.if-not-is_mark.true in
+    let h = c.in_ok-part.ensures in
+    operand_read g c.args.depth part.depth now.depth c.args.tokens.now part.rest.now now.rest.now (operand (tree_of part.tree) true) (operand_seen now.tree) c.as_operand.ensures.tree c.as_operand.ensures.depth c.as_operand.ensures.rest
+    (read_before g (grammar.level 0) grammar.unary (λ e. operand e true) c.args.depth part.depth c.args.tokens.now c.args.tokens.now part.rest.now (tree_of part.tree) (cast_unary g c.args.tokens.now c.next_token.result.1.now x c.next_token.ensures other) h refl h.fewer)
 
-pub expressions::read_after_paren-returns-in_err-rest-2 : goal.expressions::read_after_paren-returns-in_err-rest-2
-expressions::read_after_paren-returns-in_err-rest-2 t c =
-    let p = err_from_is_err_and c.from_residual-in_err-rest-2.result c.from_residual-in_err-rest-2.ensures.1 in
+pub expressions::read_cast-returns-then-depth-lt2 : goal.expressions::read_cast-returns-then-depth-lt2
+expressions::read_cast-returns-then-depth-lt2 t c =
+    let g = there c.args.context.types.now c.args.context.scope in
+    let x = c.next_token.result.0 in
+    let is = opening_is (view g.types (sort_of x.kind)) (sym (c.is_mark.ensures ∙ ap (λ s. is_mark sorts_there.opening s) c.sort_at.ensures) ∙ c.if-not-is_mark.false) in
+    (first_deep g (grammar.level 0) c.args.tokens.now c.next_token.result.1.now x (sorts_there.mark sorts_there.opening) c.next_token.ensures (sym is) c.args.depth _ refl (omega arith), c.requires)
+
+pub expressions::read_cast-returns-in_err-part-2 : goal.expressions::read_cast-returns-in_err-part-2
+expressions::read_cast-returns-in_err-part-2 t c =
+    let p = err_from_is_err_and c.from_residual-in_err-part-2.result c.from_residual-in_err-part-2.ensures.1 in
+    let types = c.args.context.types.now in
+    let y = c.next_token.result.0 in
+    let is = opening_is (view types (sort_of y.kind)) (sym (c.is_mark.ensures ∙ ap (λ s. is_mark sorts_there.opening s) c.sort_at.ensures) ∙ c.if-not-is_mark.false) in
+    let other = sym (c.is_specifier.ensures ∙ ap (λ s. is_specifier s) c.sort_at-2.ensures) ∙ c.if-not-is_specifier.true in
+    rw (p.1, p.2) (cast_group_stop types c.args.context.scope c.args.depth c.args.tokens.now c.next_token.result.1.now c.next_token-2.result.1.now y c.next_token-2.result.0 c.next_token.ensures (sym is) c.next_token-2.ensures other c.in_err-part-2.field-0.0 c.in_err-part-2.ensures)
+
+pub expressions::read_cast-returns-then-not-is_specifier : goal.expressions::read_cast-returns-then-not-is_specifier
+expressions::read_cast-returns-then-not-is_specifier t c =
     let types = c.args.context.types.now in
     let g = there types c.args.context.scope in
-    let x = c.next_token.result.0 in
-    let y = terminal c.args.opening in
-    let h = c.in_ok-inner.ensures in
-    let e = tree_of c.in_ok-inner.inner.tree.tree in
-    let other = sym (c.is_specifier.ensures ∙ ap (λ s. is_specifier s) c.sort_at.ensures) ∙ c.if-is_specifier.false in
-    let on = group_on g y c.args.tokens.now c.next_token.result.1.now x c.next_token.ensures other in
-    rw (p.1, p.2) (stop_mark types c.args.context.scope g (grammar.behind_open y) (grammar.behind_open y) (λ o. o) sorts_there.closing purposes.Nothing (group_suffixes g y e) g c.args.depth c.args.tokens.now c.in_ok-inner.inner.rest.now (got on h.reads) h.ended c.in_err-rest-2.field-0.0 (MatchResult-at_err _ _ _ c.in_err-rest-2.ensures c.expect-next-2.ensures))
+    let y = c.next_token.result.0 in
+    let part = c.in_ok-part-2.part in
+    let now = c.as_operand-then-not-is_specifier.result in
+    let is = opening_is (view types (sort_of y.kind)) (sym (c.is_mark.ensures ∙ ap (λ s. is_mark sorts_there.opening s) c.sort_at.ensures) ∙ c.if-not-is_mark.false) in
+    let other = sym (c.is_specifier.ensures ∙ ap (λ s. is_specifier s) c.sort_at-2.ensures) ∙ c.if-not-is_specifier.true in
+    operand_read g c.args.depth part.depth now.depth c.args.tokens.now part.rest.now now.rest.now (operand (tree_of part.tree) true) (operand_seen now.tree) c.as_operand-then-not-is_specifier.ensures.tree c.as_operand-then-not-is_specifier.ensures.depth c.as_operand-then-not-is_specifier.ensures.rest
+    (cast_group_read types c.args.context.scope c.args.depth c.args.tokens.now c.next_token.result.1.now c.next_token-2.result.1.now y c.next_token-2.result.0 c.next_token.ensures (sym is) c.next_token-2.ensures other (tree_of part.tree) part.depth part.rest.now c.in_ok-part-2.ensures)
 
-pub expressions::read_after_paren-returns-in_err-part : goal.expressions::read_after_paren-returns-in_err-part
-expressions::read_after_paren-returns-in_err-part t c =
-    let p = err_from_is_err_and c.from_residual-in_err-part.result c.from_residual-in_err-part.ensures.1 in
+pub expressions::read_cast-returns-in_err-name : goal.expressions::read_cast-returns-in_err-name
+expressions::read_cast-returns-in_err-name t c =
+    let p = err_from_is_err_and c.from_residual-in_err-name.result c.from_residual-in_err-name.ensures.1 in
     let types = c.args.context.types.now in
-    let g = there types c.args.context.scope in
-    let x = c.next_token.result.0 in
-    let y = terminal c.args.opening in
-    let h = c.in_ok-inner.ensures in
-    let closes = (MatchResult-at_ok _ _ _ c.in_ok-rest-2.ensures.0 c.expect-next-2.ensures) in
-    let e = tree_of c.in_ok-inner.inner.tree.tree in
-    let other = sym (c.is_specifier.ensures ∙ ap (λ s. is_specifier s) c.sort_at.ensures) ∙ c.if-is_specifier.false in
-    let on = group_on g y c.args.tokens.now c.next_token.result.1.now x c.next_token.ensures other in
-    let behind = on_mark types c.args.context.scope g (grammar.behind_open y) (grammar.behind_open y) (λ o. o) sorts_there.closing purposes.Nothing (group_suffixes g y e) g c.args.tokens.now c.in_ok-inner.inner.rest.now c.in_ok-rest-2.rest.now (got on h.reads) closes in
-    let stop = subst (λ v. IsStop g (grammar.suffixes v) c.args.depth c.in_ok-rest-2.rest.now c.in_err-part.field-0.0) (c.in_ok-group.ensures ∙ ap (λ v. syntax_trees.paren y (tree_of v)) c.in_ok-rest-2.ensures.1) c.in_err-part.ensures in
-    rw (p.1, p.2) (stop_part g g g (grammar.behind_open y) (grammar.behind_open y) (grammar.suffixes (syntax_trees.paren y e)) (λ o. o) (λ f. done (operand f true)) c.args.depth c.args.depth c.args.tokens.now c.in_ok-rest-2.rest.now behind (omega arith) c.in_err-part.field-0.0 stop)
+    let y = c.next_token.result.0 in
+    let is = opening_is (view types (sort_of y.kind)) (sym (c.is_mark.ensures ∙ ap (λ s. is_mark sorts_there.opening s) c.sort_at.ensures) ∙ c.if-not-is_mark.false) in
+    let stands = sym (c.is_specifier.ensures ∙ ap (λ s. is_specifier s) c.sort_at-2.ensures) ∙ c.if-not-is_specifier.false in
+    rw (p.1, p.2) (cast_type_stop types c.args.context.scope c.args.depth c.args.tokens.now c.next_token.result.1.now c.next_token-2.result.1.now y c.next_token-2.result.0 c.next_token.ensures (sym is) c.next_token-2.ensures stands (omega arith) c.in_err-name.field-0.0 c.in_err-name.ensures)
 
-pub expressions::read_after_paren-returns : goal.expressions::read_after_paren-returns
-expressions::read_after_paren-returns t c =
+pub expressions::read_cast-returns-in_err-rest : goal.expressions::read_cast-returns-in_err-rest
+expressions::read_cast-returns-in_err-rest t c =
+    let p = err_from_is_err_and c.from_residual-in_err-rest.result c.from_residual-in_err-rest.ensures.1 in
     let types = c.args.context.types.now in
-    let g = there types c.args.context.scope in
-    let x = c.next_token.result.0 in
-    let y = terminal c.args.opening in
+    let y = c.next_token.result.0 in
+    let name = c.in_ok-name.name in
+    let is = opening_is (view types (sort_of y.kind)) (sym (c.is_mark.ensures ∙ ap (λ s. is_mark sorts_there.opening s) c.sort_at.ensures) ∙ c.if-not-is_mark.false) in
+    let stands = sym (c.is_specifier.ensures ∙ ap (λ s. is_specifier s) c.sort_at-2.ensures) ∙ c.if-not-is_specifier.false in
+    rw (p.1, p.2) (cast_unclosed types c.args.context.scope c.args.depth c.args.tokens.now c.next_token.result.1.now c.next_token-2.result.1.now y c.next_token-2.result.0 c.next_token.ensures (sym is) c.next_token-2.ensures stands (omega arith) (type_name_of name.tree.tree) name.tree.behind name.depth name.rest.now c.in_ok-name.ensures c.in_err-rest.field-0.0 (MatchResult-at_err _ _ _ c.in_err-rest.ensures c.expect-next.ensures))
+
+pub expressions::read_cast-returns-in_err-operand : goal.expressions::read_cast-returns-in_err-operand
+expressions::read_cast-returns-in_err-operand t c =
+    let p = err_from_is_err_and c.from_residual-in_err-operand.result c.from_residual-in_err-operand.ensures.1 in
+    let types = c.args.context.types.now in
+    let y = c.next_token.result.0 in
+    let name = c.in_ok-name.name in
+    let closes = MatchResult-at_ok _ _ _ c.in_ok-rest.ensures.0 c.expect-next.ensures in
+    let is = opening_is (view types (sort_of y.kind)) (sym (c.is_mark.ensures ∙ ap (λ s. is_mark sorts_there.opening s) c.sort_at.ensures) ∙ c.if-not-is_mark.false) in
+    let stands = sym (c.is_specifier.ensures ∙ ap (λ s. is_specifier s) c.sort_at-2.ensures) ∙ c.if-not-is_specifier.false in
+    rw (p.1, p.2) (cast_operand_stop types c.args.context.scope c.args.depth c.args.tokens.now c.next_token.result.1.now c.next_token-2.result.1.now y c.next_token-2.result.0 c.next_token.ensures (sym is) c.next_token-2.ensures stands (omega arith) (type_name_of name.tree.tree) name.tree.behind name.depth name.rest.now c.in_ok-name.ensures c.in_ok-rest.rest.now closes c.in_err-operand.field-0.0 (MatchResult-at_err _ _ _ c.in_err-operand.ensures c.read_cast.ensures))
+
+pub expressions::read_cast-returns : goal.expressions::read_cast-returns
+expressions::read_cast-returns t c =
+    let types = c.args.context.types.now in
+    let y = c.next_token.result.0 in
+    let name = c.in_ok-name.name in
+    let last = c.in_ok-operand.operand in
+    let e = tree_of last.tree.tree in
+    let w = MatchResult-at_ok _ _ _ c.in_ok-operand.ensures.0 c.read_cast.ensures in
+    let closes = MatchResult-at_ok _ _ _ c.in_ok-rest.ensures.0 c.expect-next.ensures in
+    let is = opening_is (view types (sort_of y.kind)) (sym (c.is_mark.ensures ∙ ap (λ s. is_mark sorts_there.opening s) c.sort_at.ensures) ∙ c.if-not-is_mark.false) in
+    let stands = sym (c.is_specifier.ensures ∙ ap (λ s. is_specifier s) c.sort_at-2.ensures) ∙ c.if-not-is_specifier.false in
+    let makes = c.in_ok-tree.ensures ∙ ap (λ n. expression (cast (type_name_of n) e) y.place y.place) (c.in_ok-operand.ensures.1 ∙ c.in_ok-rest.ensures.1) in
+    cast_read types c.args.context.scope c.args.depth c.args.tokens.now c.next_token.result.1.now c.next_token-2.result.1.now y c.next_token-2.result.0 c.next_token.ensures (sym is) c.next_token-2.ensures stands (omega arith) (type_name_of name.tree.tree) name.tree.behind name.depth name.rest.now c.in_ok-name.ensures c.in_ok-rest.rest.now closes (operand_seen last.tree) last.depth c.max.result last.rest.now (tree_of c.in_ok-tree.tree) w c.max.ensures makes
+
+pub expressions::read_grouped-returns-in_err-rest : goal.expressions::read_grouped-returns-in_err-rest
+expressions::read_grouped-returns-in_err-rest t c =
+    let p = err_from_is_err_and c.from_residual-in_err-rest.result c.from_residual-in_err-rest.ensures.1 in
     let h = c.in_ok-inner.ensures in
-    let closes = (MatchResult-at_ok _ _ _ c.in_ok-rest-2.ensures.0 c.expect-next-2.ensures) in
-    let e = tree_of c.in_ok-inner.inner.tree.tree in
-    let f = tree_of c.in_ok-part.part.tree in
-    let other = sym (c.is_specifier.ensures ∙ ap (λ s. is_specifier s) c.sort_at.ensures) ∙ c.if-is_specifier.false in
-    let on = group_on g y c.args.tokens.now c.next_token.result.1.now x c.next_token.ensures other in
-    let behind = on_mark types c.args.context.scope g (grammar.behind_open y) (grammar.behind_open y) (λ o. o) sorts_there.closing purposes.Nothing (group_suffixes g y e) g c.args.tokens.now c.in_ok-inner.inner.rest.now c.in_ok-rest-2.rest.now (got on h.reads) closes in
-    let w = subst (λ v. IsRead g (grammar.suffixes v) c.args.depth c.in_ok-rest-2.rest.now f c.in_ok-part.part.depth c.in_ok-part.part.rest.now) (c.in_ok-group.ensures ∙ ap (λ v. syntax_trees.paren y (tree_of v)) c.in_ok-rest-2.ensures.1) c.in_ok-part.ensures in
-    let less : length c.in_ok-inner.inner.rest.now ≡ length (closes.first ∷ c.in_ok-rest-2.rest.now) = ap length closes.whole in
-    built g (grammar.behind_open y) c.args.depth c.in_ok-part.part.depth c.args.tokens.now c.in_ok-part.part.rest.now (operand f true) (operand f true) (finished (got behind w.reads)) refl w.deep w.shallow w.ended (omega (arith, h.fewer, w.fewer, less))
+    rw (p.1, p.2) (paren_stop c.args.context.types.now c.args.context.scope c.args.opening c.args.depth c.args.tokens.now c.in_err-rest.field-0.0 (record {
+      inner = operand_seen c.in_ok-inner.inner.tree;
+      mid = c.in_ok-inner.inner.rest.now;
+      one = h.reads;
+      ended = h.ended;
+      why = MatchResult-at_err _ _ _ c.in_err-rest.ensures c.expect-next.ensures;
+    }))
+
+pub expressions::read_grouped-returns-in_err-inner : goal.expressions::read_grouped-returns-in_err-inner
+expressions::read_grouped-returns-in_err-inner t c =
+    let p = err_from_is_err_and c.from_residual.result c.from_residual.ensures.1 in
+    rw (p.1, p.2) (inner_stop c.args.context.types.now c.args.context.scope c.args.opening c.args.depth c.args.tokens.now c.in_err-inner.field-0.0 c.in_err-inner.ensures)
+
+pub expressions::read_grouped-returns : goal.expressions::read_grouped-returns
+expressions::read_grouped-returns t c =
+    let h = c.in_ok-inner.ensures in
+    let closes = MatchResult-at_ok _ _ _ c.in_ok-rest.ensures.0 c.expect-next.ensures in
+    let made = c.in_ok-group.ensures ∙ ap (λ v. syntax_trees.paren (terminal c.args.opening) (tree_of v)) c.in_ok-rest.ensures.1 in
+    let less : length c.in_ok-inner.inner.rest.now ≡ length (closes.first ∷ c.in_ok-rest.rest.now) = ap length closes.whole in
+    grouped_result c.args.context.types.now c.args.context.scope c.args.opening c.args.depth c.args.tokens.now c.in_ok-inner.inner.rest.now c.in_ok-rest.rest.now (operand_seen c.in_ok-inner.inner.tree) (tree_of c.in_ok-group.group) h.reads closes made (omega (arith, h.fewer, less)) c.read_suffixes.result c.read_suffixes.ensures

@@ -10,20 +10,20 @@ use Rattle.sp_grammar.specs.Table.{done}
 use Rattle.sp_c_tokens.specs.Sorts.{terminal, sort_of}
 use Rattle.sp_c_tokens.specs.Ended.{IsEnded}
 use Rattle.sp_c_tokens.specs.Scopes.{there}
-use Rattle.sp_c_reader.proofs.Steps.{got, finished}
-use Rattle.sp_c_reader.proofs.Parts.{stop_part, stop_mark}
-use Rattle.sp_c_reader.proofs.Marks.{bracket_is}
-use Rattle.sp_c_reader.proofs.ExpressionSteps.{built}
-use Rattle.sp_c_reader.specs.Declaring.{declared_seen, IsFunction}
-use Rattle.sp_c_reader.proofs.DeclaratorSteps.{parameter_on, given_made, given_read, no_length, length_on}
+use Rattle.sp_c_steps.proofs.Steps.{got, finished}
+use Rattle.sp_c_steps.proofs.Parts.{stop_part, stop_mark}
+use Rattle.sp_c_steps.proofs.Marks.{bracket_is}
+use Rattle.sp_c_steps.proofs.ExpressionSteps.{built}
+use Rattle.sp_c_steps.specs.Declaring.{declared_seen, IsArray, IsFunction}
+use Rattle.sp_c_steps.proofs.DeclaratorSteps.{parameter_on, given_made, given_read, no_length, length_on}
 use Rattle.std.specs.Prelude.{option_map}
 use Rattle.sp_syntax.specs.declared.tree.DeclaratorForm.TheFolds.{fold-roll-Param}
 use Rattle.sp_syntax.specs.Syntax.{param}
 use Rattle.sp_syntax.specs.View.{param_of}
 use Rattle.sp_c_tokens.specs.Makers.{all_specifiers, first_place}
-use Rattle.sp_c_reader.proofs.DeclaratorSteps.{given_settled}
-use Rattle.sp_c_reader.proofs.DeclaratorParts.{array_unclosed, array_result, function_more, function_closing, function_on, parameters_seen, function_lengthened}
-use Rattle.sp_c_reader.proofs.ParameterSteps.{ended_comma, ended_ellipsis, given_list, first_more, parameters_on, no_parameters, first_given, given_depth, one_given_deep, more_given_deep, parameters_end, comma_more, parameter_next, dots_end, next_given}
+use Rattle.sp_c_steps.proofs.DeclaratorSteps.{given_settled}
+use Rattle.sp_c_steps.proofs.DeclaratorParts.{array_unclosed, array_result, function_more, function_closing, function_on, parameters_seen, function_lengthened, begins_opening}
+use Rattle.sp_c_steps.proofs.ParameterSteps.{ended_comma, ended_ellipsis, given_list, first_more, parameters_on, no_parameters, first_given, given_depth, one_given_deep, more_given_deep, parameters_end, comma_more, parameter_next, dots_end, next_given}
 use Rattle.sp_c_reader.proofs.+reader.Goals as goal
 
 pub declarators::read_parameter-returns-in_err-specifiers : goal.declarators::read_parameter-returns-in_err-specifiers
@@ -89,22 +89,44 @@ declarators::read_array-returns-in_err-rest t c =
       size_depth = c.in_ok-length.length.depth;
       mid = c.in_ok-length.length.rest.now;
       read = (MatchResult-at_ok _ _ _ c.in_ok-length.ensures.0 c.read_length.ensures);
-      purpose = c.purpose_of-purpose.result;
-      wanted = c.purpose_of-purpose.ensures;
+      purpose = c.length_purpose-purpose.result;
+      wanted = c.length_purpose-purpose.ensures;
       why = (MatchResult-at_err _ _ _ c.in_err-rest.ensures c.expect-next.ensures);
     }))
 
-pub declarators::read_function-returns-in_err-parameters : goal.declarators::read_function-returns-in_err-parameters
-declarators::read_function-returns-in_err-parameters t c =
+pub declarators::read_array-returns : goal.declarators::read_array-returns
+declarators::read_array-returns t c =
+    let h = MatchResult-at_ok _ _ _ c.in_ok-length.ensures.0 c.read_length.ensures in
+    let closes = MatchResult-at_ok _ _ _ c.in_ok-rest.ensures.0 c.expect-next.ensures in
+    let size = option_map tree_of c.in_ok-length.length.tree in
+    let a = subst (λ v. IsArray v size c.in_ok-array_of.field-0) c.in_ok-length.ensures.1 (subst (λ v. IsArray v.0 (option_map tree_of v.1) c.in_ok-array_of.field-0) c.in_ok-rest.ensures.1 c.in_ok-array_of.ensures) in
+    record {
+      size = size;
+      size_depth = c.in_ok-length.length.depth;
+      mid = c.in_ok-length.length.rest.now;
+      read = h;
+      closes = closes;
+      makes = a.tree;
+      declares = a.declares;
+      shape = a.shape;
+      behind = a.behind;
+      deeper = omega (arith, c.max.ensures, c.requires.deep);
+      shallow = omega (arith, c.max.ensures, h.shallow, c.requires.shallow);
+    }
+
+pub declarators::read_part-returns-in_err-parameters : goal.declarators::read_part-returns-in_err-parameters
+declarators::read_part-returns-in_err-parameters t c =
+    let is = begins_opening (view c.args.context.types.now (sort_of c.args.opening.kind)) c.requires.opening (sym (c.is_mark.ensures ∙ ap (λ s. is_mark sorts_there.bracket s) c.sort_at.ensures) ∙ c.if-is_mark.false) in
     let p = err_from_is_err_and c.from_residual.result c.from_residual.ensures.1 in
     let g = there c.args.context.types.now c.args.context.scope in
     let x = c.args.opening in
     λ pending settled.
     let h = declared_seen c.args.head pending in
-    rw (p.1, p.2) (stop_part g g g (grammar.declarator_suffixes h) (grammar.declarator_suffixes h) grammar.parameters (λ a. a) (function_closing g h (terminal x)) c.args.depth (c.args.depth - 1) (x ∷ c.args.tokens.now) c.args.tokens.now (function_on g h x c.args.tokens.now (sym c.requires.opening)) (omega arith) c.in_err-parameters.field-0.0 (MatchResult-at_err _ _ _ c.in_err-parameters.ensures c.read_parameters.ensures))
+    rw (p.1, p.2) (stop_part g g g (grammar.declarator_suffixes h) (grammar.declarator_suffixes h) grammar.parameters (λ a. a) (function_closing g h (terminal x)) c.args.depth (c.args.depth - 1) (x ∷ c.args.tokens.now) c.args.tokens.now (function_on g h x c.args.tokens.now (sym is)) (omega arith) c.in_err-parameters.field-0.0 (MatchResult-at_err _ _ _ c.in_err-parameters.ensures c.read_parameters.ensures))
 
-pub declarators::read_function-returns-in_err-rest : goal.declarators::read_function-returns-in_err-rest
-declarators::read_function-returns-in_err-rest t c =
+pub declarators::read_part-returns-in_err-rest : goal.declarators::read_part-returns-in_err-rest
+declarators::read_part-returns-in_err-rest t c =
+    let is = begins_opening (view c.args.context.types.now (sort_of c.args.opening.kind)) c.requires.opening (sym (c.is_mark.ensures ∙ ap (λ s. is_mark sorts_there.bracket s) c.sort_at.ensures) ∙ c.if-is_mark.false) in
     let p = err_from_is_err_and c.from_residual-in_err-rest.result c.from_residual-in_err-rest.ensures.1 in
     let types = c.args.context.types.now in
     let g = there types c.args.context.scope in
@@ -113,11 +135,12 @@ declarators::read_function-returns-in_err-rest t c =
     let ps = c.in_ok-parameters.parameters.tree in
     λ pending settled.
     let h = declared_seen c.args.head pending in
-    rw (p.1, p.2) (stop_mark types c.args.context.scope g (grammar.declarator_suffixes h) (grammar.declarator_suffixes h) (λ a. a) sorts_there.closing ps.behind (function_more g h (terminal x) (parameters_seen ps w.pending)) g c.args.depth (x ∷ c.args.tokens.now) c.in_ok-parameters.parameters.rest.now (got (function_on g h x c.args.tokens.now (sym c.requires.opening)) w.read.reads) w.read.ended c.in_err-rest.field-0.0 (MatchResult-at_err _ _ _ c.in_err-rest.ensures c.expect-next.ensures))
+    rw (p.1, p.2) (stop_mark types c.args.context.scope g (grammar.declarator_suffixes h) (grammar.declarator_suffixes h) (λ a. a) sorts_there.closing ps.behind (function_more g h (terminal x) (parameters_seen ps w.pending)) g c.args.depth (x ∷ c.args.tokens.now) c.in_ok-parameters.parameters.rest.now (got (function_on g h x c.args.tokens.now (sym is)) w.read.reads) w.read.ended c.in_err-rest.field-0.0 (MatchResult-at_err _ _ _ c.in_err-rest.ensures c.expect-next.ensures))
 
-pub declarators::read_function-returns : goal.declarators::read_function-returns
-declarators::read_function-returns t c =
-    λ pending settled. function_lengthened c.args.context.types.now c.args.context.scope c.args.head c.in_ok-function_of.field-0 pending c.args.opening c.args.tokens.now c.in_ok-parameters.parameters.rest.now c.in_ok-rest.rest.now c.args.depth c.args.reached c.in_ok-parameters.parameters.depth c.max.result c.in_ok-parameters.parameters.tree settled (sym c.requires.opening) (MatchResult-at_ok _ _ _ c.in_ok-parameters.ensures.0 c.read_parameters.ensures) (MatchResult-at_ok _ _ _ c.in_ok-rest.ensures.0 c.expect-next.ensures) (subst (λ v. IsFunction v c.in_ok-parameters.parameters.tree c.in_ok-function_of.field-0) c.in_ok-parameters.ensures.1 (subst (λ v. IsFunction v.0 v.1 c.in_ok-function_of.field-0) c.in_ok-rest.ensures.1 c.in_ok-function_of.ensures)) c.requires.deep c.requires.shallow c.max.ensures
+pub declarators::read_part-returns : goal.declarators::read_part-returns
+declarators::read_part-returns t c =
+    let is = begins_opening (view c.args.context.types.now (sort_of c.args.opening.kind)) c.requires.opening (sym (c.is_mark.ensures ∙ ap (λ s. is_mark sorts_there.bracket s) c.sort_at.ensures) ∙ c.if-is_mark.false) in
+    λ pending settled. function_lengthened c.args.context.types.now c.args.context.scope c.args.head c.in_ok-function_of.field-0 pending c.args.opening c.args.tokens.now c.in_ok-parameters.parameters.rest.now c.in_ok-rest.rest.now c.args.depth c.args.reached c.in_ok-parameters.parameters.depth c.max.result c.in_ok-parameters.parameters.tree settled (sym is) (MatchResult-at_ok _ _ _ c.in_ok-parameters.ensures.0 c.read_parameters.ensures) (MatchResult-at_ok _ _ _ c.in_ok-rest.ensures.0 c.expect-next.ensures) (subst (λ v. IsFunction v c.in_ok-parameters.parameters.tree c.in_ok-function_of.field-0) c.in_ok-parameters.ensures.1 (subst (λ v. IsFunction v.0 v.1 c.in_ok-function_of.field-0) c.in_ok-rest.ensures.1 c.in_ok-function_of.ensures)) c.requires.deep c.requires.shallow c.max.ensures
 
 pub declarators::read_parameters-returns-then-not-begins_specifiers : goal.declarators::read_parameters-returns-then-not-begins_specifiers
 declarators::read_parameters-returns-then-not-begins_specifiers t c =

@@ -1,9 +1,9 @@
 -- The goals of the readers of specifiers, structures and members.
-use Rattle.std.proofs.Common.{◌≡◌, ◌==◌, ◌≤◌, ◌∷◌, ◌++◌, [], map, false, length, Some, None, refl, sym, ap, ◌∙◌, subst, arith, rules}
+use Rattle.std.proofs.Common.{◌≡◌, ◌==◌, ◌+◌, ◌≤◌, ◌∷◌, ◌++◌, [], map, false, length, Some, None, refl, sym, ap, ◌∙◌, subst, arith, rules}
 use Rattle.std.proofs.lemmas.Result.{err_from_is_err_and, MatchResult-at_ok, MatchResult-at_err}
 use Rattle.sp_syntax.specs.View.{declaration_of, declarations, declarator_of}
 use Rattle.sp_syntax.specs.Depth.{declarations_depth}
-use Rattle.sp_grammar.specs.CTokens.{is_mark, view}
+use Rattle.sp_grammar.specs.CTokens.{is_mark, is_name, view}
 use Rattle.sp_grammar.specs.CTokens as sorts_there
 use Rattle.sp_grammar.specs.CTable as grammar
 use Rattle.sp_grammar.specs.CTable.{begins_specifiers}
@@ -12,30 +12,31 @@ use Rattle.sp_c_tokens.specs.SyntaxTrees.{syntax_trees}
 use Rattle.sp_c_tokens.proofs.Settled.{declarations_snoc}
 use Rattle.sp_c_tokens.specs.declared.scope.AlsoAllowed.TheVariants as purposes
 use Rattle.sp_c_tokens.specs.Scopes.{there}
-use Rattle.sp_c_reader.specs.Reading.{IsStep}
-use Rattle.sp_c_reader.proofs.Steps.{begun, got, last, finished}
-use Rattle.sp_c_reader.proofs.Parts.{stop_part, stop_mark}
-use Rattle.sp_c_reader.proofs.ExpressionSteps.{built, first_deep}
-use Rattle.sp_c_reader.proofs.Faulting.{stop_unread, result_before}
-use Rattle.sp_c_reader.proofs.ListSteps.{members_on, members_end, members_more, map_more}
+use Rattle.sp_c_steps.specs.Reading.{IsStep}
+use Rattle.sp_c_steps.proofs.Steps.{begun, got, last, finished}
+use Rattle.sp_c_steps.proofs.Parts.{stop_part, stop_mark}
+use Rattle.sp_c_steps.proofs.ExpressionSteps.{built, read_before, first_deep}
+use Rattle.sp_c_steps.proofs.Suffixes.{ended_name}
+use Rattle.sp_c_tokens.specs.Ended.{IsEnded}
+use Rattle.sp_c_steps.proofs.Faulting.{stop_unread, result_before}
+use Rattle.sp_c_steps.proofs.ListSteps.{members_on, members_end, members_more, map_more}
 use Rattle.std.specs.Prelude.{max, ◌&&◌, ◌||◌}
-use Rattle.sp_syntax.specs.declared.tree.DeclaratorForm.TheFolds.{fold-roll-Declaration, fold-roll-Specifier, fold-roll-StructSpec}
+use Rattle.sp_syntax.specs.declared.tree.DeclaratorForm.TheFolds.{fold-roll-Declaration}
 use Rattle.sp_syntax.specs.Syntax.{declaration, struct_specifier, struct_spec}
-use Rattle.sp_syntax.specs.View.{specifiers_of, specifier_of, init_declarators}
-use Rattle.sp_syntax.specs.declared.tree.Specifier.{Struct, Named}
-use Rattle.sp_syntax.specs.declared.tree.Specifier.TheVariants.{rolls-Struct}
+use Rattle.sp_syntax.specs.View.{specifiers_of, init_declarators}
+use Rattle.sp_syntax.specs.declared.tree.Specifier.{Named}
 use Rattle.sp_grammar.specs.CTokens.{add}
 use Rattle.sp_c_tokens.specs.Makers.{first_place, number_of, is_union, some_members}
 use Rattle.sp_c_tokens.specs.Codes.{seen_by}
 use Rattle.sp_c_tokens.specs.Expecting.{IsFaultFor}
-use Rattle.sp_c_reader.specs.Declaring.{placed, item_seen}
-use Rattle.sp_c_reader.proofs.Marks.{brace_is}
-use Rattle.sp_c_reader.proofs.Lists.{SpecifiersSoFar}
-use Rattle.sp_c_reader.proofs.DeclaratorParts.{declared_deep}
-use Rattle.sp_c_reader.proofs.SpecifierSteps.{added, not_added, specifiers_end, specifiers_refused, structure_deep, one_more, specifier_stop, specifiers_more, specifiers_more_deep}
-use Rattle.sp_c_reader.proofs.StructureSteps.{spec_at, body_plan, body_result, struct_none, struct_tag_step, struct_brace_on, tagged_brace_on, tagged_alone}
-use Rattle.sp_c_reader.proofs.MemberSteps.{first_items, items_seen, first_item, first_item_deep, more_item_deep, items_more, items_on, items_end, next_item, member_done, member_closing, member_more, member_behind, member_begun, member_read}
-use Rattle.sp_c_reader.proofs.Concrete.{concrete_read}
+use Rattle.sp_c_steps.specs.Declaring.{placed, item_seen}
+use Rattle.sp_c_steps.proofs.Marks.{brace_is}
+use Rattle.sp_c_steps.proofs.Lists.{SpecifiersSoFar}
+use Rattle.sp_c_steps.proofs.DeclaratorParts.{declared_deep}
+use Rattle.sp_c_steps.proofs.SpecifierSteps.{added, not_added, specifiers_end, specifiers_refused, structure_deep, one_more, specifier_stop, specifiers_more, specifiers_more_deep}
+use Rattle.sp_c_steps.proofs.StructureSteps.{spec_at, body_plan, body_result, struct_none, struct_tag_step, struct_brace_on, tagged_brace_on, tagged_alone}
+use Rattle.sp_c_steps.proofs.MemberSteps.{first_items, items_seen, first_item, first_item_deep, more_item_deep, items_more, items_on, items_end, next_item, member_done, member_closing, member_more, member_behind, member_begun, member_read}
+use Rattle.sp_c_steps.proofs.Concrete.{concrete_read}
 use Rattle.sp_c_reader.proofs.+reader.Goals as goal
 
 pub specifiers::read_members-members-init : goal.specifiers::read_members-members-init
@@ -160,7 +161,7 @@ specifiers::read_specifiers-returns-then-not-is_typed t c =
     let s = view types (sort_of x.kind) in
     let seen = seen_by c.specifiers.seen.0 in
     let none = not_added c.add_specifier.result (add c.args.stores g.inside seen s) c.in_default.not-Some (c.add_specifier.ensures ∙ ap (λ v. add c.args.stores g.inside seen v) c.sort_at-sort.ensures) in
-    specifiers_refused types c.args.context.scope c.args.stores c.specifiers.seen.0 c.args.tokens.now c.specifiers.rest.now c.next_token.result.1.now x c.specifiers.all.items c.specifiers.all.items c.specifiers.typedefs c.args.depth i.so_far c.next_token.ensures none (sym c.is_typed.ensures ∙ c.if-not-is_typed.true) refl i.ended c.fault.result (subst (λ v. IsFaultFor types c.args.context.scope v c.specifiers.rest.now c.fault.result) c.purpose_of-purpose.ensures c.fault.ensures)
+    specifiers_refused types c.args.context.scope c.args.stores c.specifiers.seen.0 c.args.tokens.now c.specifiers.rest.now c.next_token.result.1.now x c.specifiers.all.items c.specifiers.all.items c.specifiers.typedefs c.args.depth i.so_far c.next_token.ensures none (sym c.is_typed.ensures ∙ c.if-not-is_typed.true) refl i.ended c.fault.result (subst (λ v. IsFaultFor types c.args.context.scope v c.specifiers.rest.now c.fault.result) c.type_purpose-purpose.ensures c.fault.ensures)
 
 pub specifiers::read_specifiers-returns : goal.specifiers::read_specifiers-returns
 specifiers::read_specifiers-returns t c =
@@ -201,49 +202,6 @@ specifiers::read_structure-returns-in_default t c =
     let x = c.next_token.result.0 in
     let other = sym (c.is_mark.ensures ∙ ap (λ s. is_mark sorts_there.brace s) c.sort_at.ensures) ∙ c.if-is_mark.false in
     stop_unread types c.args.context.scope purposes.Nothing (grammar.behind_struct y) (grammar.behind_struct y) (λ a. a) c.args.depth c.args.tokens.now c.args.tokens.now c.next_token.result.1.now x (begun (grammar.at g (grammar.behind_struct y)) (c_tokens c.args.tokens.now)) c.next_token.ensures (struct_none types g y (terminal x) x.kind c.in_default.not-Name other) (λ v. refl) c.requires.ended c.fault.result c.fault.ensures
-
-pub specifiers::read_structure-returns : goal.specifiers::read_structure-returns
-specifiers::read_structure-returns t c =
-    let g = there c.args.context.types.now c.args.context.scope in
-    let word = c.args.word in
-    let y = terminal word in
-    let x = c.next_token.result.0 in
-    let xs = c.next_token.result.1.now in
-    let n = c.in-Name.tag in
-    let shorter : length c.args.tokens.now ≡ length (x ∷ xs) = ap length c.next_token.ensures in
-    result_before g (grammar.behind_struct y) (grammar.struct_body y (terminal x)) (λ v. v) (λ s. placed s word) c.args.depth c.args.tokens.now xs (struct_tag_step g y c.args.tokens.now xs x c.next_token.ensures n (sym c.in-Name.is)) (λ a. refl) (omega (arith, shorter)) c.read_tagged.result (c.read_tagged.ensures x (ap (λ k. number_of k) c.in-Name.is))
-
-pub specifiers::read_tagged-returns-then-depth-lt2 : goal.specifiers::read_tagged-returns-then-depth-lt2
-specifiers::read_tagged-returns-then-depth-lt2 t c =
-    let g = there c.args.context.types.now c.args.context.scope in
-    let y = terminal c.args.word in
-    let x = c.next_token.result.0 in
-    let is = brace_is (view g.types (sort_of x.kind)) (sym (c.is_mark.ensures ∙ ap (λ s. is_mark sorts_there.brace s) c.sort_at.ensures) ∙ c.if-is_mark.true) in
-    λ name same. (first_deep g (grammar.struct_body y (terminal name)) c.args.tokens.now c.next_token.result.1.now x (sorts_there.mark sorts_there.brace) c.next_token.ensures (sym is) c.args.depth (λ z. body_plan g (grammar.struct_body y (terminal name)) (λ ds. syntax_trees.structure y (Some (terminal name)) (Some ds))) refl (omega arith), c.requires.ended)
-
-pub specifiers::read_tagged-returns-then-is_mark : goal.specifiers::read_tagged-returns-then-is_mark
-specifiers::read_tagged-returns-then-is_mark t c =
-    let types = c.args.context.types.now in
-    let g = there types c.args.context.scope in
-    let word = c.args.word in
-    let y = terminal word in
-    let x = c.next_token.result.0 in
-    let xs = c.next_token.result.1.now in
-    let stands = sym (c.is_mark.ensures ∙ ap (λ s. is_mark sorts_there.brace s) c.sort_at.ensures) ∙ c.if-is_mark.true in
-    let shorter : length c.args.tokens.now ≡ length (x ∷ xs) = ap length c.next_token.ensures in
-    λ name same. body_result types c.args.context.scope (grammar.struct_body y (terminal name)) (λ ds. syntax_trees.structure y (Some (terminal name)) (Some ds)) c.args.depth c.args.tokens.now xs (tagged_brace_on g y c.args.tokens.now xs x c.next_token.ensures (terminal name) stands) refl (λ ds. refl) c.requires.room word (Some c.args.tag) (λ s. placed s word) (λ s ds e. ap (λ v. spec_at v word.place) e ∙ ap (λ n. spec_at (struct_specifier (struct_spec (is_union word.kind) (Some n) (some_members (Some ds)) word.place)) word.place) (sym same)) (λ ds. refl) (omega (arith, shorter)) c.read_body.result c.read_body.ensures
-
-pub specifiers::read_tagged-returns : goal.specifiers::read_tagged-returns
-specifiers::read_tagged-returns t c =
-    let g = there c.args.context.types.now c.args.context.scope in
-    let word = c.args.word in
-    let y = terminal word in
-    let x = c.next_token.result.0 in
-    let other = sym (c.is_mark.ensures ∙ ap (λ s. is_mark sorts_there.brace s) c.sort_at.ensures) ∙ c.if-is_mark.false in
-    let makes : specifier_of (Struct c.in_ok-new.field-0) ≡ struct_specifier (struct_spec (is_union word.kind) (Some c.args.tag) (some_members None) word.place) = rw (sym (rolls-Struct c.in_ok-new.field-0)) (rw fold-roll-Specifier (rw (c.in_ok-new.ensures.ok, fold-roll-StructSpec, c.is_union.ensures) refl)) in
-    λ name same.
-    let made = syntax_trees.structure y (Some (terminal name)) None in
-    built g (grammar.struct_body y (terminal name)) c.args.depth 1 c.args.tokens.now c.args.tokens.now made (spec_at (specifier_of (Struct c.in_ok-new.field-0)) word.place) (finished (tagged_alone g y c.args.tokens.now c.next_token.result.1.now x c.next_token.ensures (terminal name) other)) (ap (λ v. spec_at v word.place) makes ∙ ap (λ n. spec_at (struct_specifier (struct_spec (is_union word.kind) (Some n) (some_members None) word.place)) word.place) (sym same)) refl c.requires.room c.requires.ended (omega arith)
 
 pub specifiers::read_member-returns-in_err-specifiers : goal.specifiers::read_member-returns-in_err-specifiers
 specifiers::read_member-returns-in_err-specifiers t c =
@@ -353,3 +311,81 @@ specifiers::read_member-read_items-next-requires t c =
     let h = (MatchResult-at_ok _ _ _ c.in_ok-first.ensures.0 c.read_declarator-next.ensures) in
     let deep = declared_deep (first_place c.in_ok-first.first.rest.now) (declarator_of c.in_ok-first.first.tree.tree) h.pending c.in_ok-first.first.depth h.settled h.read.deep in
     (first_of (omega (arith, h.read.fewer, c.in_ok-specifiers.ensures.fewer), search rules), (h.read.ended, (deep, h.read.shallow)))
+
+pub specifiers::read_structure-returns-then-depth-lt2-2 : goal.specifiers::read_structure-returns-then-depth-lt2-2
+specifiers::read_structure-returns-then-depth-lt2-2 t c =
+    let types = c.args.context.types.now in
+    let g = there types c.args.context.scope in
+    let word = c.args.word in
+    let y = terminal word in
+    let x = c.next_token.result.0 in
+    let xs = c.next_token.result.1.now in
+    let b = c.next_token-2.result.0 in
+    let bs = c.next_token-2.result.1.now in
+    let same = ap (λ k. number_of k) c.in-Name.is in
+    let step = struct_tag_step g y c.args.tokens.now xs x c.next_token.ensures c.in-Name.tag (sym c.in-Name.is) in
+    let shorter : length c.args.tokens.now ≡ length (x ∷ xs) = ap length c.next_token.ensures in
+    let less : length xs ≡ length (b ∷ bs) = ap length c.next_token-2.ensures in
+    let is = brace_is (view types (sort_of b.kind)) (sym (c.is_mark-2.ensures ∙ ap (λ s. is_mark sorts_there.brace s) c.sort_at-2.ensures) ∙ c.if-is_mark-2.true) in
+    (step.nests c.args.depth (c_tokens xs) (first_deep g (grammar.struct_body y (terminal x)) xs bs b (sorts_there.mark sorts_there.brace) c.next_token-2.ensures (sym is) c.args.depth (λ z. body_plan g (grammar.struct_body y (terminal x)) (λ ds. syntax_trees.structure y (Some (terminal x)) (Some ds))) refl (omega arith)), ended_name x xs (ap (λ k. is_name (sort_of k)) c.in-Name.is) (subst IsEnded c.next_token.ensures c.requires.ended))
+
+pub specifiers::read_structure-returns-then-is_mark-2 : goal.specifiers::read_structure-returns-then-is_mark-2
+specifiers::read_structure-returns-then-is_mark-2 t c =
+    let types = c.args.context.types.now in
+    let g = there types c.args.context.scope in
+    let word = c.args.word in
+    let y = terminal word in
+    let x = c.next_token.result.0 in
+    let xs = c.next_token.result.1.now in
+    let b = c.next_token-2.result.0 in
+    let bs = c.next_token-2.result.1.now in
+    let same = ap (λ k. number_of k) c.in-Name.is in
+    let step = struct_tag_step g y c.args.tokens.now xs x c.next_token.ensures c.in-Name.tag (sym c.in-Name.is) in
+    let shorter : length c.args.tokens.now ≡ length (x ∷ xs) = ap length c.next_token.ensures in
+    let less : length xs ≡ length (b ∷ bs) = ap length c.next_token-2.ensures in
+    let stands = sym (c.is_mark-2.ensures ∙ ap (λ s. is_mark sorts_there.brace s) c.sort_at-2.ensures) ∙ c.if-is_mark-2.true in
+    result_before g (grammar.behind_struct y) (grammar.struct_body y (terminal x)) (λ v. v) (λ s. placed s word) c.args.depth c.args.tokens.now xs step (λ a. refl) (omega (arith, shorter)) c.read_body-then-is_mark-2.result
+    (body_result types c.args.context.scope (grammar.struct_body y (terminal x)) (λ ds. syntax_trees.structure y (Some (terminal x)) (Some ds)) c.args.depth xs bs (tagged_brace_on g y xs bs b c.next_token-2.ensures (terminal x) stands) refl (λ ds. refl) c.requires.room word (Some c.in-Name.tag) (λ s. placed s word) (λ s ds e. ap (λ v. spec_at v word.place) e ∙ ap (λ n. spec_at (struct_specifier (struct_spec (is_union word.kind) (Some n) (some_members (Some ds)) word.place)) word.place) (sym same)) (λ ds. refl) (omega (arith, less)) c.read_body-then-is_mark-2.result c.read_body-then-is_mark-2.ensures)
+
+pub specifiers::read_structure-returns : goal.specifiers::read_structure-returns
+specifiers::read_structure-returns t c =
+    let types = c.args.context.types.now in
+    let g = there types c.args.context.scope in
+    let word = c.args.word in
+    let y = terminal word in
+    let x = c.next_token.result.0 in
+    let xs = c.next_token.result.1.now in
+    let b = c.next_token-2.result.0 in
+    let bs = c.next_token-2.result.1.now in
+    let same = ap (λ k. number_of k) c.in-Name.is in
+    let step = struct_tag_step g y c.args.tokens.now xs x c.next_token.ensures c.in-Name.tag (sym c.in-Name.is) in
+    let shorter : length c.args.tokens.now ≡ length (x ∷ xs) = ap length c.next_token.ensures in
+    let less : length xs ≡ length (b ∷ bs) = ap length c.next_token-2.ensures in
+    let other = sym (c.is_mark-2.ensures ∙ ap (λ s. is_mark sorts_there.brace s) c.sort_at-2.ensures) ∙ c.if-is_mark-2.false in
+    let made = syntax_trees.structure y (Some (terminal x)) None in
+    let makes = ap (λ v. spec_at v word.place) c.in_ok-tagged_structure.ensures ∙ ap (λ n. spec_at (struct_specifier (struct_spec (is_union word.kind) (Some n) (some_members None) word.place)) word.place) (sym same) in
+    let ended = ended_name x xs (ap (λ k. is_name (sort_of k)) c.in-Name.is) (subst IsEnded c.next_token.ensures c.requires.ended) in
+    read_before g (grammar.behind_struct y) (grammar.struct_body y (terminal x)) (λ v. v) c.args.depth 1 c.args.tokens.now xs xs (placed c.in_ok-tagged_structure.field-0 word) step
+    (built g (grammar.struct_body y (terminal x)) c.args.depth 1 xs xs made (placed c.in_ok-tagged_structure.field-0 word) (finished (tagged_alone g y xs bs b c.next_token-2.ensures (terminal x) other)) makes refl c.requires.room ended (omega arith)) refl (omega (arith, shorter))
+
+pub specifiers::read_body-returns : goal.specifiers::read_body-returns
+specifiers::read_body-returns t c =
+    let first = c.in_ok-first in
+    let members = c.in_ok-members.members in
+    let h = c.in_ok-members.ensures in
+    let closes = MatchResult-at_ok _ _ _ c.in_ok-rest.ensures.0 c.expect-next.ensures in
+    let word = c.args.word in
+    let less : length members.rest.now ≡ length (closes.first ∷ c.in_ok-rest.rest.now) = ap length closes.whole in
+    record {
+      first = declaration_of first.first.tree;
+      mid = first.first.rest.now;
+      one = first.ensures.reads;
+      all = map declaration_of members.tree.items;
+      last = members.rest.now;
+      more = h.reads;
+      closes = closes;
+      makes = c.in_ok-structure.ensures ∙ ap (λ v. struct_specifier (struct_spec (is_union word.kind) c.args.tag (some_members (Some (map declaration_of v.items))) word.place)) c.in_ok-rest.ensures.1;
+      deeper = ap (λ n. 1 + n) h.deep;
+      shallow = omega (arith, h.shallow, c.requires.room);
+      fewer = omega (arith, first.ensures.fewer, h.fewer, less);
+    }

@@ -2,8 +2,8 @@ use Rattle.std.proofs.Common.{◌≡◌, ◌+◌, ◌-◌, subst, arith}
 use Rattle.std.proofs.lemmas.Result.{err_from_is_err_and}
 use Rattle.sp_grammar.specs.CTable.{tail}
 use Rattle.sp_c_tokens.specs.Scopes.{there}
-use Rattle.sp_c_reader.specs.Reading.{IsStep, operand_seen}
-use Rattle.sp_c_reader.proofs.Tails.{tail_next, tail_stop, tail_done}
+use Rattle.sp_c_steps.specs.Reading.{IsStep, operand_seen}
+use Rattle.sp_c_steps.proofs.Tails.{tail_next, tail_stop, tail_done}
 use Rattle.sp_c_reader.proofs.expressions.read_tail.Goals as goal
 
 pub returns-in_err-part : goal.returns-in_err-part

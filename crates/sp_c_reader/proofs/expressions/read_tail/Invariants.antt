@@ -5,7 +5,7 @@ use Rattle.sp_syntax.specs.Depth.{depth as depth_of}
 use Rattle.sp_grammar.specs.CTable.{tail}
 use Rattle.sp_c_tokens.specs.Ended.{IsEnded}
 use Rattle.sp_c_tokens.specs.Scopes.{there}
-use Rattle.sp_c_reader.specs.Reading.{IsStep, operand_seen}
+use Rattle.sp_c_steps.specs.Reading.{IsStep, operand_seen}
 use Rattle.sp_c_reader.proofs.expressions.read_tail.Given as goal
 
 abbrev pub invariant-levels : goal.invariant-levels

@@ -1,5 +1,5 @@
 use Rattle.std.proofs.lemmas.Result.{err_from_is_err_and, MatchResult-at_ok, MatchResult-at_err}
-use Rattle.sp_c_reader.specs.Reading.{operand_seen}
+use Rattle.sp_c_steps.specs.Reading.{operand_seen}
 use Rattle.sp_c_statements.proofs.PartSteps as steps
 use Rattle.sp_c_statements.proofs.parts.read_condition.Goals as goal
 

@@ -4,8 +4,8 @@ use Rattle.sp_grammar.specs.CTable as grammar
 use Rattle.sp_grammar.specs.CTable.{begins_expression}
 use Rattle.sp_grammar.specs.Table.{done}
 use Rattle.sp_c_tokens.specs.Scopes.{there}
-use Rattle.sp_c_reader.proofs.Steps.{got, finished}
-use Rattle.sp_c_reader.proofs.Parts.{stop_part}
+use Rattle.sp_c_steps.proofs.Steps.{got, finished}
+use Rattle.sp_c_steps.proofs.Parts.{stop_part}
 use Rattle.sp_c_statements.proofs.PartSteps as steps
 use Rattle.sp_c_statements.proofs.parts.read_optional.Goals as goal
 

@@ -3,7 +3,7 @@ use Rattle.std.proofs.lemmas.Result.{err_from_is_err_and, MatchResult-at_ok, Mat
 use Rattle.sp_syntax.specs.Syntax.{statement, of}
 use Rattle.sp_syntax.specs.Places.{place_of}
 use Rattle.sp_syntax.specs.View.{statement_of, tree_of}
-use Rattle.sp_c_reader.specs.Reading.{operand_seen}
+use Rattle.sp_c_steps.specs.Reading.{operand_seen}
 use Rattle.sp_c_statements.proofs.SimpleSteps as steps
 use Rattle.sp_c_statements.proofs.simple.read_expression.Goals as goal
 

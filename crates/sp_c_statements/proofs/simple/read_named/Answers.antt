@@ -5,7 +5,7 @@ use Rattle.sp_syntax.specs.Syntax.{statement, of}
 use Rattle.sp_syntax.specs.Places.{place_of}
 use Rattle.sp_syntax.specs.View.{statement_of, tree_of}
 use Rattle.sp_c_tokens.specs.Makers.{leaf}
-use Rattle.sp_c_reader.specs.Reading.{operand_seen}
+use Rattle.sp_c_steps.specs.Reading.{operand_seen}
 use Rattle.sp_c_statements.proofs.SimpleSteps as steps
 use Rattle.sp_c_statements.proofs.simple.read_named.Goals as goal
 

@@ -15,10 +15,10 @@ use Rattle.sp_c_tokens.specs.Sorts.{c_tokens}
 use Rattle.sp_c_tokens.specs.Makers.{all_statements, some_statement, end_of_branches}
 use Rattle.sp_c_tokens.specs.Scopes.{there}
 use Rattle.sp_c_tokens.proofs.Settled.{statements_snoc}
-use Rattle.sp_c_reader.specs.Reading.{IsStep}
-use Rattle.sp_c_reader.proofs.Steps.{begun, got, last}
-use Rattle.sp_c_reader.proofs.Parts.{stop_part}
-use Rattle.sp_c_reader.proofs.ListSteps.{map_more}
+use Rattle.sp_c_steps.specs.Reading.{IsStep}
+use Rattle.sp_c_steps.proofs.Steps.{begun, got, last}
+use Rattle.sp_c_steps.proofs.Parts.{stop_part}
+use Rattle.sp_c_steps.proofs.ListSteps.{map_more}
 use Rattle.sp_c_statements.specs.Parts.{prefixed}
 use Rattle.sp_c_statements.proofs.StatementSteps as steps
 use Rattle.sp_c_statements.proofs.statements.+statement.Goals as goal

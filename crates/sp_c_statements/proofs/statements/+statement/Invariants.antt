@@ -7,7 +7,7 @@ use Rattle.sp_grammar.specs.CTable as grammar
 use Rattle.sp_c_tokens.specs.Ended.{IsEnded}
 use Rattle.sp_c_tokens.specs.Makers.{all_statements}
 use Rattle.sp_c_tokens.specs.Scopes.{there}
-use Rattle.sp_c_reader.specs.Reading.{IsStep}
+use Rattle.sp_c_steps.specs.Reading.{IsStep}
 use Rattle.sp_c_statements.proofs.statements.+statement.Given as goal
 
 abbrev pub decreases-read_statement : goal.decreases-read_statement

@@ -7,7 +7,7 @@ use Rattle.sp_grammar.specs.CTokens.{is_mark}
 use Rattle.sp_grammar.specs.CTokens as sorts_there
 use Rattle.sp_grammar.specs.CTable.{begins_specifiers}
 use Rattle.sp_c_tokens.specs.Scopes.{context_of}
-use Rattle.sp_c_reader.proofs.ListSteps.{map_more}
+use Rattle.sp_c_steps.proofs.ListSteps.{map_more}
 use Rattle.sp_decl_parser.specs.Seen.{external_part}
 use Rattle.sp_decl_parser.proofs.UnitSteps as steps
 use Rattle.sp_decl_parser.proofs.units.read_externals.Goals as goal

@@ -31,6 +31,10 @@ use Rattle.sp_expr_steps.proofs.Braces.{constant_seen, declarations_in-view, con
 use Rattle.sp_expr_steps.specs.Expressions.{params_checked, param_checked, members_checked, declaration_members, items_checked, item_checked, constants_checked, constant_checked, declarations_in, constants_in, items_in}
 use Rattle.sp_expr_steps.specs.SyntaxView.{declarator_form_of}
 use Rattle.sp_expr_check.proofs.Lists.{part_failed, part_stopped}
+use Rattle.sp_expr_check.proofs.Following.{followed}
+use Rattle.sp_syntax.specs.Places.{place_of}
+use Rattle.sp_syntax.proofs.TreeViews.{place_of-view}
+use Rattle.sp_expr_steps.specs.Expressions.{value_checked, length_told}
 use Rattle.sp_expr_steps.proofs.Lists.{first_param, no_param_left, param_read, param_refused, params_read, list_failed, taken, ended}
 use Rattle.sp_syntax.specs.View.{param_of, params}
 use Rattle.sp_syntax.specs.declared.tree.DeclaratorForm.TheFolds.{fold-roll-DeclaratorForm}
@@ -63,13 +67,13 @@ arguments_checked-arguments-preserved t c =
     let whole = arguments_checked c.args.names.now (env_of c.args.env.now) ts (arguments_of (form_of c.args.form.now)) in
     let one = one_checked c.args.names.now (env_of c.arguments.env) ts c.arguments.i e in
     let after = env_of c.argument_checked-next.new.env in
-    let g : one ≡ accepted (typed_of c.in_ok-before.next, after) = subst (λ (r : Result TypedExpr CheckError). AnswersIn typed_of one after r) c.in_ok-before.ensures.1 c.argument_checked-next.ensures in
+    let g : one ≡ accepted (typed_of c.in_ok-next.next, after) = subst (λ (r : Result TypedExpr CheckError). AnswersIn typed_of one after r) c.in_ok-next.ensures.0 c.argument_checked-next.ensures in
     let h = rw (front c.deref-e-items.result.now c.arguments.i c.e-item.result c.arguments-test.true c.e-item.is) at c.arguments.invariant in
-    let items : c.in_ok-all.all.items ≡ c.arguments.all.items ++ c.in_ok-before.next ∷ [] = c.in_ok-all.ensures ∙ ap (λ (v : Vec TypedExpr Global). v.items ++ c.in_ok-before.next ∷ []) c.in_ok-before.ensures.0 in
-    rw (items, map-append, add-one) (step whole c.args.names.now (env_of c.arguments.env) after c.arguments.i ts (map typed_of c.arguments.all.items) e rest (typed_of c.in_ok-before.next) g h)
+    let items : c.in_ok-all.all.items ≡ c.arguments.all.items ++ c.in_ok-next.next ∷ [] = c.in_ok-all.ensures ∙ ap (λ (v : Vec TypedExpr Global). v.items ++ c.in_ok-next.next ∷ []) c.in_ok-next.ensures.1 in
+    rw (items, map-append, add-one) (step whole c.args.names.now (env_of c.arguments.env) after c.arguments.i ts (map typed_of c.arguments.all.items) e rest (typed_of c.in_ok-next.next) g h)
 
-pub arguments_checked-returns-in_err-before : goal.arguments_checked-returns-in_err-before
-arguments_checked-returns-in_err-before t c =
+pub arguments_checked-returns-in_err-next : goal.arguments_checked-returns-in_err-next
+arguments_checked-returns-in_err-next t c =
     let ts = told (parameters_of (signature_of c.args.signature.now)) in
     let e = tree_of c.e-item.result in
     let rest = expressions (map tree_of (drop (suc c.arguments.i) c.deref-e-items.result.now)) in
@@ -78,8 +82,8 @@ arguments_checked-returns-in_err-before t c =
     let after = env_of c.argument_checked-next.new.env in
     let h = rw (front c.deref-e-items.result.now c.arguments.i c.e-item.result c.arguments-test.true c.e-item.is) at c.arguments.invariant in
     let seen : Vec TypedExpr Global → TypedList = λ es. typed_list (map typed_of es.items) in
-    let g : AnswersIn typed_of one after (Err c.in_err-before.field-0.0) = subst (λ (r : Result TypedExpr CheckError). AnswersIn typed_of one after r) c.in_err-before.ensures c.argument_checked-next.ensures in
-    let made : AnswersIn seen whole after (Err c.in_err-before.field-0.0) = failed seen typed_of whole one after after c.in_err-before.field-0.0 (λ k p g. stopped whole c.args.names.now (env_of c.arguments.env) c.arguments.i ts (map typed_of c.arguments.all.items) e rest k p h g) g in
+    let g : AnswersIn typed_of one after (Err c.in_err-next.field-0.0) = subst (λ (r : Result TypedExpr CheckError). AnswersIn typed_of one after r) c.in_err-next.ensures c.argument_checked-next.ensures in
+    let made : AnswersIn seen whole after (Err c.in_err-next.field-0.0) = failed seen typed_of whole one after after c.in_err-next.field-0.0 (λ k p g. stopped whole c.args.names.now (env_of c.arguments.env) c.arguments.i ts (map typed_of c.arguments.all.items) e rest k p h g) g in
     let p = err_from_is_err_and c.from_residual.result c.from_residual.ensures.1 in
     rw (p.1, p.2) made
 
@@ -237,3 +241,10 @@ constants_checked-returns-in_err-next t c =
     list_failed seen seen whole part (env_of c.constant_checked.new.env) (env_of c.constant_checked.new.env) c.in_err-next.field-0.0 (ended part (λ x. constants_checked names x.1 x.0 rest) whole h) c.in_err-next.ensures in
     let p = err_from_is_err_and c.from_residual.result c.from_residual.ensures.1 in
     rw (p.1, p.2) made
+
+-- ---- what follows the last part
+
+pub length_checked-returns : goal.length_checked-returns
+length_checked-returns t c =
+    let h = rw (sym (place_of-view c.args.length.now)) at c.length_told.ensures in
+    followed typed_of (λ n. n) (value_checked c.args.names.now (env_of c.args.env.now) (tree_of c.args.length.now)) (λ y. length_told (place_of (tree_of c.args.length.now)) y.0 y.1) (env_of c.value_checked-value.new.env) (env_of c.length_told.new.env) c.value_checked-value.result c.length_told.result c.value_checked-value.ensures h

@@ -6,7 +6,7 @@ use Rattle.sp_grammar.specs.CTokens.{nothing_seen}
 use Rattle.sp_c_tokens.specs.Sorts.{c_tokens}
 use Rattle.sp_c_tokens.specs.Codes.{sort_seen}
 use Rattle.sp_c_tokens.specs.SyntaxTrees.{syntax_trees}
-use Rattle.sp_c_reader.proofs.Parts.{stop_before}
+use Rattle.sp_c_steps.proofs.Parts.{stop_before}
 use Rattle.sp_expr_parser.proofs.ParserSteps.{optional_step, no_specifiers_read, sort_of_head}
 use Rattle.sp_expr_parser.proofs.call.specifiers_part.Goals as goal
 

@@ -3,7 +3,7 @@ use Rattle.sp_grammar.specs.CTable as grammar
 use Rattle.sp_syntax.specs.View.{specifiers_of}
 use Rattle.sp_c_grammar.specs.Answers.{specifier_lists, specifiers_ask}
 use Rattle.sp_c_grammar.proofs.Calls.{specifiers_reader}
-use Rattle.sp_c_reader.specs.Reading.{IsStop}
+use Rattle.sp_c_steps.specs.Reading.{IsStop}
 use Rattle.sp_expr_parser.specs.Calling.{AreListed}
 use Rattle.sp_expr_parser.proofs.ParserSteps.{parsed}
 use Rattle.sp_expr_parser.proofs.parser.parse_specifiers.Goals as goal

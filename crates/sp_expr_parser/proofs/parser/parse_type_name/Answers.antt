@@ -7,7 +7,7 @@ use Rattle.sp_c_tokens.specs.Scopes.{purpose_seen}
 use Rattle.sp_c_tokens.proofs.Settled.{settle_type_depth}
 use Rattle.sp_c_grammar.specs.Answers.{type_names, type_name_ask}
 use Rattle.sp_c_grammar.proofs.Calls.{type_name_reader}
-use Rattle.sp_c_reader.specs.Reading.{IsTypeName, IsStop}
+use Rattle.sp_c_steps.specs.Reading.{IsTypeName, IsStop}
 use Rattle.sp_expr_parser.proofs.ParserSteps.{parsed}
 use Rattle.sp_expr_parser.proofs.parser.parse_type_name.Goals as goal
 

@@ -1,5 +1,5 @@
-use Rattle.sp_typed_unit_laws.proofs.Alone.{static_alone}
-use Rattle.sp_typed_unit_laws.proofs.Constants.{static_constant}
+use Rattle.sp_leaf_laws.proofs.Alone.{static_alone}
+use Rattle.sp_leaf_laws.proofs.Constants.{static_constant}
 use Rattle.sp_typed_unit_laws.proofs.Units.{units_typed}
 use Rattle.sp_typed_unit_laws.proofs.laws.units_are_typed.Goals as goal
 

@@ -1,0 +1,10 @@
+pub mod Walk
+pub mod Like
+pub mod Entries
+pub mod FunctionEntries
+pub mod Told
+pub mod Apart
+pub mod Functions
+pub mod Objects
+pub mod Formed
+pub mod Definitions

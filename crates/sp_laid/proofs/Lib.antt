@@ -1,5 +1,0 @@
-pub mod Tests
-pub mod FormedTypes
-pub mod FormedTables
-pub mod FormedRegions
-pub mod FormedOutside

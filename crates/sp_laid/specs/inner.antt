@@ -1,5 +1,0 @@
-pub mod Lists
-pub mod Types
-pub mod Tables
-pub mod Regions
-pub mod Outside

@@ -1,0 +1,9 @@
+pub mod Units
+pub mod Linked
+pub mod Owners
+pub mod Starts
+pub mod Bodies
+pub mod Known
+pub mod Owned
+pub mod Measured
+pub mod Programs

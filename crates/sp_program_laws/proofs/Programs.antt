@@ -1,0 +1,75 @@
+-- Units that the checks accept are typed, and what they are linked to is the program that is.
+use Rattle.std.proofs.Common.{◌≡◌, ◌<◌, ℕ, List, Option, Some, None, All, refl, subst}
+use Rattle.std.proofs.lemmas.List.Elements.{All-get_or}
+use Rattle.std.proofs.lemmas.Option.{slice_get_within, get_or_from_slice_get}
+use Rattle.std.specs.Prelude.{slice_get}
+use Rattle.sp_tree.specs.declared.fault.FaultKind.{FaultKind}
+use Rattle.sp_tree.specs.declared.fault.FaultKind.TheVariants.{F25}
+use Rattle.sp_tree.specs.declared.fault.Place.{Place}
+use Rattle.sp_types.specs.Programs.{Program}
+use Rattle.sp_operands.specs.Answers.{accepted, refused, where_given}
+use Rattle.sp_units.specs.Units.{CheckedUnit}
+use Rattle.sp_matching.specs.Matching.{Matching}
+use Rattle.sp_struct_match.specs.Matched.{AreMatched}
+use Rattle.sp_conflicts.specs.Conflicts.{AgreeOnNames, tables_of}
+use Rattle.sp_link.specs.Linking.{main_from}
+use Rattle.sp_program.specs.Links.{in_conflict, in_agreement}
+use Rattle.sp_typing.specs.Programs.{IsTypedProgram}
+use Rattle.sp_link_laws.specs.Names.{all_joined}
+use Rattle.sp_written_laws.specs.Laws.{AreByteNames}
+use Rattle.sp_typed_laws.specs.Sound.{AreBytes}
+use Rattle.sp_typed_unit_laws.specs.Units.{UnitsAreTyped}
+use Rattle.sp_linked_laws.specs.Linked.{linked_program, AreTypedUnits, LinkedProgramsAreTyped}
+use Rattle.sp_program_laws.specs.Programs.{IsChecked, ProgramsAreTyped}
+
+-- ---- lists
+
+all_at : {A : Type 0} (P : A → Type 0) (xs : List A) (i : ℕ) (x : A) → All P xs
+    → slice_get xs i ≡ Some x → P x
+all_at P xs i x h at =
+    subst P (get_or_from_slice_get xs i x x at)
+    (All-get_or P xs i x (slice_get_within xs i x at) h)
+
+bytes_at : (names : List (List ℕ)) → AreByteNames names → AreBytes names
+bytes_at names h i j b bytes at within =
+    all_at (λ c. c < 256) bytes j b
+    (all_at (λ bs. All (λ c. c < 256) bs) names i bytes h at) within
+
+-- ---- answers
+
+accepted_is : (p q : Program) → accepted p ≡ accepted q → p ≡ q
+accepted_is p q e = cc
+
+not_refused : (kind : FaultKind) (place : Place) (p : Program) → refused kind place ≡ accepted p → ⊥
+not_refused kind place p e = cc
+
+-- ---- programs
+
+module _ (typed : UnitsAreTyped) (linked : LinkedProgramsAreTyped) where
+  typed_units : (units : List CheckedUnit) (m : Matching) → All IsChecked units → AgreeOnNames units
+      → AreMatched (tables_of units) m → AreTypedUnits units m
+  typed_units units m checked agree matched = record {
+    agree = agree;
+    matched = matched;
+    typed = λ u x at.
+        let c : IsChecked x = all_at IsChecked units u x checked at in
+        typed c.names c.tree x (bytes_at c.names c.bytes) c.written c.checked;
+  }
+
+  -- what starts with this function
+  from_main : (names : List (List ℕ)) (first : Place) (units : List CheckedUnit) (m : Matching) (p : Program)
+      → AreTypedUnits units m → (main : Option ℕ)
+      → main_from names 0 (all_joined m.numbers units).1.functions ≡ main
+      → where_given main F25 first (λ k. accepted (linked_program units m k)) ≡ accepted p
+      → IsTypedProgram p
+  from_main names first units m p h None is e = absurd (not_refused F25 first p e)
+  from_main names first units m p h (Some main) is e =
+      subst IsTypedProgram (accepted_is (linked_program units m main) p e)
+      (linked names units m main h is)
+
+  pub programs_typed : ProgramsAreTyped
+  programs_typed names first units p checked (in_conflict kind place at e) =
+      absurd (not_refused kind place p e)
+  programs_typed names first units p checked (in_agreement m agree matched e) =
+      from_main names first units m p (typed_units units m checked agree matched)
+      (main_from names 0 (all_joined m.numbers units).1.functions) refl e
