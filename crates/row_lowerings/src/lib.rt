@@ -47,7 +47,8 @@ fn sources_of(alloc: Global, texts: &[Vec<u8>]) -> Result<Vec<Source>, AllocErro
     Ok(sources)
 }
 
-/// The lowering of the program that texts make, which is formed, or the first fault.
+/// The lowering of the program that texts make, or the first fault. The contract says that it is
+/// formed, which is what rows ask of it.
 pub fn lowered_of(
     alloc: Global,
     texts: &[Vec<u8>],

@@ -20,8 +20,8 @@ use Rattle.sp_front.specs.Files.{Progress, beginning, AreFilesOf, IsFileRefused}
 
 -- ---- programs
 
--- The files are these units, and the units this program. A fault of the whole stands where the
--- first file begins.
+-- The files are these units, and the units this program. What is missing in the whole is refused
+-- where the first file begins.
 pub record IsProgramOf (sources : List Source) (names : List (List ℕ)) (p : Program) : Type 0 where
   pub units : List CheckedUnit
   pub room : ℕ

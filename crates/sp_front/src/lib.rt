@@ -3,9 +3,10 @@
 //! In go files, each a name and a text, within the limits of `specs/Sources.antt`. Each file is
 //! scanned, parsed and checked before the next is begun; then their units are linked, and the
 //! program is lowered. Out comes the lowered program, which is formed, or the first fault: that of
-//! the first file that is refused, else one of the whole program, which stands where the first file
-//! begins. That it is formed isn't tested: it is a law (`sp_program_laws`). The *room* is how many
-//! tokens the files that are left may have.
+//! the first file that is refused, else one of the whole program. That stands at a declaration that
+//! doesn't agree with another file's, else where the first file begins. That the program is formed
+//! isn't tested: it is a law (`sp_program_laws`). The *room* is how many tokens the files that are
+//! left may have.
 //!
 //! So the files a.c, `int x[3];`, and b.c, `int main(void) { return 1; }`, are one program. Without
 //! the second semicolon b.c is refused at b.c:1:27, and a.c alone at a.c:1:1, since it has no

@@ -59,8 +59,7 @@ fn calls_library(lowered: &Lowered) -> bool
 }
 
 /// The lowering of the program that files make, which may call the library, or the first fault.
-/// `names` then holds the names that places tell by number: those of the program, or that of the
-/// fault.
+/// `names` then holds the names of the program, or at a fault those so far.
 pub fn lowering_of(
     alloc: Global,
     sources: &[Source],

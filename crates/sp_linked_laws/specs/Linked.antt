@@ -90,8 +90,8 @@ LinkedObjectsAreOwned = (xs : List CheckedUnit) (m : Matching) (main : ℕ) → 
     → (n : ℕ) (o : Object) → slice_get (linked_program xs m main).objects n ≡ Some o → is_lasting o.storage ≡ false
     → ((k : ℕ) × Lists (linked_program xs m main) k n) × (1 ≤ size_of (linked_program xs m main).structs o.of)
 
--- what a unit's object starts with, and is known before the program runs, is known in the program, where
--- the object tells the entry
+-- where a unit's object tells the entry, and its start is known before the program runs, so is that of
+-- the program's object
 abbrev pub LinkedStartsAreKnown : Type 0
 LinkedStartsAreKnown = (xs : List CheckedUnit) (m : Matching) (main : ℕ) → AreTypedUnits xs m
     → (n : ℕ) (e : ObjectEntry) → slice_get (all_joined m.numbers xs).1.objects n ≡ Some e
@@ -99,7 +99,8 @@ LinkedStartsAreKnown = (xs : List CheckedUnit) (m : Matching) (main : ℕ) → A
     → (o : Object) × (slice_get (linked_program xs m main).objects n ≡ Some o)
     × (o.storage ≡ f.object.storage) × IsStaticStart (scene_of (linked_program xs m main) []) o
 
--- an array without a length, which the unit defines, has a size there and no values (C90 6.7.2)
+-- an array that tells the entry, without a length or values in its unit, is complete in the program,
+-- with a start that is known (C90 6.7.2)
 abbrev pub LinkedArraysAreMeasured : Type 0
 LinkedArraysAreMeasured = (xs : List CheckedUnit) (m : Matching) (main : ℕ) → AreTypedUnits xs m
     → (n : ℕ) (e : ObjectEntry) → slice_get (all_joined m.numbers xs).1.objects n ≡ Some e

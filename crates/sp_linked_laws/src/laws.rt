@@ -20,8 +20,8 @@ use sp_struct_match::matching_laws;
 use sp_table_laws::table_laws;
 
 /// A linked program of well-typed units is well typed. What a function sees in its unit, it sees in the
-/// program; each is defined once there, an object is one function's own, and what units start with
-/// before they run, the program does. The call does nothing.
+/// program; each is defined once there, an object is one function's own, and where the starts of units'
+/// objects are known before they run, so are those of the program. The call does nothing.
 pub fn linked_follow()
     ensures programs { LinkedProgramsAreTyped }
     ensures follow { LinkedUnitsFollow }

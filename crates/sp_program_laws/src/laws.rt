@@ -8,8 +8,9 @@ use sp_lowered_laws::lowerings_are_formed;
 use sp_typed_unit_laws::units_are_typed;
 use sp_written_laws::units_are_written;
 
-/// A program whose units the checks accept is well typed, and its lowering is formed. The units of
-/// texts are written as the checks expect them, and their names are bytes. The call does nothing.
+/// A program whose units the checks accept is well typed, and its lowering, within the limits, is
+/// formed. The units of texts are written as the checks expect them, and their names are bytes. The
+/// call does nothing.
 pub fn programs_are_typed()
     ensures typed { ProgramsAreTyped }
     ensures formed { LoweringsAreFormed }

@@ -4,8 +4,8 @@
 //! Here the laws of the layers meet. The unit of a text is written as a text can have it, and its
 //! names are bytes (`sp_written_laws`); so a unit that the checks accept is well typed
 //! (`sp_typed_unit_laws`), a program that such units are linked to is (`sp_linked_laws`), and the
-//! lowering of that program is formed (`sp_lowered_laws`). So no program of files has to be tested
-//! for being formed once it is lowered.
+//! lowering of that program, within the limits, is formed (`sp_lowered_laws`). So no program of
+//! files has to be tested for being formed once it is lowered.
 //!
 //! Each unit is checked with the names so far, so the units of one program differ in those
 //! (`IsChecked`, specs/Programs.antt).

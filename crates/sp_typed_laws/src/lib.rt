@@ -7,9 +7,9 @@
 //! and functions have become pointers, and a struct is complete. So in `struct s { int a[3]; } *p;`
 //! the value of `p->a` is the array, decayed to a pointer to its first `int`, whose size is 4.
 //!
-//! The trees are those that a text can have: numbers are below 2 ^ 64, characters are ints,
-//! operators stand where the grammar has them, and the braces of a struct hold a member. Literals
-//! are bytes.
+//! The trees are those that a text can have: numbers are below 2 ^ 64, characters are ints, unary
+//! and binary operators stand where the grammar has them, and the braces of a struct hold a member.
+//! Literals are bytes.
 //!
 //! It computes nothing: a layer that rests on the law calls [`expressions_are_typed`] and has it
 //! from its contract.

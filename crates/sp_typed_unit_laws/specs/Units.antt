@@ -58,7 +58,7 @@ pub record IsFormal (x : CheckedUnit) (n : ℕ) : Type 0 where
   pub private : has_linkage object.linkage ≡ false
   pub sized : 1 ≤ size_of x.structs object.of
 
--- an object that a block lists; one with linkage is the unit's (C90 6.1.2.2)
+-- an object that a function lists beside its formals; one with linkage is the unit's (C90 6.1.2.2)
 pub record IsLocal (x : CheckedUnit) (n : ℕ) : Type 0 where
   pub object : Object
   pub there : slice_get x.objects n ≡ Some object
@@ -75,7 +75,8 @@ pub record IsTypedFunction (x : CheckedUnit) (g : Function) : Type 0 where
   pub bodied : is_some g.body ≡ true
   pub body : IsTypedBody (scene_in x (g.formals ++ g.locals)) (result_of g.of) g.body
 
--- the structs form a table, over which all types are formed; each function is defined once
+-- the structs form a table, over which the types of objects and functions are formed; each
+-- function is defined once
 pub record IsTypedUnit (x : CheckedUnit) : Type 0 where
   pub structs : IsTable x.structs
   pub members : HaveMembers x.structs
@@ -89,7 +90,7 @@ pub record IsTypedUnit (x : CheckedUnit) : Type 0 where
   -- what has a body is defined
   pub defined : (d : ℕ) (g : Function) → slice_get x.functions d ≡ Some g
       → is_some g.body ≡ true → (i : ℕ) × (slice_get x.definitions i ≡ Some d)
-  -- two entries of one name with linkage are the same
+  -- a name with linkage is one object at most, and one function at most
   pub apart : (i k : ℕ) (o p : Object) → slice_get x.objects i ≡ Some o
       → slice_get x.objects k ≡ Some p → has_linkage o.linkage ≡ true
       → has_linkage p.linkage ≡ true → o.name ≡ p.name → i ≡ k

@@ -10,7 +10,7 @@ KeepsLength None m = ⊤
 KeepsLength (Some n) m = m ≡ Some n
 
 -- The second type tells at least what the first does, where `f` gives the number of each struct. One
--- without members, as `o` says, may be another there.
+-- without members, as `o` says, may be another there. Functions aren't compared.
 pub data Refines (o : ℕ → Bool) (f : ℕ → ℕ) : CType → CType → Type 0 where
   of_void : Refines o f void void
   of_integer : (k : IntKind) → Refines o f (integer k) (integer k)

@@ -1,6 +1,6 @@
 -- Trees as a text can have them (C90 6.1.3, 6.3, 6.5.2.1): a number is one of 64 bits, a character
--- is an int, operators and storage classes stand where the grammar has them, and the braces of a
--- struct hold a member.
+-- is an int, unary and binary operators and storage classes stand where the grammar has them, and
+-- the braces of a struct hold a member.
 use Rattle.std.specs.Prelude.{◌≡◌, ◌^◌, ◌<◌, ◌==◌, ◌||◌, Bool, true, false, ⊤}
 use Rattle.sp_types.specs.declared.ctype.IntKind.TheVariants.{Int}
 use Rattle.sp_syntax.specs.Words.{is_storage, binary_level, is_step, is_unary}
