@@ -9,6 +9,7 @@ use Rattle.sp_types.specs.declared.program.Linkage.{Linkage}
 use Rattle.sp_types.specs.declared.program.Linkage.TheVariants.{External}
 use Rattle.sp_operands.specs.Answers.{Checked, accepted, refused}
 use Rattle.sp_scopes.specs.declared.meaning.Tag.{Tag}
+use Rattle.sp_scopes.specs.declared.scope.ScopeKind.TheVariants.{Block, Parameters}
 use Rattle.sp_scopes.specs.Meanings.{Meaning, object, function}
 use Rattle.sp_scopes.specs.Scopes.{Scopes, file_scope, entry}
 use Rattle.sp_scopes.specs.Scopes as scopes
@@ -36,8 +37,16 @@ unit_start = record { scopes = file_scope; links = []; depths = []; tables = rec
 
 -- ---- scopes
 
+-- a block; a list of parameters
 abbrev pub entered : Env → Env
-entered env = record env { scopes = scopes.entered env.scopes }
+entered env = record env { scopes = scopes.entered Block env.scopes }
+
+abbrev pub list_entered : Env → Env
+list_entered env = record env { scopes = scopes.entered Parameters env.scopes }
+
+-- the list of a definition is in the block that is its body (6.1.2.1)
+abbrev pub as_block : Env → Env
+as_block env = record env { scopes = scopes.as_block env.scopes }
 
 abbrev pub left : Env → Env
 left env = record env { scopes = scopes.left env.scopes }
@@ -57,6 +66,14 @@ declared_beside env n m p (Some old) = if is_same_entity old m then accepted env
 
 abbrev pub declared : Env → ℕ → Meaning → Place → Checked Env
 declared env n m p = declared_beside env n m p (entry env.scopes.inner.names n)
+
+-- the same in the innermost block, or the file: a list of parameters is no block
+abbrev pub declared_in_block_beside : Env → ℕ → Meaning → Place → Option Meaning → Checked Env
+declared_in_block_beside env n m p None = accepted (record env { scopes = scopes.with_block_name env.scopes n m })
+declared_in_block_beside env n m p (Some old) = if is_same_entity old m then accepted env else refused F9 p
+
+abbrev pub declared_in_block : Env → ℕ → Meaning → Place → Checked Env
+declared_in_block env n m p = declared_in_block_beside env n m p (scopes.meaning_in_block env.scopes n)
 
 -- ---- names with linkage (6.1.2.2)
 

@@ -20,8 +20,11 @@ ghost use Rattle.sp_scopes.specs.Scopes.{entry, visible_meaning, visible_tag, is
 ghost use Rattle.sp_env.specs.Env.{
   unit_start,
   entered,
+  list_entered,
+  as_block,
   left,
   declared,
+  declared_in_block,
   is_same_entity,
   with_tag,
   linked,
@@ -49,7 +52,7 @@ ghost use Rattle.sp_env.specs.Declaring.{LeadsTo};
 use crate::UnitTables;
 use indexmap::IndexMap;
 use sp_operands::{CheckError, fault};
-use sp_scopes::{Meaning, Scopes, Tag};
+use sp_scopes::{Meaning, ScopeKind, Scopes, Tag};
 use sp_tree::{FaultKind, Place};
 use sp_types::{CType, FunctionDef, Linkage, ObjectDef, Signature, StructType};
 use sp_units::Typing;
@@ -124,12 +127,28 @@ impl Env {
         }
     }
 
-    /// Opens a scope inside the others.
+    /// Opens the scope of a block inside the others.
     pub fn enter(&mut self, alloc: Global) -> Result<(), AllocError>
         ensures ok { OnOk result (env_of self.new ≡ entered (env_of self.old)) }
         ensures err { OnErr result (env_of self.new ≡ env_of self.old) }
     {
-        self.scopes.enter(alloc)
+        self.scopes.enter(alloc, ScopeKind::Block)
+    }
+
+    /// Opens the scope of a list of parameters inside the others.
+    pub fn enter_list(&mut self, alloc: Global) -> Result<(), AllocError>
+        ensures ok { OnOk result (env_of self.new ≡ list_entered (env_of self.old)) }
+        ensures err { OnErr result (env_of self.new ≡ env_of self.old) }
+    {
+        self.scopes.enter(alloc, ScopeKind::Parameters)
+    }
+
+    /// Makes the innermost scope a block's: the parameters of a definition are in the block that is
+    /// its body (C90 6.1.2.1).
+    pub fn make_block(&mut self)
+        ensures { env_of self.new ≡ as_block (env_of self.old) }
+    {
+        self.scopes.make_block();
     }
 
     /// Closes the innermost scope. That of the file stays.
@@ -178,6 +197,26 @@ impl Env {
     {
         match self.scopes.meaning_here(name) {
             None => Ok(self.scopes.add_name(name, meaning)?),
+            Some(old) if is_same_entity(old, &meaning) => Ok(()),
+            Some(_) => fault(FaultKind::F9, place),
+        }
+    }
+
+    /// Declares a name in the innermost block, or in the file where no block is open: a list of
+    /// parameters is no block. It is F9 as for [`Env::declare`].
+    pub fn declare_in_block(
+        &mut self,
+        name: u32,
+        meaning: Meaning,
+        place: Place,
+    ) -> Result<(), CheckError>
+        ensures answer { LeadsTo
+            (declared_in_block (env_of self.old) name (meaning_of meaning) place)
+            (env_of self.new) result }
+        ensures err { OnErr result (env_of self.new ≡ env_of self.old) }
+    {
+        match self.scopes.meaning_in_block(name) {
+            None => Ok(self.scopes.add_block_name(name, meaning)?),
             Some(old) if is_same_entity(old, &meaning) => Ok(()),
             Some(_) => fault(FaultKind::F9, place),
         }

@@ -4,12 +4,22 @@ ghost use Rattle.sp_types.specs.View.{type_of};
 ghost use Rattle.sp_types.specs.TypedView.{typed_of};
 ghost use Rattle.sp_operands.specs.Answers.{AnswersIn};
 ghost use Rattle.sp_env.specs.Views.{env_of};
-ghost use Rattle.sp_expr_steps.specs.Expressions.{value_checked, declared_type, specifiers_checked};
+ghost use Rattle.sp_expr_steps.specs.Expressions.{
+  value_checked,
+  declared_type,
+  specifiers_checked,
+  length_checked,
+  list_checked,
+};
+ghost use Rattle.sp_expr_steps.specs.SyntaxView.{declarator_form_of};
+ghost use Rattle.sp_type_rules.specs.DerivationView.{parameters_seen};
 
-use crate::expressions::{declared_type, specifiers_checked, value_checked};
+use crate::expressions::{
+    declared_type, length_checked, list_checked, specifiers_checked, value_checked,
+};
 use sp_env::Env;
 use sp_operands::CheckError;
-use sp_syntax::{Declarator, Expr, Specifier};
+use sp_syntax::{Declarator, DeclaratorForm, Expr, Specifier};
 use sp_tree::{Names, Place};
 use sp_types::{CType, TypedExpr};
 use std::alloc::Global;
@@ -63,4 +73,32 @@ pub fn check_declarator(
         (env_of env.new) result }
 {
     declared_type(alloc, declarator, env, names, base)
+}
+
+/// The length of an array that an expression gives (C90 6.5.4.2), or its fault.
+pub fn check_length(
+    alloc: Global,
+    env: &mut Env,
+    length: &Expr,
+    names: &Names,
+) -> Result<u64, CheckError>
+    ensures { AnswersIn (λ n. n)
+        (length_checked names.now (env_of env.old) (tree_of length.now)) (env_of env.new) result }
+{
+    length_checked(alloc, length, env, names)
+}
+
+/// The types of the parameters of a declarator of a function, where it tells them (C90 6.5.4.3), or
+/// their fault; another form tells none. Their scope is left behind them.
+pub fn check_list(
+    alloc: Global,
+    env: &mut Env,
+    form: &DeclaratorForm,
+    names: &Names,
+) -> Result<Option<Vec<CType>>, CheckError>
+    ensures { AnswersIn parameters_seen
+        (list_checked names.now (env_of env.old) (declarator_form_of form.now))
+        (env_of env.new) result }
+{
+    list_checked(alloc, form, env, names)
 }

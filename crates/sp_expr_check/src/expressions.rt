@@ -384,7 +384,7 @@ fn derivations(
 /// The length of an array (C90 6.5.4.2).
 #[tactic(auto, using(crate::proofs::Places::places))]
 #[cycle(expression)]
-fn length_checked(
+pub(crate) fn length_checked(
     alloc: Global,
     length: &Expr,
     env: &mut Env,
@@ -401,7 +401,7 @@ fn length_checked(
 /// in a scope of their own.
 #[tactic(auto, using(crate::proofs::Lists::lists))]
 #[cycle(expression)]
-fn list_checked(
+pub(crate) fn list_checked(
     alloc: Global,
     form: &DeclaratorForm,
     env: &mut Env,
@@ -411,7 +411,7 @@ fn list_checked(
         (list_checked names.now (env_of env.old) (declarator_form_of form.now))
         (env_of env.new) result }
 {
-    env.enter(alloc)?;
+    env.enter_list(alloc)?;
     let all = params_checked(alloc, form, env, names);
     list_told(env, form, all)
 }

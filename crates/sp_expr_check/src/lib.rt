@@ -5,7 +5,8 @@
 //! ([`sp_env`]) and gives the typed tree of its value, in which every conversion of C90 is written
 //! out. It walks the tree from left to right. Strings, constants and functions that are declared by
 //! their call go to the tables on the way. [`check_specifiers`] and [`check_declarator`] give the
-//! types that specifiers and declarators name. Each form of tree has one rule, which stands below
+//! types that specifiers and declarators name, [`check_length`] and [`check_list`] those of the parts
+//! of a declarator. Each form of tree has one rule, which stands below
 //! (`sp_rules`, `sp_unary_rules`, `sp_names`, `sp_type_rules`, `sp_member_rules`, `sp_expr_steps`):
 //! here are the calls that walk.
 //!
@@ -20,4 +21,4 @@
 mod checks;
 mod expressions;
 
-pub use checks::{check_declarator, check_expression, check_specifiers};
+pub use checks::{check_declarator, check_expression, check_length, check_list, check_specifiers};

@@ -18,7 +18,7 @@ use Rattle.sp_operands.specs.Operands.{int}
 use Rattle.sp_constants.specs.Constants.{constant_of}
 use Rattle.sp_rules.specs.Lengths.{length_given}
 use Rattle.sp_rules.specs.Rules.{indexed, member_taken, arrow_taken, cast_to, binary, choice, assign, called_signature, told, wanted, behind, argument, called, not_floating, stepped_after, takes_object, argument_at, unary_object, unary_value}
-use Rattle.sp_env.specs.Env.{Env, with_constant, entered}
+use Rattle.sp_env.specs.Env.{Env, with_constant, list_entered}
 use Rattle.sp_member_rules.specs.Enumerators.{with_enum_tag, enumerator}
 use Rattle.sp_member_rules.specs.Members.{completed}
 use Rattle.sp_member_rules.specs.Parameters.{declared_name, has_parameter_storage, is_lone_void, reserved, reserved_number}
@@ -220,7 +220,7 @@ abbrev mutual
       accepted (x.0 ++ to_array (Some n.0) p ∷ [], n.1)))
   derivations_checked names env p (syntax.function d ps dots) =
       and_then (steps_checked names env d) (λ x.
-      and_then (and_then (params_checked names (entered x.1) (is_alone ps dots) [] ps) (λ y. list_told ps y.0 y.1)) (λ l.
+      and_then (and_then (params_checked names (list_entered x.1) (is_alone ps dots) [] ps) (λ y. list_told ps y.0 y.1)) (λ l.
       accepted (x.0 ++ to_function l.0 dots p ∷ [], l.1)))
 
   -- the types of parameters, behind those that are read; `alone` says that there is but one, and no `...`
@@ -250,12 +250,12 @@ items_in (declaration ss is p) = is
 
 -- the parameters of a declarator of a function, in a scope of their own; another form has none
 abbrev pub list_checked : List (List ℕ) → Env → DeclaratorForm → Checked (Parameters × Env)
-list_checked names env (syntax.function d ps dots) = and_then (params_checked names (entered env) (is_alone ps dots) [] ps) (λ y. list_told ps y.0 y.1)
+list_checked names env (syntax.function d ps dots) = and_then (params_checked names (list_entered env) (is_alone ps dots) [] ps) (λ y. list_told ps y.0 y.1)
 list_checked names env f = accepted (untold, env)
 
 -- the same of every form at once
 abbrev pub list_read : List (List ℕ) → Env → DeclaratorForm → Checked (Parameters × Env)
-list_read names env f = and_then (params_checked names (entered env) (is_alone_in f) [] (params_of f)) (λ y. list_told (params_of f) y.0 y.1)
+list_read names env f = and_then (params_checked names (list_entered env) (is_alone_in f) [] (params_of f)) (λ y. list_told (params_of f) y.0 y.1)
 
 -- the argument of this number
 abbrev pub one_checked : List (List ℕ) → Env → CTypes → ℕ → Expression → Checked (Typed × Env)

@@ -1,20 +1,20 @@
 -- The declarator of a definition of a function (C90 6.7.1): the list of parameters next to its name
 -- declares the formals.
-use Rattle.std.specs.Prelude.{ℕ, Bool, true, false, not, ◌&&◌, ◌||◌, List, [], ◌∷◌, ◌++◌, Option, Some, None, if◌then◌else◌}
+use Rattle.std.specs.Prelude.{ℕ, Bool, true, false, not, ◌&&◌, ◌||◌, List, [], ◌∷◌, ◌++◌, Some, None, if◌then◌else◌}
 use Rattle.sp_tree.specs.declared.fault.FaultKind.TheVariants.{F13, F14, U1}
 use Rattle.sp_tree.specs.declared.fault.Place.{Place}
-use Rattle.sp_syntax.specs.Syntax.{Declarator, declarator, DeclaratorForm, absent, declared, group, pointer, array, function, Param, param, Params, no_params, next_param}
+use Rattle.sp_syntax.specs.Syntax.{Declarator, declarator, DeclaratorForm, declared, group, pointer, array, function, Param, param, Params, no_params, next_param, MaybeExpression, no_expression, some_expression}
 use Rattle.sp_syntax.specs.Places.{declarator_place}
 use Rattle.sp_types.specs.Types.{CType, floating, Signature, Struct, result_of}
 use Rattle.sp_types.specs.Types as types
 use Rattle.sp_operands.specs.Answers.{Checked, accepted, refused, and_then, where_met, where_given}
 use Rattle.sp_operands.specs.Conversions.{is_void, is_floating, is_complete}
 use Rattle.sp_rules.specs.Rules.{function_type}
-use Rattle.sp_env.specs.Env.{Env, entered}
-use Rattle.sp_type_rules.specs.Derivations.{Derivation, to_pointer, to_function, made}
+use Rattle.sp_env.specs.Env.{Env, list_entered}
+use Rattle.sp_type_rules.specs.Derivations.{Derivation, to_pointer, to_array, to_function, made}
 use Rattle.sp_member_rules.specs.Parameters.{declared_name, has_parameter_storage, is_lone_void, adjusted, reserved, reserved_number, named_parameter}
-use Rattle.sp_expr_check.specs.Expressions.{specifiers_checked, declared_type, params_checked}
-use Rattle.sp_expr_check.specs.Parameters.{is_alone, told_types, list_told}
+use Rattle.sp_expr_check.specs.Expressions.{specifiers_checked, declared_type, length_checked, list_checked}
+use Rattle.sp_expr_check.specs.Parameters.{is_alone, told_types}
 
 -- the types of parameters, and the numbers of the formals
 pub record Read : Type 0 where
@@ -54,17 +54,20 @@ no_parameters = record { types = []; formals = [] }
 -- the list next to the name; the scope of the formals stays open (6.1.2.1: it ends with the body)
 abbrev pub own_list : List (List ℕ) → Env → Place → Params → Bool → Checked (Steps × Env)
 own_list names env p ps dots =
-    and_then (formals_checked names (entered env) (is_alone ps dots) no_parameters ps) (λ y.
+    and_then (formals_checked names (list_entered env) (is_alone ps dots) no_parameters ps) (λ y.
     accepted (record { steps = to_function (told_types ps y.0.types) dots p ∷ []; formals = y.0.formals }, y.1))
 
 abbrev pub outwards : Steps → Derivation → Steps
 outwards x d = record x { steps = x.steps ++ d ∷ [] }
 
--- a list further out is that of a function which the function's result leads to
-abbrev pub outer_list : List (List ℕ) → Place → Params → Bool → Steps × Env → Checked (Steps × Env)
-outer_list names p ps dots x =
-    and_then (and_then (params_checked names (entered x.1) (is_alone ps dots) [] ps) (λ y. list_told ps y.0 y.1)) (λ l.
-    accepted (outwards x.0 (to_function l.0 dots p), l.1))
+-- a list further out is that of a function which the function's result leads to; `f` is the form that has it
+abbrev pub outer_list : List (List ℕ) → Place → DeclaratorForm → Bool → Steps × Env → Checked (Steps × Env)
+outer_list names p f dots x = and_then (list_checked names x.1 f) (λ l. accepted (outwards x.0 (to_function l.0 dots p), l.1))
+
+-- and a length is that of an array to which it leads
+abbrev pub outer_length : List (List ℕ) → Place → MaybeExpression → Steps × Env → Checked (Steps × Env)
+outer_length names p no_expression x = accepted (outwards x.0 (to_array None p), x.1)
+outer_length names p (some_expression e) x = and_then (length_checked names x.1 e) (λ n. accepted (outwards x.0 (to_array (Some n.0) p), n.1))
 
 abbrev mutual
   pub is_name : Declarator → Bool
@@ -85,7 +88,8 @@ abbrev mutual
   form_steps names env at p (pointer qs d) = and_then (own_steps names env at d) (λ x. accepted (outwards x.0 to_pointer, x.1))
   form_steps names env at p (function d ps dots) =
       if is_name d then own_list names env p ps dots
-      else and_then (own_steps names env at d) (λ x. outer_list names p ps dots x)
+      else and_then (own_steps names env at d) (λ x. outer_list names p (function d ps dots) dots x)
+  form_steps names env at p (array d n) = and_then (own_steps names env at d) (λ x. outer_length names p n x)
   form_steps names env at p f = refused F14 at
 
 -- ---- the whole declarator

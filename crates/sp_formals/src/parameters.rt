@@ -1,11 +1,10 @@
-//! The parameters of a definition, and those of other lists (C90 6.5.4.3, 6.7.1).
-ghost use Rattle.std.specs.Prelude.{◌≡◌, [], map};
+//! The parameters of a definition (C90 6.5.4.3, 6.7.1).
+ghost use Rattle.std.specs.Prelude.{◌≡◌, map};
 ghost use Rattle.sp_syntax.specs.View.{param_of, params as params_seen, declarator_of};
 ghost use Rattle.sp_types.specs.View.{type_of};
 ghost use Rattle.sp_operands.specs.Answers.{AnswersIn};
 ghost use Rattle.sp_env.specs.Views.{env_of};
-ghost use Rattle.sp_expr_check.specs.Expressions.{param_checked, params_checked};
-ghost use Rattle.sp_expr_check.specs.Parameters.{is_alone, told_types, param_told};
+ghost use Rattle.sp_expr_check.specs.Parameters.{is_alone, told_types};
 ghost use Rattle.sp_type_rules.specs.DerivationView.{parameters_seen};
 ghost use Rattle.sp_formals.specs.FormalsView.{read_of};
 ghost use Rattle.sp_formals.specs.Formals.{formal_told, formal_checked, formals_checked, no_parameters};
@@ -114,80 +113,6 @@ pub(crate) fn formals_checked(
         read = formal_checked(alloc, env, names, alone, read, param)?;
     }
     Ok(read)
-}
-
-/// Puts the type of a parameter behind the others; a named one is declared in the innermost scope.
-#[tactic(auto, using(crate::proofs::Places::places))]
-fn param_told(
-    alloc: Global,
-    env: &mut Env,
-    number: u32,
-    mut all: Vec<CType>,
-    of: CType,
-    declarator: &Declarator,
-) -> Result<Vec<CType>, CheckError>
-    ensures { AnswersIn (λ all. map type_of all.items)
-        (param_told (env_of env.old) number (map type_of all.items) (type_of of)
-        (declarator_of declarator.now))
-        (env_of env.new) result }
-{
-    let of = adjusted(alloc, of)?;
-    if is_void(&of) {
-        return fault(FaultKind::F13, declarator.place);
-    }
-    let name = declared_name(declarator);
-    named_parameter(alloc, env, number, name, of.copy(alloc)?)?;
-    all.push(of)?;
-    Ok(all)
-}
-
-/// A parameter of another list, behind those that are read.
-#[tactic(auto, using(crate::proofs::Places::places))]
-fn param_checked(
-    alloc: Global,
-    env: &mut Env,
-    names: &Names,
-    alone: bool,
-    all: Vec<CType>,
-    param: &Param,
-) -> Result<Vec<CType>, CheckError>
-    ensures { AnswersIn (λ all. map type_of all.items)
-        (param_checked names.now (env_of env.old) alone (map type_of all.items)
-        (param_of param.now))
-        (env_of env.new) result }
-{
-    let at = param.declarator.place;
-    if !has_parameter_storage(&param.specifiers) {
-        return fault(FaultKind::F14, at);
-    }
-    let name = declared_name(&param.declarator);
-    let number = reserved(alloc, env, name)?;
-    let base = check_specifiers(alloc, env, &param.specifiers, false, at, names)?;
-    if alone && is_lone_void(&base, &param.declarator) {
-        return Ok(all);
-    }
-    let of = check_declarator(alloc, env, base, &param.declarator, names)?;
-    param_told(alloc, env, number, all, of, &param.declarator)
-}
-
-/// The types of the parameters of another list, in their scope.
-pub(crate) fn params_checked(
-    alloc: Global,
-    env: &mut Env,
-    names: &Names,
-    alone: bool,
-    params: &[Param],
-) -> Result<Vec<CType>, CheckError>
-    ensures { AnswersIn (λ all. map type_of all.items)
-        (params_checked names.now (env_of env.old) alone []
-        (params_seen (map param_of params.now)))
-        (env_of env.new) result }
-{
-    let mut all = Vec::new(alloc);
-    'params: for (i, param) in params.iter().enumerate() {
-        all = param_checked(alloc, env, names, alone, all, param)?;
-    }
-    Ok(all)
 }
 
 /// Whether a list has one parameter, and no `...`.

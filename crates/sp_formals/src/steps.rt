@@ -1,6 +1,7 @@
 //! What the parts of a definition's declarator derive (C90 6.5.4, 6.7.1).
 ghost use Rattle.std.specs.Prelude.{◌≡◌, map};
-ghost use Rattle.sp_syntax.specs.View.{declarator_of, param_of, params as params_seen};
+ghost use Rattle.sp_syntax.specs.Syntax.{some_expression};
+ghost use Rattle.sp_syntax.specs.View.{declarator_of, tree_of, param_of, params as params_seen};
 ghost use Rattle.sp_operands.specs.Answers.{AnswersIn};
 ghost use Rattle.sp_env.specs.Views.{env_of};
 ghost use Rattle.sp_expr_check.specs.SyntaxView.{declarator_form_of};
@@ -8,16 +9,18 @@ ghost use Rattle.sp_formals.specs.FormalsView.{steps_of};
 ghost use Rattle.sp_formals.specs.Formals.{
   own_list,
   outer_list,
+  outer_length,
   is_name,
   is_name_form,
   own_steps,
   form_steps,
 };
 
-use crate::parameters::{formals_checked, is_alone, params_checked, told_types};
+use crate::parameters::{formals_checked, is_alone, told_types};
 use sp_env::Env;
+use sp_expr_check::{check_length, check_list};
 use sp_operands::{CheckError, fault};
-use sp_syntax::{Declarator, DeclaratorForm, Param};
+use sp_syntax::{Declarator, DeclaratorForm, Expr, Param};
 use sp_tree::{FaultKind, Names, Place};
 use sp_type_rules::Derivation;
 use std::alloc::Global;
@@ -43,7 +46,7 @@ fn own_list(
         variadic)
         (env_of env.new) result }
 {
-    env.enter(alloc)?;
+    env.enter_list(alloc)?;
     let read = formals_checked(alloc, env, names, is_alone(params, variadic), params)?;
     let told = told_types(params, read.types);
     let mut steps = Vec::new(alloc);
@@ -54,26 +57,42 @@ fn own_list(
     })
 }
 
-/// A list further out, in a scope of its own.
+/// A list further out, in a scope of its own; `form` is the form that has it.
 fn outer_list(
     alloc: Global,
     env: &mut Env,
     names: &Names,
     place: Place,
-    params: &[Param],
+    form: &DeclaratorForm,
     variadic: bool,
     mut all: Steps,
 ) -> Result<Steps, CheckError>
     ensures { AnswersIn steps_of
-        (outer_list names.now place (params_seen (map param_of params.now)) variadic
+        (outer_list names.now place (declarator_form_of form.now) variadic
         (steps_of all, env_of env.old))
         (env_of env.new) result }
 {
-    env.enter(alloc)?;
-    let types = params_checked(alloc, env, names, is_alone(params, variadic), params)?;
-    env.leave();
-    let told = told_types(params, types);
+    let told = check_list(alloc, env, form, names)?;
     all.steps.push(Derivation::Function(told, variadic, place))?;
+    Ok(all)
+}
+
+/// An array further out, of this length.
+fn outer_array(
+    alloc: Global,
+    env: &mut Env,
+    names: &Names,
+    place: Place,
+    length: &Expr,
+    mut all: Steps,
+) -> Result<Steps, CheckError>
+    ensures { AnswersIn steps_of
+        (outer_length names.now place (some_expression (tree_of length.now))
+        (steps_of all, env_of env.old))
+        (env_of env.new) result }
+{
+    let length = check_length(alloc, env, length, names)?;
+    all.steps.push(Derivation::Array(Some(length), place))?;
     Ok(all)
 }
 
@@ -140,11 +159,18 @@ fn form_steps(
                 own_list(alloc, env, names, place, params, *variadic)
             } else {
                 let all = own_steps(alloc, inner, env, names, at)?;
-                outer_list(alloc, env, names, place, params, *variadic, all)
+                outer_list(alloc, env, names, place, form, *variadic, all)
             }
         }
-        DeclaratorForm::Absent | DeclaratorForm::Name(_) | DeclaratorForm::Array(_, _) => {
-            fault(FaultKind::F14, at)
+        DeclaratorForm::Array(inner, None) => {
+            let mut all = own_steps(alloc, inner, env, names, at)?;
+            all.steps.push(Derivation::Array(None, place))?;
+            Ok(all)
         }
+        DeclaratorForm::Array(inner, Some(length)) => {
+            let all = own_steps(alloc, inner, env, names, at)?;
+            outer_array(alloc, env, names, place, length, all)
+        }
+        DeclaratorForm::Absent | DeclaratorForm::Name(_) => fault(FaultKind::F14, at),
     }
 }

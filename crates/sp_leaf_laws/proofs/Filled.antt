@@ -26,7 +26,8 @@ use Rattle.sp_typing.specs.Trees.{Scene}
 use Rattle.sp_unit_laws.proofs.Lists.{none_some}
 use Rattle.sp_unit_laws.proofs.After.{Gives, gives, gives_then, gives_met}
 use Rattle.sp_written_laws.specs.Written.{IsWritten, IsWrittenInit, AreWrittenInits}
-use Rattle.sp_typed_laws.specs.Sound.{scene_of, AreBytes}
+use Rattle.sp_written_laws.specs.Laws.{AreByteNames}
+use Rattle.sp_typed_laws.specs.Sound.{scene_of}
 use Rattle.sp_typed_laws.proofs.Trees.{IsValued, IsOf, tree_converted}
 use Rattle.sp_typed_laws.proofs.Envs.{IsFit, Reaches, reaches_nowhere, grows_of, fit_table}
 use Rattle.sp_typed_laws.proofs.After.{After, done, next, given as given_part, either, staying, taken as taken_then}
@@ -122,7 +123,7 @@ integers_there : (P : Places) (ss : List Struct) (c : IntKind) (inner : Shape) (
     → P (k + j) (integer c)
 integers_there P ss c inner n k has_integer h j low = h j (integer c) (omega (arith, low)) refl
 
-module _ (P : Places) (s : Scene) (names : List (List ℕ)) (bytes : AreBytes names) where
+module _ (P : Places) (s : Scene) (names : List (List ℕ)) (bytes : AreByteNames names) where
   counted_string : (vs : List (ℕ × Typed)) (c : IntKind) (n from k : ℕ) (name : Place)
       (e : Expression)
       → is_character_kind c ≡ true → ((j : ℕ) → j < n → P (k + j) (integer c))
@@ -184,7 +185,7 @@ string_taken t i e h = by (is_character_array t) h
 
 -- ---- lists
 
-module _ (names : List (List ℕ)) (bytes : AreBytes names) (own : ℕ → Bool) (P : Places)
+module _ (names : List (List ℕ)) (bytes : AreByteNames names) (own : ℕ → Bool) (P : Places)
     (alike : AreAlike P) where
   -- in the environment behind
   abbrev AreValuesIn : ℕ → List (ℕ × Typed) → Env → Type 0

@@ -21,7 +21,8 @@ use Rattle.sp_unit_laws.proofs.Lists.{none_some, some_is, each_none}
 use Rattle.sp_unit_laws.proofs.Composites.{array_formed}
 use Rattle.sp_unit_laws.proofs.After.{Gives, gives, gives_met, gives_given, anything}
 use Rattle.sp_written_laws.specs.Written.{IsWritten, IsWrittenInit, AreWrittenInits}
-use Rattle.sp_typed_laws.specs.Sound.{AreBytes, lasting_alone, scene_of}
+use Rattle.sp_written_laws.specs.Laws.{AreByteNames}
+use Rattle.sp_typed_laws.specs.Sound.{lasting_alone, scene_of}
 use Rattle.sp_typed_laws.proofs.Envs.{IsFit, Reaches, reaches_nowhere}
 use Rattle.sp_typed_laws.proofs.After.{After, done, after_none, next, taken, met, given, either, staying}
 use Rattle.sp_typed_laws.proofs.Updates.{reaches_constant}
@@ -49,7 +50,7 @@ set_on {env = env} {later = later} w vs h g set fixed =
     all_set_stay (scene_of lasting_alone env) (scene_of lasting_alone later)
     (scene_grows lasting_alone env later g.moves h.formed) vs (set fixed)
 
-module _ (names : List (List ℕ)) (low : AreBytes names) (own : ℕ → Bool) (env : Env) (w : Target)
+module _ (names : List (List ℕ)) (low : AreByteNames names) (own : ℕ → Bool) (env : Env) (w : Target)
     (h : IsFit own env) where
   leaf_sound : (vs : List (ℕ × Typed)) (t : CType) (k : ℕ) (e : Expression) → IsWritten e
       → AreSetIn w vs env → After own env (AreSetIn w) (leaf_given names env w vs t k e)
@@ -94,7 +95,7 @@ module _ (names : List (List ℕ)) (low : AreBytes names) (own : ℕ → Bool) (
 pub none_set : (w : Target) (env : Env) → AreSetIn w [] env
 none_set w env fixed = each_none (λ (x : ℕ × Typed). IsSet (scene_of lasting_alone env) x.1)
 
-module _ (names : List (List ℕ)) (low : AreBytes names) (own : ℕ → Bool) where
+module _ (names : List (List ℕ)) (low : AreByteNames names) (own : ℕ → Bool) where
   abbrev SetIn : Target → Progress → Env → Type 0
   SetIn w x env = AreSetIn w x.values env
 
@@ -257,7 +258,7 @@ IsStartedType t x env = IsObjectType x.of env × Completes t x.of
 abbrev pub IsStartedSet : Target → CType → Started → Env → Type 0
 IsStartedSet w t x env = IsStartedType t x env × AreSetIn w x.values env
 
-pub started_sound : (names : List (List ℕ)) → AreBytes names → (own : ℕ → Bool) (env : Env)
+pub started_sound : (names : List (List ℕ)) → AreByteNames names → (own : ℕ → Bool) (env : Env)
     (w : Target) (t : CType) (i : Init)
     → IsFit own env → IsObjectType t env → IsWrittenInit i
     → After own env (IsStartedSet w t) (started names env w t i)

@@ -28,7 +28,8 @@ use Rattle.sp_typing.specs.Starts.{leaf_type, IsLeafValue, AreApart, AreLeafValu
 use Rattle.sp_unit_laws.proofs.Lists.{Each, none_some, some_is, get_below}
 use Rattle.sp_unit_laws.proofs.After.{Gives, gives, gives_none, gives_then, gives_met, gives_given}
 use Rattle.sp_written_laws.specs.Written.{AreWrittenInits}
-use Rattle.sp_typed_laws.specs.Sound.{IsSound, scene_of, AreBytes}
+use Rattle.sp_written_laws.specs.Laws.{AreByteNames}
+use Rattle.sp_typed_laws.specs.Sound.{IsSound, scene_of}
 use Rattle.sp_typed_laws.proofs.Types.{IsSoundTable, complete_sized, size_laid}
 use Rattle.sp_typed_laws.proofs.Envs.{IsFit, Reaches, grows_of, fit_table}
 use Rattle.sp_typed_laws.proofs.After.{After}
@@ -105,7 +106,7 @@ abbrev measured_then : Target → CType → List (ℕ × Typed) × Env → Check
 measured_then w t x = and_then (measured x.1.tables.structs w.declarator x.0 t) (λ u.
     accepted (record { of = u; values = x.0 }, with_length x.1 (is_unmeasured t) u))
 
-module _ (names : List (List ℕ)) (bytes : AreBytes names) (own : ℕ → Bool) (env : Env)
+module _ (names : List (List ℕ)) (bytes : AreByteNames names) (own : ℕ → Bool) (env : Env)
     (w : Target) (f : IsFit own env) where
   shape_alike : (shape : Shape) → leaf_count shape ≤ 2 ^ 40 → AreAlike (of_shape shape)
   shape_alike shape low j k t u far other h = absurd (omega (arith, far, h.0, low))
@@ -262,7 +263,7 @@ module _ (s : Scene) (table : IsSoundTable s.structs) (t : CType) (shape : Shape
         last_highest (of_elements shape) s limit vs h (omega (arith, low.0, low.1)) k v there,
       ))))))
 
-module _ (names : List (List ℕ)) (bytes : AreBytes names) (own : ℕ → Bool) (env : Env)
+module _ (names : List (List ℕ)) (bytes : AreByteNames names) (own : ℕ → Bool) (env : Env)
     (w : Target) (f : IsFit own env) where
   abbrev elements_filled : CType → Inits → Checked (List (ℕ × Typed) × Env)
   elements_filled t is =

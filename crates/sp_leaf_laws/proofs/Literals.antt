@@ -23,7 +23,8 @@ use Rattle.sp_initialisers.specs.Initialisers.{leaf_number, last_leaf, how_many,
 use Rattle.sp_typing.specs.Starts.{AreLeafValues}
 use Rattle.sp_unit_laws.proofs.Lists.{each_pushed, pushed_length}
 use Rattle.sp_unit_laws.proofs.After.{Gives, gives, gives_none, gives_then, gives_met}
-use Rattle.sp_typed_laws.specs.Sound.{scene_of, AreBytes}
+use Rattle.sp_written_laws.specs.Laws.{AreByteNames}
+use Rattle.sp_typed_laws.specs.Sound.{scene_of}
 use Rattle.sp_typed_laws.proofs.Characters.{AreLow, text_low, characters_typed}
 use Rattle.sp_leaf_laws.proofs.Characters.{character_held}
 
@@ -73,7 +74,7 @@ last_of k p i (x ∷ y ∷ ys) b =
 
 -- ---- the array
 
-module _ (names : List (List ℕ)) (bytes : AreBytes names) (own : ℕ → Bool) (env : Env)
+module _ (names : List (List ℕ)) (bytes : AreByteNames names) (own : ℕ → Bool) (env : Env)
     (w : Target) where
   abbrev AreLeavesIn : Started × Env → Type 0
   AreLeavesIn x = AreLeafValues (scene_of own x.1) x.0.of x.0.values

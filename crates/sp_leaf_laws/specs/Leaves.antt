@@ -10,7 +10,8 @@ use Rattle.sp_initialisers.specs.declared.targets.Target.{Target}
 use Rattle.sp_initialisers.specs.Initialisers.{Started, started}
 use Rattle.sp_typing.specs.Starts.{AreLeafValues}
 use Rattle.sp_written_laws.specs.Written.{IsWrittenInit}
-use Rattle.sp_typed_laws.specs.Sound.{AreBytes, IsSound, IsSoundEnv, scene_of}
+use Rattle.sp_written_laws.specs.Laws.{AreByteNames}
+use Rattle.sp_typed_laws.specs.Sound.{IsSound, IsSoundEnv, scene_of}
 
 -- values that go to the leaves of an object: those of an array or a struct between braces
 abbrev pub goes_to_leaves : CType → Init → Bool
@@ -22,7 +23,7 @@ goes_to_leaves t i = false
 abbrev pub LeavesAreTyped : Type 0
 LeavesAreTyped = (names : List (List ℕ)) (own : ℕ → Bool) (env : Env) (w : Target) (t : CType)
     (i : Init)
-    → AreBytes names → IsSoundEnv own env → IsFormed env.tables.structs t → is_function t ≡ false
+    → AreByteNames names → IsSoundEnv own env → IsFormed env.tables.structs t → is_function t ≡ false
     → IsSound t
     → IsWrittenInit i → goes_to_leaves t i ≡ true
     → (x : Started × Env) → started names env w t i ≡ accepted x

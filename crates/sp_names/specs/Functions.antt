@@ -13,7 +13,7 @@ use Rattle.sp_scopes.specs.Meanings as means
 use Rattle.sp_scopes.specs.Scopes.{visible_meaning}
 use Rattle.sp_env.specs.declared.env.Entity.{Entity}
 use Rattle.sp_env.specs.declared.env.Entity.TheVariants as entities
-use Rattle.sp_env.specs.Env.{Env, linked, with_link, with_typing, with_typings, typings_with, declared, with_function, with_function_type, object_linkage, function_linkage, function_type}
+use Rattle.sp_env.specs.Env.{Env, linked, with_link, with_typing, with_typings, typings_with, declared_in_block, with_function, with_function_type, object_linkage, function_linkage, function_type}
 use Rattle.sp_names.specs.Composite.{composite_signature}
 
 -- ---- linkage
@@ -62,7 +62,7 @@ undefined_function n l s p = record { name = n; of = s; linkage = l; formals = [
 -- with a new entry, to which the name is linked
 abbrev pub function_added : Env → ℕ → Linkage → Signature → Place → Checked (ℕ × Env)
 function_added env n l s p =
-    and_then (declared (with_typing (with_link (with_function env (undefined_function n l s p)) n (entities.Function (length env.tables.functions))) l n (function s) p) n (means.function (length env.tables.functions)) p) (λ env'.
+    and_then (declared_in_block (with_typing (with_link (with_function env (undefined_function n l s p)) n (entities.Function (length env.tables.functions))) l n (function s) p) n (means.function (length env.tables.functions)) p) (λ env'.
     accepted (length env.tables.functions, env'))
 
 -- 6.1.2.6: a further declaration has the same linkage and a compatible type; the function then has the composite type
@@ -76,7 +76,7 @@ joined_type env l s p k =
 abbrev pub function_joined : Env → ℕ → Linkage → Signature → Place → ℕ → Checked (ℕ × Env)
 function_joined env n l s p k =
     and_then (joined_type env l s p k) (λ t.
-    and_then (declared (with_function_type (retyped env (is_retyped (as_function (function_type (slice_get env.tables.functions k))) (function t)) l n (function t) p) k t) n (means.function k) p) (λ env'.
+    and_then (declared_in_block (with_function_type (retyped env (is_retyped (as_function (function_type (slice_get env.tables.functions k))) (function t)) l n (function t) p) k t) n (means.function k) p) (λ env'.
     accepted (k, env')))
 
 abbrev pub function_at : Env → ℕ → Linkage → Signature → Place → Option Entity → Checked (ℕ × Env)
@@ -84,6 +84,6 @@ function_at env n l s p None = function_added env n l s p
 function_at env n l s p (Some (entities.Function k)) = function_joined env n l s p k
 function_at env n l s p (Some (entities.Object k)) = refused F9 p
 
--- a declaration of a function, with the number of its entry
+-- a declaration of a function in the innermost block, or in the file, with the number of its entry
 abbrev pub function_declared : Env → ℕ → Linkage → Signature → Place → Checked (ℕ × Env)
 function_declared env n l s p = function_at env n l s p (linked env n)

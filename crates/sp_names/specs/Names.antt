@@ -33,7 +33,8 @@ name_checked names env n p = where_met (not (is_jump (bytes_of names n))) U2 p (
 abbrev pub implicit_type : Signature
 implicit_type = signature int untold false
 
--- 6.3.2.2: a name that is called and not declared is declared `extern int f()` in the innermost block
+-- 6.3.2.2: a name that is called and not declared is declared `extern int f()` in the innermost block, or in
+-- the file where the call is in no block
 abbrev pub implicit_name : List (List ℕ) → Env → ℕ → Place → Checked Env
 implicit_name names env n p =
     if is_jump (bytes_of names n) || is_some (visible_meaning env.scopes n) then accepted env

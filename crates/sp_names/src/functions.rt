@@ -57,9 +57,10 @@ fn is_same_linkage(left: Linkage, right: Linkage) -> bool
     left == right
 }
 
-/// A declaration of a function in the innermost scope, and the number of its entry. `place` is that
-/// of the name. It is F9 where the unit has the name with another linkage, as an object, or with a
-/// type that isn't compatible, or where the scope has the name as something else.
+/// A declaration of a function in the innermost block, or in the file, and the number of its entry: a
+/// list of parameters is no block. `place` is that of the name. It is F9 where the unit has the name
+/// with another linkage, as an object, or with a type that isn't compatible, or where the scope has
+/// the name as something else.
 pub fn function_declared(
     alloc: Global,
     env: &mut Env,
@@ -107,7 +108,7 @@ fn function_added(
     })?;
     env.link(name, Entity::Function(number))?;
     env.add_typing(linkage, name, typing, place)?;
-    env.declare(name, Meaning::Function(number), place)?;
+    env.declare_in_block(name, Meaning::Function(number), place)?;
     Ok(number)
 }
 
@@ -200,7 +201,7 @@ fn function_joined(
     let of = joined_type(alloc, env, linkage, of, place, number)?;
     retype_function(alloc, env, name, linkage, &of, place, number)?;
     env.set_function_type(number, of);
-    env.declare(name, Meaning::Function(number), place)?;
+    env.declare_in_block(name, Meaning::Function(number), place)?;
     Ok(number)
 }
 

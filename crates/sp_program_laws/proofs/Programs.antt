@@ -1,8 +1,5 @@
 -- Units that the checks accept are typed, and what they are linked to is the program that is.
-use Rattle.std.proofs.Common.{◌≡◌, ◌<◌, ℕ, List, Option, Some, None, All, refl, subst}
-use Rattle.std.proofs.lemmas.List.Elements.{All-get_or}
-use Rattle.std.proofs.lemmas.Option.{slice_get_within, get_or_from_slice_get}
-use Rattle.std.specs.Prelude.{slice_get}
+use Rattle.std.proofs.Common.{◌≡◌, ℕ, List, Option, Some, None, All, refl, subst}
 use Rattle.sp_tree.specs.declared.fault.FaultKind.{FaultKind}
 use Rattle.sp_tree.specs.declared.fault.FaultKind.TheVariants.{F25}
 use Rattle.sp_tree.specs.declared.fault.Place.{Place}
@@ -16,24 +13,10 @@ use Rattle.sp_link.specs.Linking.{main_from}
 use Rattle.sp_program.specs.Links.{in_conflict, in_agreement}
 use Rattle.sp_typing.specs.Programs.{IsTypedProgram}
 use Rattle.sp_link_laws.specs.Names.{all_joined}
-use Rattle.sp_written_laws.specs.Laws.{AreByteNames}
-use Rattle.sp_typed_laws.specs.Sound.{AreBytes}
+use Rattle.sp_typed_laws.proofs.Characters.{all_at}
 use Rattle.sp_typed_unit_laws.specs.Units.{UnitsAreTyped}
 use Rattle.sp_linked_laws.specs.Linked.{linked_program, AreTypedUnits, LinkedProgramsAreTyped}
 use Rattle.sp_program_laws.specs.Programs.{IsChecked, ProgramsAreTyped}
-
--- ---- lists
-
-all_at : {A : Type 0} (P : A → Type 0) (xs : List A) (i : ℕ) (x : A) → All P xs
-    → slice_get xs i ≡ Some x → P x
-all_at P xs i x h at =
-    subst P (get_or_from_slice_get xs i x x at)
-    (All-get_or P xs i x (slice_get_within xs i x at) h)
-
-bytes_at : (names : List (List ℕ)) → AreByteNames names → AreBytes names
-bytes_at names h i j b bytes at within =
-    all_at (λ c. c < 256) bytes j b
-    (all_at (λ bs. All (λ c. c < 256) bs) names i bytes h at) within
 
 -- ---- answers
 
@@ -53,7 +36,7 @@ module _ (typed : UnitsAreTyped) (linked : LinkedProgramsAreTyped) where
     matched = matched;
     typed = λ u x at.
         let c : IsChecked x = all_at IsChecked units u x checked at in
-        typed c.names c.tree x (bytes_at c.names c.bytes) c.written c.checked;
+        typed c.names c.tree x c.bytes c.written c.checked;
   }
 
   -- what starts with this function

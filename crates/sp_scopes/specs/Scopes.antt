@@ -1,12 +1,15 @@
 -- Scopes (C90 6.1.2.1), and in each the two spaces of names and of tags (6.1.2.3).
-use Rattle.std.specs.Prelude.{ℕ, Bool, true, false, List, [], ◌∷◌, Option, Some, None, nat_eq}
+use Rattle.std.specs.Prelude.{ℕ, Bool, true, false, List, [], ◌∷◌, Option, Some, None, nat_eq, if◌then◌else◌}
 use Rattle.std.specs.Map.{lookup}
 use Rattle.indexmap.specs.IndexMap.{insert_entry}
 use Rattle.sp_scopes.specs.declared.meaning.Tag.{Tag}
+use Rattle.sp_scopes.specs.declared.scope.ScopeKind.{ScopeKind}
+use Rattle.sp_scopes.specs.declared.scope.ScopeKind.TheVariants.{Block, Parameters}
 use Rattle.sp_scopes.specs.Meanings.{Meaning}
 
--- what one block declares, or the file, in the order of the text
+-- what one block declares, the file, or a list of parameters, in the order of the text
 pub record Scope : Type 0 where
+  pub kind : ScopeKind
   pub names : List (ℕ × Meaning)
   pub tags : List (ℕ × Tag)
 
@@ -15,12 +18,12 @@ pub record Scopes : Type 0 where
   pub inner : Scope
   pub around : List Scope
 
-abbrev pub empty_scope : Scope
-empty_scope = record { names = []; tags = [] }
+abbrev pub empty_scope : ScopeKind → Scope
+empty_scope k = record { kind = k; names = []; tags = [] }
 
 -- before the first declaration
 abbrev pub file_scope : Scopes
-file_scope = record { inner = empty_scope; around = [] }
+file_scope = record { inner = empty_scope Block; around = [] }
 
 abbrev pub is_empty : List Scope → Bool
 is_empty [] = true
@@ -69,8 +72,12 @@ with_name s n m = record s { inner = name_added s.inner n m }
 abbrev pub with_tag : Scopes → ℕ → Tag → Scopes
 with_tag s n t = record s { inner = tag_added s.inner n t }
 
-abbrev pub entered : Scopes → Scopes
-entered s = record { inner = empty_scope; around = s.inner ∷ s.around }
+abbrev pub entered : ScopeKind → Scopes → Scopes
+entered k s = record { inner = empty_scope k; around = s.inner ∷ s.around }
+
+-- the innermost scope is a block's from here on
+abbrev pub as_block : Scopes → Scopes
+as_block s = record s { inner = record s.inner { kind = Block } }
 
 -- the scope of the file is never left
 abbrev pub left_to : Scopes → List Scope → Scopes
@@ -79,3 +86,25 @@ left_to s (t ∷ ts) = record { inner = t; around = ts }
 
 abbrev pub left : Scopes → Scopes
 left s = left_to s s.around
+
+-- ---- the innermost block, or the file where there is none (6.1.2.1, 6.3.2.2): a list of parameters is no block
+
+abbrev pub is_block : ScopeKind → Bool
+is_block Block = true
+is_block Parameters = false
+
+abbrev pub block_meaning : List Scope → ℕ → Option Meaning
+block_meaning [] n = None
+block_meaning (s ∷ ss) n = if is_block s.kind then entry s.names n else block_meaning ss n
+
+abbrev pub named_in_block : List Scope → ℕ → Meaning → List Scope
+named_in_block [] n m = []
+named_in_block (s ∷ ss) n m = if is_block s.kind then name_added s n m ∷ ss else s ∷ named_in_block ss n m
+
+-- what it has for a name
+abbrev pub meaning_in_block : Scopes → ℕ → Option Meaning
+meaning_in_block s n = block_meaning (s.inner ∷ s.around) n
+
+-- it gives a name its meaning
+abbrev pub with_block_name : Scopes → ℕ → Meaning → Scopes
+with_block_name s n m = if is_block s.inner.kind then with_name s n m else record s { around = named_in_block s.around n m }

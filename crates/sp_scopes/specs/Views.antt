@@ -6,7 +6,7 @@ use Rattle.sp_scopes.specs.Meanings.{named_meaning}
 use Rattle.sp_scopes.specs.Scopes.{Scope, Scopes}
 
 unfoldable pub scope_of : CodeScope → Scope
-scope_of s = record { names = map named_meaning s.names.entries; tags = s.tags.entries }
+scope_of s = record { kind = s.kind; names = map named_meaning s.names.entries; tags = s.tags.entries }
 
 unfoldable pub scopes_of : CodeScopes → Scopes
 scopes_of s = record { inner = scope_of s.inner; around = reverse (map scope_of s.around.items) }

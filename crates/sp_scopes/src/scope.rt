@@ -3,17 +3,28 @@
 
 ghost use Rattle.std.specs.Prelude.{◌≡◌, OnOk, OnErr, option_map};
 ghost use Rattle.std.specs.Option.{option_copied};
-ghost use Rattle.sp_scopes.specs.Scopes.{empty_scope, entry, name_added, tag_added};
+ghost use Rattle.sp_scopes.specs.Scopes.{empty_scope, entry, is_block, name_added, tag_added};
 
 use crate::{Meaning, Tag};
 use indexmap::IndexMap;
 use std::alloc::{AllocError, Global};
 
-/// The names and the tags that a block declares, or the file. They are two spaces (C90 6.1.2.3).
+/// The kinds of scopes (C90 6.1.2.1).
+#[derive(Clone, Copy, Debug, PartialEq, Eq)]
+pub enum ScopeKind {
+    /// That of a block, or of the file.
+    Block,
+    /// That of a list of parameters.
+    Parameters,
+}
+
+/// The names and the tags that a block declares, the file, or a list of parameters. They are two
+/// spaces (C90 6.1.2.3).
 ///
-/// Contracts see it by `scope_of` as two lists of pairs, in the order of declaration.
+/// Contracts see it by `scope_of` as its kind, and two lists of pairs, in the order of declaration.
 #[derive(Drop)]
 pub struct Scope {
+    kind: ScopeKind,
     names: IndexMap<u32, Meaning>,
     tags: IndexMap<u32, Tag>,
 }
@@ -23,13 +34,28 @@ impl Scope {
     ghost use Rattle.sp_scopes.specs.Views.{scope_of};
 
     /// A scope in which nothing is declared.
-    pub fn new(alloc: Global) -> Scope
-        ensures { scope_of result ≡ empty_scope }
+    pub fn new(alloc: Global, kind: ScopeKind) -> Scope
+        ensures { scope_of result ≡ empty_scope kind }
     {
         Scope {
+            kind,
             names: IndexMap::new(alloc),
             tags: IndexMap::new(alloc),
         }
+    }
+
+    /// Whether it is that of a block, or of the file.
+    pub fn is_block(&self) -> bool
+        ensures { result ≡ is_block (scope_of self.now).kind }
+    {
+        self.kind == ScopeKind::Block
+    }
+
+    /// Makes it a block's.
+    pub fn make_block(&mut self)
+        ensures { scope_of self.new ≡ record (scope_of self.old) { kind = ScopeKind.Block } }
+    {
+        self.kind = ScopeKind::Block;
     }
 
     /// What the scope has for a name.

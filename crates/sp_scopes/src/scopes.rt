@@ -12,14 +12,19 @@ ghost use Rattle.sp_scopes.specs.Scopes.{
   visible_meaning,
   visible_tag,
   entered,
+  as_block,
   left,
   with_name,
   with_tag,
   meaning_in,
   tag_in,
+  meaning_in_block,
+  block_meaning,
+  with_block_name,
+  named_in_block,
 };
 
-use crate::{Meaning, Scope, Tag};
+use crate::{Meaning, Scope, ScopeKind, Tag};
 use std::alloc::{AllocError, Global};
 use std::mem;
 
@@ -41,7 +46,7 @@ impl Scopes {
         ensures { scopes_of result ≡ file_scope }
     {
         Scopes {
-            inner: Scope::new(alloc),
+            inner: Scope::new(alloc, ScopeKind::Block),
             around: Vec::new(alloc),
         }
     }
@@ -54,16 +59,24 @@ impl Scopes {
     }
 
     /// Opens a scope inside the others.
-    pub fn enter(&mut self, alloc: Global) -> Result<(), AllocError>
-        ensures ok { OnOk result (scopes_of self.new ≡ entered (scopes_of self.old)) }
+    pub fn enter(&mut self, alloc: Global, kind: ScopeKind) -> Result<(), AllocError>
+        ensures ok { OnOk result (scopes_of self.new ≡ entered kind (scopes_of self.old)) }
         ensures err { OnErr result (scopes_of self.new ≡ scopes_of self.old) }
     {
-        let outer = mem::replace(&mut self.inner, Scope::new(alloc));
+        let outer = mem::replace(&mut self.inner, Scope::new(alloc, kind));
         if let Err(refused) = self.around.push(outer) {
             self.inner = refused.value;
             return Err(AllocError);
         }
         Ok(())
+    }
+
+    /// Makes the innermost scope a block's: the parameters of a definition are in the block that is
+    /// its body (C90 6.1.2.1).
+    pub fn make_block(&mut self)
+        ensures { scopes_of self.new ≡ as_block (scopes_of self.old) }
+    {
+        self.inner.make_block();
     }
 
     /// Closes the innermost scope. That of the file stays.
@@ -113,6 +126,29 @@ impl Scopes {
         self.inner.tag(name)
     }
 
+    /// What the innermost block has for a name, or the file where no block is open.
+    pub fn meaning_in_block(&self, name: u32) -> Option<&Meaning>
+        ensures { option_map meaning_of (option_copied result) ≡
+            meaning_in_block (scopes_of self.now) name }
+    {
+        if self.inner.is_block() {
+            return self.inner.meaning(name);
+        }
+        block_meaning(&self.around, name)
+    }
+
+    /// Gives a name its meaning in the innermost block, or in the file where no block is open.
+    pub fn add_block_name(&mut self, name: u32, meaning: Meaning) -> Result<(), AllocError>
+        ensures ok { OnOk result (scopes_of self.new ≡
+            with_block_name (scopes_of self.old) name (meaning_of meaning)) }
+        ensures err { OnErr result (scopes_of self.new ≡ scopes_of self.old) }
+    {
+        if self.inner.is_block() {
+            return self.inner.add_name(name, meaning);
+        }
+        name_in_block(&mut self.around, name, meaning)
+    }
+
     /// Gives a name its meaning in the innermost scope.
     pub fn add_name(&mut self, name: u32, meaning: Meaning) -> Result<(), AllocError>
         ensures ok { OnOk result (scopes_of self.new ≡
@@ -160,4 +196,33 @@ fn tag_around(scopes: &[Scope], name: u32) -> Option<Tag>
         }
     }
     None
+}
+
+/// What a name stands for in the last of these scopes that is a block's.
+fn block_meaning(scopes: &[Scope], name: u32) -> Option<&Meaning>
+    ensures { option_map meaning_of (option_copied result) ≡
+        block_meaning (reverse (map scope_of scopes.now)) name }
+{
+    let (last, others) = scopes.split_last()?;
+    if last.is_block() {
+        last.meaning(name)
+    } else {
+        block_meaning(others, name)
+    }
+}
+
+/// Gives a name its meaning in the last of these scopes that is a block's.
+fn name_in_block(scopes: &mut [Scope], name: u32, meaning: Meaning) -> Result<(), AllocError>
+    ensures ok { OnOk result (reverse (map scope_of scopes.new) ≡
+        named_in_block (reverse (map scope_of scopes.old)) name (meaning_of meaning)) }
+    ensures err { OnErr result (map scope_of scopes.new ≡ map scope_of scopes.old) }
+{
+    let Some((last, others)) = scopes.split_last_mut() else {
+        return Ok(());
+    };
+    if last.is_block() {
+        last.add_name(name, meaning)
+    } else {
+        name_in_block(others, name, meaning)
+    }
 }

@@ -25,6 +25,7 @@ use Rattle.sp_typed_laws.proofs.Envs.{IsFitting, IsFit, fit_table, kept_there, k
 use Rattle.sp_typed_laws.proofs.Grows.{Grows}
 use Rattle.sp_typed_laws.proofs.Starts.{calm_on, starts_calm}
 use Rattle.sp_typed_laws.proofs.After.{After, done, after_none, next, taken, met, given}
+use Rattle.sp_typed_laws.proofs.Gains.{all_scopes, scopes_stay}
 use Rattle.sp_typed_laws.proofs.Updates.{reaches_by, still, still_starts, reaches_tagged}
 use Rattle.sp_typed_laws.proofs.Members.{is_filled, struct_sound}
 use Rattle.sp_typed_laws.proofs.Leaves.{IsType, AreMembers}
@@ -52,7 +53,7 @@ reaches_opened own env tag union h =
     } in
     reaches_by own env h (with_struct env (open_struct tag union)) g (kept_there env.tables.objects)
     (λ x. x)
-    (omega arith) (kept_function env.tables.functions) refl
+    (omega arith) (kept_function env.tables.functions) (scopes_stay (all_scopes env.scopes))
     (each_pushed IsSoundStruct env.tables.structs (open_struct tag union) h.structs (tt, tt))
     h.objects h.functions (λ all. still own env h (with_struct env (open_struct tag union)) refl)
     (still_starts own env h (with_struct env (open_struct tag union)) refl) (λ m j e. e) (names_nowhere env)
@@ -114,7 +115,7 @@ reaches_begun own env k tag union s h at low =
       };
     } in
     reaches_by own env h (begun env k tag union) g (kept_there env.tables.objects) (λ x. x)
-    (omega arith) (kept_function env.tables.functions) refl
+    (omega arith) (kept_function env.tables.functions) (scopes_stay (all_scopes env.scopes))
     (each_set IsSoundStruct env.tables.structs k (begun_struct tag union) h.structs (tt, tt))
     h.objects h.functions (λ all. still own env h (begun env k tag union) refl)
     (still_starts own env h (begun env k tag union) refl) (λ m j e. e) (names_nowhere env)

@@ -4,6 +4,8 @@ use Rattle.std.proofs.Common.{◌≡◌, ℕ, zero, suc, ◌+◌, ◌≤◌, ◌
 use Rattle.std.specs.Prelude.{slice_get, All, ◌+ℤ◌, neg_ℤ, int_le, unwrap_or}
 use Rattle.std.proofs.lemmas.Int.{ints}
 use Rattle.std.proofs.lemmas.Bool.{leb-true}
+use Rattle.std.proofs.lemmas.List.Elements.{All-get_or}
+use Rattle.std.proofs.lemmas.Option.{slice_get_within, get_or_from_slice_get}
 use Rattle.sp_tree.specs.declared.fault.Place.{Place}
 use Rattle.sp_types.specs.declared.ctype.IntKind.{IntKind}
 use Rattle.sp_types.specs.declared.ctype.IntKind.TheVariants.{Char, SChar, UChar, Short, UShort, Int, UInt, Long, ULong}
@@ -20,21 +22,29 @@ use Rattle.sp_typing.specs.Trees.{Scene}
 use Rattle.sp_typing.specs.Starts.{IsLeafValue, AreLeafValues}
 use Rattle.sp_typing.specs.Constants.{is_stored}
 use Rattle.sp_unit_laws.proofs.Lists.{Each, each_none, each_behind, each_appended, none_some, some_is, nil_all, cons_all}
-use Rattle.sp_typed_laws.specs.Sound.{AreBytes}
+use Rattle.sp_written_laws.specs.Laws.{AreByteNames}
 
 -- ---- bytes
+
+-- what holds of all elements holds of the one at a place
+pub all_at : {A : Type 0} (P : A → Type 0) (xs : List A) (k : ℕ) (x : A) → All P xs
+    → slice_get xs k ≡ Some x → P x
+all_at P xs k x h at =
+    subst P (get_or_from_slice_get xs k x x at)
+    (All-get_or P xs k x (slice_get_within xs k x at) h)
 
 abbrev pub AreLow : List ℕ → Type 0
 AreLow bs = Each (λ b. b < 256) bs
 
-named_low : (names : List (List ℕ)) (n : ℕ) → AreBytes names → AreLow (bytes_of names n)
+named_low : (names : List (List ℕ)) (n : ℕ) → AreByteNames names → AreLow (bytes_of names n)
 named_low names n h = by (slice_get names n) refl
   where
     by : (o : Option (List ℕ)) → slice_get names n ≡ o → AreLow (unwrap_or o [])
     by None e = each_none (λ b. b < 256)
-    by (Some bs) e = λ j b at. h n j b bs e at
+    by (Some bs) e = λ j b at.
+        all_at (λ b. b < 256) bs j b (all_at (λ bs. All (λ b. b < 256) bs) names n bs h e) at
 
-pub text_low : (names : List (List ℕ)) (ns : List ℕ) → AreBytes names
+pub text_low : (names : List (List ℕ)) (ns : List ℕ) → AreByteNames names
     → AreLow (text_bytes names ns)
 text_low names [] h = each_none (λ b. b < 256)
 text_low names (n ∷ ns) h =

@@ -21,7 +21,8 @@ use Rattle.sp_member_rules.specs.Enumerators.{with_enum_tag}
 use Rattle.sp_unit_laws.proofs.Lists.{none_some, some_is}
 use Rattle.sp_unit_laws.proofs.After.{Gives, gives, gives_none, gives_then, gives_given, gives_either, anything}
 use Rattle.sp_written_laws.specs.Written.{IsWrittenDeclarator}
-use Rattle.sp_typed_laws.specs.Sound.{AreBytes, KnowsElements}
+use Rattle.sp_written_laws.specs.Laws.{AreByteNames}
+use Rattle.sp_typed_laws.specs.Sound.{KnowsElements}
 use Rattle.sp_typed_laws.proofs.Elements.{elements_stay, made_elements, words_elements}
 use Rattle.sp_typed_laws.proofs.Envs.{IsFit, Reaches, table_stays, visible_fitting}
 use Rattle.sp_typed_laws.proofs.Expressions.{steps_good}
@@ -41,7 +42,7 @@ elements_kept {own = own} {env = env} {later = later} h g t k =
     elements_stay env.tables.structs later.tables.structs
     (table_stays own env later g.moves h.formed) t k
 
-module _ (names : List (List ℕ)) (bytes : AreBytes names) (own : ℕ → Bool) where
+module _ (names : List (List ℕ)) (bytes : AreByteNames names) (own : ℕ → Bool) where
   named_elements : (env : Env) (n : ℕ) (at : Place) → IsFit own env
       → Gives (λ t. KnowsElements env.tables.structs t) (named_checked env n at)
   named_elements env n at h =

@@ -12,6 +12,7 @@ use Rattle.sp_scopes.specs.Scopes.{Scope, is_empty, is_file_scope, entry, or_els
 use Rattle.sp_env.specs.declared.env.Entity.TheVariants as entities
 use Rattle.sp_env.specs.Env.{Env, linked}
 use Rattle.sp_ir.specs.Formed.{InKind}
+use Rattle.sp_objects.specs.Objects.{has_linkage}
 use Rattle.sp_unit_laws.proofs.Lists.{Each, each_first, each_behind, each_found}
 use Rattle.sp_unit_laws.proofs.Stays.{Stays}
 use Rattle.sp_unit_laws.proofs.Tables.{whole_level}
@@ -25,7 +26,8 @@ use Rattle.sp_typing.specs.Refines.{Tells}
 use Rattle.sp_typing.specs.Sorts.{agrees}
 use Rattle.sp_typed_laws.proofs.Grows.{Grows}
 use Rattle.sp_typed_laws.proofs.Starts.{HaveStarts, IsCalm, calm_on, starts_calm}
-use Rattle.sp_typed_laws.proofs.Named.{is_linked, KeepNames, names_nowhere, names_on}
+use Rattle.sp_typed_laws.proofs.Named.{KeepNames, names_nowhere, names_on}
+use Rattle.sp_typed_laws.proofs.Gains.{ScopesGain, scopes_stay, scopes_gain_on, empty_alike}
 
 -- ---- what is sound
 
@@ -62,7 +64,7 @@ home_lasting s (inl h) = ap is_lasting h
 home_lasting s (inr h) = ap is_lasting h
 
 abbrev pub IsHome : Object → Type 0
-IsHome o = is_linked o.linkage ≡ true → IsHomeStorage o.storage
+IsHome o = has_linkage o.linkage ≡ true → IsHomeStorage o.storage
 
 -- the object of this number tells all that it told, has its linkage, and lasts where it lasted;
 -- where it doesn't last it is the same
@@ -121,14 +123,15 @@ abbrev pub KeepLinks : Env → Env → Type 0
 KeepLinks env later = (n k : ℕ) → linked env n ≡ Some (entities.Object k)
     → linked later n ≡ Some (entities.Object k)
 
--- objects are kept, objects and functions are added, and only the innermost scope changes
+-- objects are kept, objects and functions are added, and of the scopes only the innermost one
+-- changes: those around it gain functions alone
 pub record Moves (env later : Env) : Type 0 where
   pub keeps : Keeps env.tables later.tables
   pub objects : KeepObjects env.tables.objects later.tables.objects
   pub homes : Each IsHome env.tables.objects → Each IsHome later.tables.objects
   pub functions : length env.tables.functions ≤ length later.tables.functions
   pub kept : KeepFunctions env.tables.functions later.tables.functions
-  pub around : later.scopes.around ≡ env.scopes.around
+  pub around : ScopesGain env.scopes.around later.scopes.around
   pub links : KeepLinks env later
   pub names : KeepNames env later
 
@@ -139,7 +142,7 @@ moves_nowhere env = record {
   homes = λ h. h;
   functions = omega arith;
   kept = kept_function env.tables.functions;
-  around = refl;
+  around = scopes_stay env.scopes.around;
   links = λ n k e. e;
   names = names_nowhere env;
 }
@@ -171,7 +174,7 @@ moves_on a b c g h = record {
         body = y.body ∙ x.body;
         follows = λ t s. y.follows t (x.follows t s);
       };
-  around = h.around ∙ g.around;
+  around = scopes_gain_on a.scopes.around b.scopes.around c.scopes.around g.around h.around;
   links = λ n k e. h.links n k (g.links n k e);
   names = names_on a b c g.names h.names;
 }
@@ -291,9 +294,15 @@ reaches_nowhere own env h = record {
   starts = λ waits w x. x;
 }
 
+-- the file's scope is the innermost one where it was
+pub around_alike : {env later : Env} → Moves env later
+    → is_empty later.scopes.around ≡ is_empty env.scopes.around
+around_alike {env = env} {later = later} g =
+    empty_alike env.scopes.around later.scopes.around g.around
+
 pub file_later : (env later : Env) → Moves env later → is_file_scope later.scopes ≡ true
     → is_file_scope env.scopes ≡ true
-file_later env later g h = sym (ap is_empty g.around) ∙ h
+file_later env later g h = sym (around_alike g) ∙ h
 
 pub reaches_on : (own : ℕ → Bool) (a b c : Env) → Reaches own a b → Reaches own b c
     → Reaches own a c

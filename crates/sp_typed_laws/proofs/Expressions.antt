@@ -10,12 +10,13 @@ use Rattle.sp_types.specs.Types.{CType, void, CTypes, listed, parameters_of}
 use Rattle.sp_types.specs.Programs.{Object}
 use Rattle.sp_types.specs.Structs.{AreFormed}
 use Rattle.sp_types.specs.Typed.{Typed, TypedList, of}
+use Rattle.sp_operands.specs.Answers.{Checked, and_then}
 use Rattle.sp_rules.specs.Rules.{behind, wanted, takes_object, not_floating, called_signature, told}
-use Rattle.sp_env.specs.Env.{Env, entered}
+use Rattle.sp_env.specs.Env.{Env, list_entered}
 use Rattle.sp_type_rules.specs.Derivations.{to_pointer, to_array, to_function}
 use Rattle.sp_member_rules.specs.Parameters.{declared_name, has_parameter_storage, is_lone_void, formal, reserved, reserved_number}
-use Rattle.sp_expr_check.specs.Parameters.{is_alone}
-use Rattle.sp_expr_check.specs.Expressions.{checked, value_checked, form_checked, arguments_checked, type_name_checked, specifiers_checked, specifier_checked, struct_checked, members_checked, declaration_members, items_checked, item_checked, enum_checked, constants_checked, constant_checked, declared_type, steps_checked, derivations_checked, params_checked, param_checked}
+use Rattle.sp_expr_check.specs.Parameters.{is_alone, list_told}
+use Rattle.sp_expr_check.specs.Expressions.{checked, value_checked, form_checked, arguments_checked, type_name_checked, specifiers_checked, specifier_checked, struct_checked, members_checked, declaration_members, items_checked, item_checked, enum_checked, constants_checked, constant_checked, declared_type, steps_checked, derivations_checked, params_checked, param_checked, list_checked, length_checked}
 use Rattle.sp_expr_check.specs.Specifiers.{names_type}
 use Rattle.sp_typing.specs.Sorts.{IsStored}
 use Rattle.sp_typing.specs.Trees.{IsTyped, AreArguments}
@@ -24,19 +25,20 @@ use Rattle.sp_typing.specs.Programs.{lasts}
 use Rattle.sp_unit_laws.proofs.Lists.{each_none, each_pushed, pushed_last}
 use Rattle.sp_unit_laws.proofs.Longer.{parameters_longer}
 use Rattle.sp_written_laws.specs.Written.{IsWritten, IsWrittenForm, AreWritten, IsWrittenMaybe, IsWrittenName, IsWrittenSpecifier, AreWrittenSpecifiers, IsWrittenStruct, IsWrittenEnum, AreWrittenEnumerators, IsWrittenDeclarator, IsWrittenDeclaratorForm, IsWrittenParam, AreWrittenParams, IsWrittenItem, AreWrittenItems, IsWrittenDeclaration, AreWrittenDeclarations, has_item, declares, holds_member}
-use Rattle.sp_typed_laws.specs.Sound.{AreBytes, AreSound, scene_of}
+use Rattle.sp_written_laws.specs.Laws.{AreByteNames}
+use Rattle.sp_typed_laws.specs.Sound.{AreSound, scene_of}
 use Rattle.sp_typed_laws.proofs.Types.{or_left}
 use Rattle.sp_typed_laws.proofs.Trees.{IsTree, IsValued, tree_formed, solid_made, tree_made, tree_valued}
 use Rattle.sp_typed_laws.proofs.Rules.{index_typed, member_typed, arrow_typed, after_typed, object_typed, value_typed, cast_typed, tree_good, binary_typed, choice_typed, assign_typed, comma_made, signature_found, call_typed, argument_typed, wanted_good, behind_good, callee_good}
 use Rattle.sp_typed_laws.proofs.Grows.{tree_stays, value_stays, argument_stays}
 use Rattle.sp_typed_laws.proofs.Envs.{IsFit, fit_table, IsKeptObject, Reaches, reaches_nowhere, reaches_on, grows_of}
 use Rattle.sp_typed_laws.proofs.After.{Any, After, done, onto, beside, next, lead, taken, met, either, staying, after_more}
-use Rattle.sp_typed_laws.proofs.Updates.{IsWider, fit_wider, more_seen, more_wider, more_from, fit_entered}
+use Rattle.sp_typed_laws.proofs.Updates.{fit_wider, more_seen, more_wider, more_from, fit_entered}
 use Rattle.sp_typed_laws.proofs.Functions.{call_leads}
 use Rattle.sp_typed_laws.proofs.Literals.{IsMadeIn, number_made, character_made, size_made, text_made, name_made}
 use Rattle.sp_typed_laws.proofs.Members.{is_filled, fills_on, or_false}
 use Rattle.sp_typed_laws.proofs.Derived.{IsGoodStep, made_good}
-use Rattle.sp_typed_laws.proofs.Leaves.{IsType, AreMembers, AreTypes, AreSteps, AreMore, IsNew, type_kept, members_kept, types_kept, steps_kept, words_good, named_good, member_good, tag_leads, enumerator_sound, told_sound_enumerator, length_sound, reaches_reserved, list_sound, parameter_sound}
+use Rattle.sp_typed_laws.proofs.Leaves.{IsType, AreMembers, AreTypes, AreSteps, AreParameters, AreMore, IsNew, type_kept, members_kept, types_kept, steps_kept, words_good, named_good, member_good, tag_leads, enumerator_sound, told_sound_enumerator, length_sound, reaches_reserved, list_sound, parameter_sound}
 use Rattle.sp_typed_laws.proofs.Braces.{struct_named, enum_named, struct_begun, struct_done}
 
 -- what a rule gives, in the scene behind it
@@ -77,6 +79,26 @@ covers_on own env later g c =
     λ k l. let more : length env.tables.objects ≤ length later.tables.objects =
     g.moves.keeps.objects in c k (omega (arith, more, l))
 
+-- in a list of parameters the objects of its own are seen
+abbrev seen_in_list : (ℕ → Bool) → Env → ℕ → Bool
+seen_in_list own env = more_seen own (length env.tables.objects)
+
+list_fit : (own : ℕ → Bool) (env : Env) → IsFit own env
+    → IsFit (seen_in_list own env) (list_entered env)
+list_fit own env h =
+    fit_entered (seen_in_list own env) env
+    (fit_wider own (seen_in_list own env) env (more_wider own (length env.tables.objects)) h)
+
+list_covers : (own : ℕ → Bool) (env : Env) → Covers (seen_in_list own env) (list_entered env)
+list_covers own env k l = more_from own (length env.tables.objects) k l
+
+list_ends : (own : ℕ → Bool) (env : Env) (ps : Params) {c : Checked (List CType × Env)}
+    → IsFit own env → After (seen_in_list own env) (list_entered env) AreTypes c
+    → After own env AreParameters (and_then c (λ y. list_told ps y.0 y.1))
+list_ends own env ps h a =
+    beside a (λ y k ts. list_sound own (seen_in_list own env) env y.1 ps y.0 h
+    (more_wider own (length env.tables.objects)) k ts)
+
 -- the entry that a parameter has passes until its type is read
 new_reserved : (own : ℕ → Bool) (env later : Env) (o : Option (ℕ × Place)) → Covers own env
     → Reaches own (reserved env o) later → IsNew own env later (reserved_number env o) o
@@ -90,7 +112,7 @@ new_reserved own env later (Some x) c g =
       ap lasts y.there ∙ ap (λ z. is_lasting z.storage) (y.whole refl),
     )
 
-module _ (names : List (List ℕ)) (low : AreBytes names) where
+module _ (names : List (List ℕ)) (low : AreByteNames names) where
   mutual
     pub checked_typed : (own : ℕ → Bool) (env : Env) (e : Expression) → IsFit own env → IsWritten e
         → After own env (IsTreeIn own) (checked names env e)
@@ -345,17 +367,15 @@ module _ (names : List (List ℕ)) (low : AreBytes names) where
         (steps_kept k x.0 q) (l, tt))))
     derivations_good own env p (syntax.function d ps dots) h w =
         next (steps_good own env d h w.0) (λ x g q.
-        let wide : ℕ → Bool = more_seen own (length x.1.tables.objects) in
-        let wider : IsWider own wide = more_wider own (length x.1.tables.objects) in
-        next (beside (params_good wide (entered x.1) (is_alone ps dots) [] ps
-        (fit_entered wide x.1 (fit_wider own wide x.1 wider g.fit)) w.1
-        (λ k l. more_from own (length x.1.tables.objects) k l) (each_none (λ t. IsType t x.1)))
-        (λ y k ts. list_sound own wide x.1 y.1 ps y.0 g.fit wider k ts)) (λ l k r.
+        next (list_ends own x.1 ps g.fit
+        (params_good (seen_in_list own x.1) (list_entered x.1) (is_alone ps dots) [] ps
+        (list_fit own x.1 g.fit) w.1 (list_covers own x.1) (each_none (λ t. IsType t x.1))))
+        (λ l k r.
         done (reaches_nowhere own l.1 k.fit)
         (each_pushed (IsGoodStep l.1.tables.structs) x.0 (to_function l.0 dots p)
         (steps_kept k x.0 q) r)))
 
-    pub params_good : (own : ℕ → Bool) (env : Env) (alone : Bool) (ts : List CType) (ps : Params)
+    params_good : (own : ℕ → Bool) (env : Env) (alone : Bool) (ts : List CType) (ps : Params)
         → IsFit own env → AreWrittenParams ps → Covers own env → AreTypes ts env
         → After own env AreTypes (params_checked names env alone ts ps)
     params_good own env alone ts no_params h w c f = done (reaches_nowhere own env h) f
@@ -385,3 +405,24 @@ module _ (names : List (List ℕ)) (low : AreBytes names) where
         (types_kept (reaches_on own env (reserved env (declared_name d)) y.1
         (reaches_reserved own env h (declared_name d))
         (reaches_on own (reserved env (declared_name d)) x.1 y.1 g k)) ts f) u))))
+
+  -- ---- the parts of a declarator
+
+  pub length_good : (own : ℕ → Bool) (env : Env) (e : Expression) → IsFit own env → IsWritten e
+      → After own env (λ n later. 1 ≤ n) (length_checked names env e)
+  length_good own env e h w =
+      next (checked_value own env e h w)
+      (λ y k r. length_sound own y.1 k.fit (place_of e) y.0)
+
+  -- the list of a declarator of a function, in a scope of its own; another form has none
+  pub list_good : (own : ℕ → Bool) (env : Env) (f : DeclaratorForm) → IsFit own env
+      → IsWrittenDeclaratorForm f → After own env AreParameters (list_checked names env f)
+  list_good own env (syntax.function d ps dots) h w =
+      list_ends own env ps h
+      (params_good (seen_in_list own env) (list_entered env) (is_alone ps dots) [] ps
+      (list_fit own env h) w.1 (list_covers own env) (each_none (λ t. IsType t env)))
+  list_good own env absent h w = done (reaches_nowhere own env h) (tt, tt)
+  list_good own env (declared n) h w = done (reaches_nowhere own env h) (tt, tt)
+  list_good own env (group d) h w = done (reaches_nowhere own env h) (tt, tt)
+  list_good own env (syntax.pointer qs d) h w = done (reaches_nowhere own env h) (tt, tt)
+  list_good own env (syntax.array d n) h w = done (reaches_nowhere own env h) (tt, tt)

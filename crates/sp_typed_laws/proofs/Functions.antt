@@ -8,7 +8,6 @@ use Rattle.sp_types.specs.Programs.{Function}
 use Rattle.sp_types.specs.declared.program.Linkage.{Linkage}
 use Rattle.sp_syntax.specs.Syntax.{Expression, expression}
 use Rattle.sp_syntax.specs.Syntax as syntax
-use Rattle.sp_scopes.specs.Meanings as means
 use Rattle.sp_env.specs.declared.env.Entity.{Entity}
 use Rattle.sp_env.specs.declared.env.Entity.TheVariants as entities
 use Rattle.sp_env.specs.Env.{Env, linked, with_link, with_typing, typings_with, with_function, with_function_type, function_type, function_linkage}
@@ -26,7 +25,7 @@ use Rattle.sp_typed_laws.proofs.Envs.{Follows, IsFit, Reaches, reaches_nowhere, 
 use Rattle.sp_typed_laws.proofs.Named.{inserted_there}
 use Rattle.sp_typed_laws.proofs.Objects.{composite_agrees}
 use Rattle.sp_typed_laws.proofs.After.{After, done, after_none, carried, lead, taken, Leads, leads, leads_after, leads_either}
-use Rattle.sp_typed_laws.proofs.Updates.{reaches_linked, reaches_typing, reaches_typings, reaches_function, reaches_function_typed, leads_declared}
+use Rattle.sp_typed_laws.proofs.Updates.{reaches_linked, reaches_typing, reaches_typings, reaches_function, reaches_function_typed, leads_declared_in_block}
 
 pub composite_follows : (s r : Signature) → Follows s (composite_signature s r)
 composite_follows (signature a ps v) (signature b qs w) t h = composite_agrees a b t h
@@ -133,8 +132,8 @@ module _ (own : ℕ → Bool) (env : Env) (h : IsFit own env) where
       (function_at env n l s p o)
   function_leads n l s p None is f =
       let g : Reaches own env (added n l s p) = reaches_added n l s p is f in
-      carried g (lead (leads_declared own (added n l s p) g.fit n
-      (means.function (length env.tables.functions)) p tt tt)
+      carried g (lead (leads_declared_in_block own (added n l s p) g.fit n
+      (length env.tables.functions) p)
       (λ e k. done (reaches_nowhere own e k.fit) (found_on k (length env.tables.functions) (
         undefined_function n l s p,
         pushed_last env.tables.functions (undefined_function n l s p),
@@ -144,7 +143,7 @@ module _ (own : ℕ → Bool) (env : Env) (h : IsFit own env) where
       let c : Bool = is_retyped (as_function (function_type (slice_get env.tables.functions k)))
       (function t) in
       let g : Reaches own env (joined c l n t p k) = reaches_joined c l n t p k j in
-      carried g (lead (leads_declared own (joined c l n t p k) g.fit n (means.function k) p tt tt)
+      carried g (lead (leads_declared_in_block own (joined c l n t p k) g.fit n k p)
       (λ e i. done (reaches_nowhere own e i.fit) (found_on i k (found_on g k j.2)))))
   function_leads n l s p (Some (entities.Object k)) is f = after_none
 

@@ -15,7 +15,7 @@ use Rattle.sp_scopes.specs.declared.meaning.Tag.TheVariants as tags
 use Rattle.sp_scopes.specs.Meanings.{Meaning, named}
 use Rattle.sp_scopes.specs.Meanings as means
 use Rattle.sp_scopes.specs.Scopes.{visible_meaning}
-use Rattle.sp_env.specs.Env.{Env, with_constant, set_object, entered}
+use Rattle.sp_env.specs.Env.{Env, with_constant, set_object, list_entered}
 use Rattle.sp_type_rules.specs.Derivations.{Derivation}
 use Rattle.sp_type_rules.specs.Tags.{type_named, named_checked}
 use Rattle.sp_type_rules.specs.Words.{has_word, words_type}
@@ -153,7 +153,7 @@ AreParameters ps env = AreFormedParameters env.tables.structs ps × AreSoundPara
 
 -- behind the list of parameters its scope is left
 pub list_sound : (own wide : ℕ → Bool) (env later : Env) (ps : Params) (ts : List CType)
-    → IsFit own env → IsWider own wide → Reaches wide (entered env) later → AreTypes ts later
+    → IsFit own env → IsWider own wide → Reaches wide (list_entered env) later → AreTypes ts later
     → After own env AreParameters (list_told ps ts later)
 list_sound own wide env later ps ts h wider g f =
     done (reaches_left own wide env later h (λ all k. wider k (all k)) g) (

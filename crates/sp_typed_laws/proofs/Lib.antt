@@ -8,6 +8,7 @@ pub mod Shapes
 pub mod Characters
 pub mod Starts
 pub mod Named
+pub mod Gains
 pub mod Envs
 pub mod After
 pub mod Updates

@@ -26,7 +26,8 @@ use Rattle.sp_unit_laws.proofs.Lists.{none_some, some_is, get_below, pushed_last
 use Rattle.sp_unit_laws.proofs.Composites.{array_formed}
 use Rattle.sp_unit_laws.proofs.After.{Gives, gives, gives_none, gives_met, gives_given}
 use Rattle.sp_typing.specs.Programs.{lasts}
-use Rattle.sp_typed_laws.specs.Sound.{AreBytes, is_seen, scene_of}
+use Rattle.sp_written_laws.specs.Laws.{AreByteNames}
+use Rattle.sp_typed_laws.specs.Sound.{is_seen, scene_of}
 use Rattle.sp_typed_laws.proofs.Types.{and_true, or_right, tells_self, IsLaid, type_laid}
 use Rattle.sp_typed_laws.proofs.Trees.{IsMade}
 use Rattle.sp_typed_laws.proofs.Envs.{IsFit, fit_table, visible_fitting, Reaches, reaches_on}
@@ -127,7 +128,7 @@ module _ (own : ℕ → Bool) (env : Env) (h : IsFit own env) where
         placed = λ e. absurd (true≢false (sym e));
       }))
 
-  pub text_made : (names : List (List ℕ)) → AreBytes names → (ns : List ℕ) (p m : Place)
+  pub text_made : (names : List (List ℕ)) → AreByteNames names → (ns : List ℕ) (p m : Place)
       → After own env (IsMadeIn own) (text_checked names env ns p m)
   text_made names low ns p m =
       met {b = nat_le (length (text_bytes names ns) + 1) (2 ^ 40)} _ _ (λ few.

@@ -4,24 +4,18 @@ use Rattle.std.specs.Prelude.{slice_get, cond, nat_eq, is_some}
 use Rattle.indexmap.specs.IndexMap.{insert_entry}
 use Rattle.sp_types.specs.Types.{Signature}
 use Rattle.sp_types.specs.Programs.{Object, Function}
-use Rattle.sp_types.specs.declared.program.Linkage.{Linkage}
-use Rattle.sp_types.specs.declared.program.Linkage.TheVariants.{External, Internal, Inner}
 use Rattle.sp_scopes.specs.Scopes.{entry}
 use Rattle.sp_env.specs.declared.env.Entity.{Entity}
 use Rattle.sp_env.specs.declared.env.Entity.TheVariants as entities
 use Rattle.sp_env.specs.Env.{Env, linked, with_link, with_object, with_function, typed_by, changed, with_function_type}
+use Rattle.sp_objects.specs.Objects.{has_linkage}
 use Rattle.sp_unit_laws.proofs.Lists.{none_some, some_is}
 use Rattle.sp_typed_laws.proofs.Types.{number_equals}
 use Rattle.sp_typed_laws.proofs.Starts.{pushed_split}
 
-abbrev pub is_linked : Linkage → Bool
-is_linked External = true
-is_linked Internal = true
-is_linked Inner = false
-
 abbrev pub ObjectsAreNamed : List (ℕ × Entity) → List Object → Type 0
 ObjectsAreNamed links os = (k : ℕ) (o : Object) → slice_get os k ≡ Some o
-    → is_linked o.linkage ≡ true → entry links o.name ≡ Some (entities.Object k)
+    → has_linkage o.linkage ≡ true → entry links o.name ≡ Some (entities.Object k)
 
 -- each function has linkage
 abbrev pub FunctionsAreNamed : List (ℕ × Entity) → List Function → Type 0
@@ -101,7 +95,7 @@ names_linked env n e none = (
 )
 
 -- one more object without linkage
-pub names_object : (env : Env) (o : Object) → is_linked o.linkage ≡ false
+pub names_object : (env : Env) (o : Object) → has_linkage o.linkage ≡ false
     → KeepNames env (with_object env o)
 names_object env o private = (
   λ h. (λ k x at. by h k x (pushed_split env.tables.objects o x k at), h.1),
@@ -110,10 +104,10 @@ names_object env o private = (
   where
     by : AreNamed env → (k : ℕ) (x : Object)
         → (slice_get env.tables.objects k ≡ Some x) ⊎ ((k ≡ length env.tables.objects) × (o ≡ x))
-        → is_linked x.linkage ≡ true → linked env x.name ≡ Some (entities.Object k)
+        → has_linkage x.linkage ≡ true → linked env x.name ≡ Some (entities.Object k)
     by h k x (inl at) mine = h.0 k x at mine
     by h k x (inr y) mine =
-        absurd (true≢false (sym mine ∙ sym (ap (λ z. is_linked z.linkage) y.1) ∙ private))
+        absurd (true≢false (sym mine ∙ sym (ap (λ z. has_linkage z.linkage) y.1) ∙ private))
 
 -- one more function, to which its name is linked
 pub names_function : (env : Env) (f : Function) → is_some f.body ≡ false

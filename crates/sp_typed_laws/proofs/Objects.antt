@@ -13,6 +13,7 @@ use Rattle.sp_env.specs.Env.{Env, linked, set_object}
 use Rattle.sp_names.specs.Composite.{composite, composite_signature, told_length}
 use Rattle.sp_typing.specs.Refines.{Tells, names_void, names_integer, names_floating, names_pointer, names_array, names_struct, names_open, names_function, KeepsLength}
 use Rattle.sp_typing.specs.Sorts.{agrees}
+use Rattle.sp_objects.specs.Objects.{has_linkage}
 use Rattle.sp_unit_laws.proofs.Lists.{none_some, some_is, each_set, get_below, set_there, set_other, set_length}
 use Rattle.sp_unit_laws.proofs.Envs.{Goes, keeps_on}
 use Rattle.sp_unit_laws.proofs.Updates.{goes_object_set}
@@ -20,7 +21,7 @@ use Rattle.sp_typing.specs.Statements.{is_lasting}
 use Rattle.sp_typing.specs.Programs.{lasts}
 use Rattle.sp_typed_laws.specs.Sound.{IsSound, is_seen, lasting_alone, scene_of}
 use Rattle.sp_typed_laws.proofs.Types.{or_right}
-use Rattle.sp_typed_laws.proofs.Named.{is_linked, AreNamed}
+use Rattle.sp_typed_laws.proofs.Named.{AreNamed}
 use Rattle.sp_typed_laws.proofs.Envs.{IsFitting, IsFit, IsHome, IsKeptObject, Moves, SeesAll, KeepsStarts, Reaches}
 use Rattle.sp_typed_laws.proofs.Starts.{HasStart, HaveStarts, IsAside, aside_start, IsCalm, start_stays}
 use Rattle.sp_typed_laws.proofs.Grows.{IsStill, Grows}
@@ -85,16 +86,16 @@ set_split xs i y k x at = by (same_or_apart i k)
 
 -- the name of an entry that is set is linked to it
 named_set : (later : Env) (k : ℕ) (o : Object)
-    → (is_linked o.linkage ≡ true → linked later o.name ≡ Some (entities.Object k))
+    → (has_linkage o.linkage ≡ true → linked later o.name ≡ Some (entities.Object k))
     → AreNamed later → AreNamed (set_object later k o)
 named_set later k o link h = (λ j x at. by j x (set_split later.tables.objects k o j x at), h.1)
   where
     by : (j : ℕ) (x : Object)
         → ((k ≡ j) × (o ≡ x)) ⊎ ((k ≡ j → ⊥) × (slice_get later.tables.objects j ≡ Some x))
-        → is_linked x.linkage ≡ true → linked later x.name ≡ Some (entities.Object j)
+        → has_linkage x.linkage ≡ true → linked later x.name ≡ Some (entities.Object j)
     by j x (inl y) =
-        subst (λ z. is_linked z.linkage ≡ true → linked later z.name ≡ Some (entities.Object j))
-        y.1 (subst (λ i. is_linked o.linkage ≡ true → linked later o.name
+        subst (λ z. has_linkage z.linkage ≡ true → linked later z.name ≡ Some (entities.Object j))
+        y.1 (subst (λ i. has_linkage o.linkage ≡ true → linked later o.name
         ≡ Some (entities.Object i)) y.0 link)
     by j x (inr y) = h.0 j x y.1
 
@@ -174,7 +175,7 @@ module _ (own : ℕ → Bool) (env later : Env) (k : ℕ) (o : Object) (g : Reac
   -- ---- an object that wasn't there before
 
   pub reaches_set : IsHome o
-      → (AreNamed later → is_linked o.linkage ≡ true
+      → (AreNamed later → has_linkage o.linkage ≡ true
       → linked later o.name ≡ Some (entities.Object k))
       → length env.tables.objects ≤ k
       → (own k || is_lasting o.storage) ≡ true
@@ -276,7 +277,7 @@ reaches_replaced own env later k was o g at same lasts stays home name linkage f
         λ x.
             named_set later k o (λ mine.
             ap (λ n. linked later n) name
-            ∙ g.moves.links was.name k (x.0 k was at (ap is_linked (sym linkage) ∙ mine)))
+            ∙ g.moves.links was.name k (x.0 k was at (ap has_linkage (sym linkage) ∙ mine)))
             (g.moves.names.0 x),
         g.moves.names.1,
       );

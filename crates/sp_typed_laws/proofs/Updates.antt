@@ -12,20 +12,23 @@ use Rattle.sp_operands.specs.Answers.{accepted, refused}
 use Rattle.sp_scopes.specs.declared.meaning.Tag.{Tag}
 use Rattle.sp_scopes.specs.Meanings.{Meaning}
 use Rattle.sp_scopes.specs.Meanings as means
-use Rattle.sp_scopes.specs.Scopes.{Scope, entry}
+use Rattle.sp_scopes.specs.declared.scope.ScopeKind.{ScopeKind}
+use Rattle.sp_scopes.specs.Scopes.{Scope, Scopes, entry}
 use Rattle.sp_scopes.specs.Scopes as scopes
 use Rattle.sp_units.specs.Units.{Typing}
 use Rattle.sp_env.specs.declared.env.Entity.{Entity}
 use Rattle.sp_env.specs.declared.env.Entity.TheVariants as entities
-use Rattle.sp_env.specs.Env.{Env, with_tag, is_same_entity, declared_beside, declared, linked, with_link, with_object, with_function, typed_by, changed, with_function_type, with_constant, with_typings, typings_with, with_typing, entered, left}
+use Rattle.sp_env.specs.Env.{Env, with_tag, is_same_entity, declared_beside, declared, declared_in_block_beside, declared_in_block, linked, with_link, with_object, with_function, typed_by, changed, with_function_type, with_constant, with_typings, typings_with, with_typing, as_block, left}
+use Rattle.sp_objects.specs.Objects.{has_linkage}
 use Rattle.sp_unit_laws.proofs.Lists.{some_is, Each, each_none, each_first, each_pushed, each_changed, each_inserted, pushed_length, pushed_before}
-use Rattle.sp_unit_laws.proofs.Envs.{IsMeant, IsFormedObject, IsFormedFunction, Goes}
-use Rattle.sp_unit_laws.proofs.Updates.{goes_constant, goes_linked, goes_tagged, goes_object, goes_function, goes_function_typed, goes_typings, typings_more, goes_entered, goes_left}
+use Rattle.sp_unit_laws.proofs.Envs.{IsMeant, AreMeant, IsFormedObject, IsFormedFunction, Goes}
+use Rattle.sp_unit_laws.proofs.Updates.{goes_inside, goes_constant, goes_linked, goes_object, goes_function, goes_function_typed, goes_typings, typings_more, goes_left}
 use Rattle.sp_typing.specs.Programs.{lasts}
 use Rattle.sp_typed_laws.specs.Sound.{IsSound, IsSoundSignature, IsSoundStruct, lasting_alone}
 use Rattle.sp_typed_laws.proofs.Types.{or_left, or_right, or_wider}
-use Rattle.sp_typed_laws.proofs.Envs.{IsFitting, AreFitting, IsFit, IsHome, KeepObjects, kept_there, Follows, IsKeptFunction, KeepFunctions, kept_function, KeepLinks, Moves, SeesAll, KeepsStarts, Reaches, reaches_nowhere, all_fitting_on, around_fitting_on, scene_grows, calm_starts}
-use Rattle.sp_typed_laws.proofs.Named.{is_linked, inserted_kept, KeepNames, names_nowhere, names_linked, names_object, names_function, names_typed}
+use Rattle.sp_typed_laws.proofs.Envs.{IsFitting, AreFitting, IsFit, IsHome, KeepObjects, kept_there, Follows, IsKeptFunction, KeepFunctions, kept_function, KeepLinks, Moves, moves_nowhere, SeesAll, KeepsStarts, Reaches, reaches_nowhere, all_fitting_on, around_fitting_on, scene_grows, calm_starts}
+use Rattle.sp_typed_laws.proofs.Gains.{ScopesGain, all_scopes, scopes_stay, names_gained, scopes_gained, block_name_gained}
+use Rattle.sp_typed_laws.proofs.Named.{inserted_kept, KeepNames, names_nowhere, names_linked, names_object, names_function, names_typed}
 use Rattle.sp_typed_laws.proofs.Starts.{HasStart, HaveStarts, IsAside, aside_start, IsCalm, start_stays, pushed_split}
 use Rattle.sp_typed_laws.proofs.After.{Leads, leads, leads_none}
 
@@ -64,18 +67,19 @@ changed_kept s (f ∷ fs) (suc k) h (suc j) x at =
     }
 
 module _ (own : ℕ → Bool) (env : Env) (h : IsFit own env) where
-  -- ---- tables: the scopes stay
+  -- ---- tables: the scopes stay, or gain functions
 
   pub reaches_by : (later : Env) → Goes env later
       → KeepObjects env.tables.objects later.tables.objects
       → (Each IsHome env.tables.objects → Each IsHome later.tables.objects)
       → length env.tables.functions ≤ length later.tables.functions
-      → KeepFunctions env.tables.functions later.tables.functions → later.scopes ≡ env.scopes
+      → KeepFunctions env.tables.functions later.tables.functions
+      → ScopesGain (all_scopes env.scopes) (all_scopes later.scopes)
       → Each IsSoundStruct later.tables.structs → Each (λ o. IsSound o.of) later.tables.objects
       → Each (λ f. IsSoundSignature f.of) later.tables.functions
       → (SeesAll own → IsCalm env later) → (Moves env later → KeepsStarts own env later)
       → KeepLinks env later → KeepNames env later → Reaches own env later
-  reaches_by later g kept homes more functions-kept same structs objects functions calm starts
+  reaches_by later g kept homes more functions-kept gain structs objects functions calm starts
       links names =
       let m : Moves env later =
       record {
@@ -84,7 +88,7 @@ module _ (own : ℕ → Bool) (env : Env) (h : IsFit own env) where
         homes = homes;
         functions = more;
         kept = functions-kept;
-        around = ap (λ s. s.around) same;
+        around = gain.1;
         links = links;
         names = names;
       } in record {
@@ -93,12 +97,12 @@ module _ (own : ℕ → Bool) (env : Env) (h : IsFit own env) where
           structs = structs;
           objects = objects;
           functions = functions;
-          inner = subst
-              (λ s. AreFitting own later.tables.structs later.tables.objects s.inner.names) (sym same)
+          inner = names_gained (IsFitting own later.tables.structs later.tables.objects) (λ k. tt)
+              env.scopes.inner.names later.scopes.inner.names gain.0
               (all_fitting_on own env later m h.formed env.scopes.inner.names h.inner);
-          around = subst
-              (λ s. Each (λ t. AreFitting own later.tables.structs later.tables.objects t.names) s.around)
-              (sym same) (around_fitting_on own env later m h.formed h.around);
+          around = scopes_gained (IsFitting own later.tables.structs later.tables.objects) (λ k. tt)
+              env.scopes.around later.scopes.around gain.1
+              (around_fitting_on own env later m h.formed h.around);
         };
         moves = m;
         calm = calm;
@@ -117,7 +121,8 @@ module _ (own : ℕ → Bool) (env : Env) (h : IsFit own env) where
   reaches_constant z =
       reaches_by (with_constant env z) (goes_constant env h.formed z)
       (kept_there env.tables.objects) (λ x. x)
-      (omega arith) (kept_function env.tables.functions) refl h.structs h.objects h.functions
+      (omega arith) (kept_function env.tables.functions)
+      (scopes_stay (all_scopes env.scopes)) h.structs h.objects h.functions
       (λ all. still (with_constant env z) refl) (still_starts (with_constant env z) refl)
       (λ m j e. e) (names_nowhere env)
 
@@ -127,7 +132,8 @@ module _ (own : ℕ → Bool) (env : Env) (h : IsFit own env) where
   reaches_linked n e none =
       reaches_by (with_link env n e) (goes_linked env h.formed n e) (kept_there env.tables.objects)
       (λ x. x)
-      (omega arith) (kept_function env.tables.functions) refl h.structs h.objects h.functions
+      (omega arith) (kept_function env.tables.functions)
+      (scopes_stay (all_scopes env.scopes)) h.structs h.objects h.functions
       (λ all. still (with_link env n e) refl) (still_starts (with_link env n e) refl)
       (λ m j is. inserted_kept env.links n e m (entities.Object j) none is)
       (names_linked env n e none)
@@ -137,7 +143,8 @@ module _ (own : ℕ → Bool) (env : Env) (h : IsFit own env) where
   reaches_typings ts p =
       reaches_by (with_typings env ts) (goes_typings env h.formed ts p)
       (kept_there env.tables.objects) (λ x. x)
-      (omega arith) (kept_function env.tables.functions) refl h.structs h.objects h.functions
+      (omega arith) (kept_function env.tables.functions)
+      (scopes_stay (all_scopes env.scopes)) h.structs h.objects h.functions
       (λ all. still (with_typings env ts) refl) (still_starts (with_typings env ts) refl)
       (λ m j e. e) (names_nowhere env)
 
@@ -148,7 +155,7 @@ module _ (own : ℕ → Bool) (env : Env) (h : IsFit own env) where
       (typings_more env h.formed l (record { name = n; of = t; place = p }) f)
 
   -- one more object without linkage, with a start of its own
-  pub reaches_object : (o : Object) → is_linked o.linkage ≡ false → IsFormedObject env.tables.structs o → IsSound o.of
+  pub reaches_object : (o : Object) → has_linkage o.linkage ≡ false → IsFormedObject env.tables.structs o → IsSound o.of
       → (SeesAll own → IsAside o)
       → ((waits : ℕ → Bool)
       → HasStart waits (with_object env o) (length env.tables.objects) o o.storage)
@@ -159,7 +166,8 @@ module _ (own : ℕ → Bool) (env : Env) (h : IsFit own env) where
       (pushed_before env.tables.objects o x k at))
       (λ x. each_pushed IsHome env.tables.objects o x
       (λ mine. absurd (true≢false (sym mine ∙ private)))) (omega arith)
-      (kept_function env.tables.functions) refl h.structs
+      (kept_function env.tables.functions)
+      (scopes_stay (all_scopes env.scopes)) h.structs
       (each_pushed (λ o. IsSound o.of) env.tables.objects o h.objects p) h.functions
       (λ all k x at. calm all x (pushed_split env.tables.objects o x k at))
       (λ m waits w x k y at. begun m waits x k y (pushed_split env.tables.objects o y k at))
@@ -186,7 +194,7 @@ module _ (own : ℕ → Bool) (env : Env) (h : IsFit own env) where
           (subst (λ i. HasStart waits (with_object env o) i o o.storage) (sym z.0) (start waits))
 
   -- a literal, or a parameter
-  pub reaches_aside : (o : Object) → is_linked o.linkage ≡ false
+  pub reaches_aside : (o : Object) → has_linkage o.linkage ≡ false
       → IsFormedObject env.tables.structs o → IsSound o.of → IsAside o → Reaches own env (with_object env o)
   reaches_aside o private f p aside =
       reaches_object o private f p (λ all. aside)
@@ -202,7 +210,8 @@ module _ (own : ℕ → Bool) (env : Env) (h : IsFit own env) where
       (kept_there env.tables.objects) (λ x. x)
       (omega (arith, pushed_length env.tables.functions f))
       (λ k x at. kept_function (env.tables.functions ++ f ∷ []) k x
-      (pushed_before env.tables.functions f x k at)) refl h.structs h.objects
+      (pushed_before env.tables.functions f x k at)) (scopes_stay (all_scopes env.scopes))
+      h.structs h.objects
       (each_pushed (λ f. IsSoundSignature f.of) env.tables.functions f h.functions p)
       (λ all. still (with_function env f) refl) (still_starts (with_function env f) refl)
       (λ m j e. e) (names_function env f bodiless link)
@@ -215,82 +224,88 @@ module _ (own : ℕ → Bool) (env : Env) (h : IsFit own env) where
       reaches_by (with_function_type env k s) (goes_function_typed env h.formed k s g)
       (kept_there env.tables.objects) (λ x. x)
       (omega (arith, changed_length (typed_by s) env.tables.functions k))
-      (changed_kept s env.tables.functions k follows) refl
+      (changed_kept s env.tables.functions k follows) (scopes_stay (all_scopes env.scopes))
       h.structs h.objects
       (each_changed (λ f. IsSoundSignature f.of) (typed_by s) env.tables.functions k h.functions
       (λ f x. p)) (λ all. still (with_function_type env k s) refl)
       (still_starts (with_function_type env k s) refl) (λ m j e. e) (names_typed env k s)
 
-  -- ---- scopes
+  -- ---- scopes: those around the innermost one gain functions
 
-  tagged_moves : (n : ℕ) (t : Tag) → Moves env (with_tag env n t)
-  tagged_moves n t = record {
-    keeps = (goes_tagged env h.formed n t).keeps;
+  abbrev in_scopes : Scopes → Env
+  in_scopes s = record env { scopes = s }
+
+  scopes_moves : (s : Scopes) → ScopesGain env.scopes.around s.around → Moves env (in_scopes s)
+  scopes_moves s gain = record {
+    keeps = (moves_nowhere env).keeps;
     objects = kept_there env.tables.objects;
     homes = λ x. x;
     functions = omega arith;
     kept = kept_function env.tables.functions;
-    around = refl;
+    around = gain;
     links = λ m j e. e;
     names = names_nowhere env;
   }
 
-  pub reaches_tagged : (n : ℕ) (t : Tag) → Reaches own env (with_tag env n t)
-  reaches_tagged n t = record {
-    fit = record {
-      formed = (goes_tagged env h.formed n t).formed;
-      structs = h.structs;
-      objects = h.objects;
-      functions = h.functions;
-      inner = h.inner;
-      around = h.around;
-    };
-    moves = tagged_moves n t;
-    calm = λ all. still (with_tag env n t) refl;
-    starts = still_starts (with_tag env n t) refl (tagged_moves n t);
-  }
-
-  abbrev with_meaning : ℕ → Meaning → Env
-  with_meaning n m = record env { scopes = scopes.with_name env.scopes n m }
-
-  named_moves : (n : ℕ) (m : Meaning) → Moves env (with_meaning n m)
-  named_moves n m = record {
-    keeps = (reaches_nowhere own env h).moves.keeps;
-    objects = kept_there env.tables.objects;
-    homes = λ x. x;
-    functions = omega arith;
-    kept = kept_function env.tables.functions;
-    around = refl;
-    links = λ m j e. e;
-    names = names_nowhere env;
-  }
-
-  reaches_named : (n : ℕ) (m : Meaning) → IsMeant env.tables.structs m
-      → IsFitting own env.tables.structs env.tables.objects m
-      → Reaches own env (with_meaning n m)
-  reaches_named n m meant fits = record {
+  reaches_scopes : (s : Scopes) → ScopesGain env.scopes.around s.around
+      → AreMeant env.tables.structs s.inner.names
+      → AreFitting own env.tables.structs env.tables.objects s.inner.names
+      → Reaches own env (in_scopes s)
+  reaches_scopes s gain meant fits = record {
     fit = record {
       formed = record {
         table = h.formed.table;
         objects = h.formed.objects;
         functions = h.formed.functions;
         typings = h.formed.typings;
-        inner = each_inserted (IsMeant env.tables.structs) env.scopes.inner.names n m h.formed.inner
-            meant;
-        around = h.formed.around;
+        inner = meant;
+        around = scopes_gained (IsMeant env.tables.structs) (λ k. tt)
+            env.scopes.around s.around gain h.formed.around;
       };
       structs = h.structs;
       objects = h.objects;
       functions = h.functions;
-      inner = each_inserted
-          (IsFitting own env.tables.structs env.tables.objects) env.scopes.inner.names n m h.inner
-          fits;
-      around = h.around;
+      inner = fits;
+      around = scopes_gained (IsFitting own env.tables.structs env.tables.objects) (λ k. tt)
+          env.scopes.around s.around gain h.around;
     };
-    moves = named_moves n m;
-    calm = λ all. still (with_meaning n m) refl;
-    starts = still_starts (with_meaning n m) refl (named_moves n m);
+    moves = scopes_moves s gain;
+    calm = λ all. still (in_scopes s) refl;
+    starts = still_starts (in_scopes s) refl (scopes_moves s gain);
   }
+
+  pub reaches_tagged : (n : ℕ) (t : Tag) → Reaches own env (with_tag env n t)
+  reaches_tagged n t =
+      reaches_scopes (scopes.with_tag env.scopes n t) (scopes_stay env.scopes.around)
+      h.formed.inner h.inner
+
+  -- the list of a definition becomes a block
+  pub reaches_as_block : Reaches own env (as_block env)
+  reaches_as_block =
+      reaches_scopes (scopes.as_block env.scopes) (scopes_stay env.scopes.around)
+      h.formed.inner h.inner
+
+  reaches_named : (n : ℕ) (m : Meaning) → IsMeant env.tables.structs m
+      → IsFitting own env.tables.structs env.tables.objects m
+      → Reaches own env (in_scopes (scopes.with_name env.scopes n m))
+  reaches_named n m meant fits =
+      reaches_scopes (scopes.with_name env.scopes n m) (scopes_stay env.scopes.around)
+      (each_inserted (IsMeant env.tables.structs) env.scopes.inner.names n m h.formed.inner meant)
+      (each_inserted (IsFitting own env.tables.structs env.tables.objects)
+      env.scopes.inner.names n m h.inner fits)
+
+  -- the name of a function goes to the innermost block
+  reaches_named_in_block : (n k : ℕ)
+      → Reaches own env (in_scopes (scopes.with_block_name env.scopes n (means.function k)))
+  reaches_named_in_block n k =
+      let s : Scopes = scopes.with_block_name env.scopes n (means.function k) in
+      let gain : ScopesGain (all_scopes env.scopes) (all_scopes s) =
+      block_name_gained env.scopes n k in
+      reaches_scopes s gain.1
+      (names_gained (IsMeant env.tables.structs) (λ k. tt)
+      env.scopes.inner.names s.inner.names gain.0 h.formed.inner)
+      (names_gained (IsFitting own env.tables.structs env.tables.objects) (λ k. tt)
+      env.scopes.inner.names s.inner.names gain.0 h.inner)
 
   pub leads_declared : (n : ℕ) (m : Meaning) (p : Place) → IsMeant env.tables.structs m
       → IsFitting own env.tables.structs env.tables.objects m → Leads own env (declared env n m p)
@@ -303,6 +318,19 @@ module _ (own : ℕ → Bool) (env : Env) (h : IsFit own env) where
       by : (o : Option Meaning) → Leads own env (declared_beside env n m p o)
       by None = leads (reaches_named n m meant fits)
       by (Some old) = same (is_same_entity old m)
+
+  pub leads_declared_in_block : (n k : ℕ) (p : Place)
+      → Leads own env (declared_in_block env n (means.function k) p)
+  leads_declared_in_block n k p = by (scopes.meaning_in_block env.scopes n)
+    where
+      same : (b : Bool) → Leads own env (if b then accepted env else refused F9 p)
+      same true = leads (reaches_nowhere own env h)
+      same false = leads_none
+
+      by : (o : Option Meaning)
+          → Leads own env (declared_in_block_beside env n (means.function k) p o)
+      by None = leads (reaches_named_in_block n k)
+      by (Some old) = same (is_same_entity old (means.function k))
 
 -- ---- more objects are seen
 
@@ -363,9 +391,14 @@ fit_narrower own wide env w h = record {
 
 -- ---- scopes that are entered and left
 
-pub fit_entered : (own : ℕ → Bool) (env : Env) → IsFit own env → IsFit own (entered env)
-fit_entered own env h = record {
-  formed = (goes_entered env h.formed).formed;
+-- a block, or a list of parameters
+abbrev in_scope : ScopeKind → Env → Env
+in_scope kind env = record env { scopes = scopes.entered kind env.scopes }
+
+pub fit_entered : {kind : ScopeKind} (own : ℕ → Bool) (env : Env) → IsFit own env
+    → IsFit own (in_scope kind env)
+fit_entered {kind = kind} own env h = record {
+  formed = (goes_inside env h.formed kind).formed;
   structs = h.structs;
   objects = h.objects;
   functions = h.functions;
@@ -375,20 +408,23 @@ fit_entered own env h = record {
       env.scopes.around h.inner h.around;
 }
 
--- what was around the scope is as it was, whatever was seen in it
-pub reaches_left : (own wide : ℕ → Bool) (env later : Env) → IsFit own env
+-- the scopes around the one that is left gained functions alone, whatever was seen in it
+pub reaches_left : {kind : ScopeKind} (own wide : ℕ → Bool) (env later : Env) → IsFit own env
     → (SeesAll own → SeesAll wide)
-    → Reaches wide (entered env) later → Reaches own env (left later)
+    → Reaches wide (in_scope kind env) later → Reaches own env (left later)
 reaches_left own wide env later h wider g =
     reaches_by own env h (left later)
     (record { formed = (goes_left later g.fit.formed).formed; keeps = g.moves.keeps })
-    g.moves.objects g.moves.homes g.moves.functions g.moves.kept same g.fit.structs g.fit.objects
+    g.moves.objects g.moves.homes g.moves.functions g.moves.kept
+    (by later.scopes.around g.moves.around) g.fit.structs g.fit.objects
     g.fit.functions (λ all. g.calm (wider all))
     (λ m waits w x. g.starts waits (λ file. absurd (true≢false (sym file))) x) g.moves.links
     g.moves.names
   where
-    same : (left later).scopes ≡ env.scopes
-    same = ap (scopes.left_to later.scopes) g.moves.around
+    by : (around : List Scope) → ScopesGain (all_scopes env.scopes) around
+        → ScopesGain (all_scopes env.scopes) (all_scopes (scopes.left_to later.scopes around))
+    by [] gain = absurd gain
+    by (s ∷ ss) gain = gain
 
 -- ---- the list of parameters of a declarator
 

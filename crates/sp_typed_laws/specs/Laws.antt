@@ -10,7 +10,8 @@ use Rattle.sp_expr_check.specs.Expressions.{checked, value_checked}
 use Rattle.sp_typing.specs.Trees.{IsTyped, has_place}
 use Rattle.sp_typing.specs.Sorts.{IsKnown}
 use Rattle.sp_written_laws.specs.Written.{IsWritten}
-use Rattle.sp_typed_laws.specs.Sound.{AreBytes, IsSound, IsSoundEnv, scene_of}
+use Rattle.sp_written_laws.specs.Laws.{AreByteNames}
+use Rattle.sp_typed_laws.specs.Sound.{IsSound, IsSoundEnv, scene_of}
 
 -- Behind a rule that gives this tree: the tree is typed, and what was typed before it is so still.
 pub record IsTypedBehind (own : ℕ → Bool) (env later : Env) (e : Typed) : Type 0 where
@@ -29,7 +30,7 @@ pub record IsValue (ss : List Struct) (e : Typed) : Type 0 where
 -- in a sound environment
 abbrev pub ExpressionsAreTyped : Type 0
 ExpressionsAreTyped = (own : ℕ → Bool) (names : List (List ℕ)) (env : Env) (e : Expression)
-    → AreBytes names → IsSoundEnv own env → IsWritten e
+    → AreByteNames names → IsSoundEnv own env → IsWritten e
     → ((x : Typed × Env) → checked names env e ≡ accepted x → IsTypedBehind own env x.1 x.0)
     × ((x : Typed × Env) → value_checked names env e ≡ accepted x
     → IsTypedBehind own env x.1 x.0 × IsValue x.1.tables.structs x.0)

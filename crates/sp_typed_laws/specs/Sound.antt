@@ -16,13 +16,6 @@ use Rattle.sp_ir.specs.Formed.{InKind}
 use Rattle.sp_typing.specs.Trees.{Scene}
 use Rattle.sp_typing.specs.Programs.{lasts}
 
--- ---- names
-
--- names and literals are bytes
-abbrev pub AreBytes : List (List ℕ) → Type 0
-AreBytes names = (i j b : ℕ) (bytes : List ℕ) → slice_get names i ≡ Some bytes
-    → slice_get bytes j ≡ Some b → b < 256
-
 -- ---- types
 
 -- no function in it returns an array (C90 6.5.4.3)

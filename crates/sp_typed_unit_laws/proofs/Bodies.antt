@@ -21,11 +21,11 @@ use Rattle.sp_statement_check.specs.Statements.{body_form, labels_told, body_che
 use Rattle.sp_typing.specs.Statements.{labels_in, form_labels, other_labels, all_labels, IsTypedStatement}
 use Rattle.sp_unit_laws.proofs.Lists.{none_some, some_is}
 use Rattle.sp_unit_laws.proofs.After.{Gives, gives, gives_none, gives_then, gives_more}
+use Rattle.sp_written_laws.specs.Laws.{AreByteNames}
 use Rattle.sp_typed_laws.proofs.Envs.{SeesAll, Reaches}
 use Rattle.sp_typed_laws.proofs.Leaves.{IsType}
 use Rattle.sp_written_laws.specs.Statements.{IsWrittenStatement, IsWrittenForm}
-use Rattle.sp_typed_unit_laws.specs.Fits.{AreOwn, IsLabel, AreLabels, setting_of}
-use Rattle.sp_typed_laws.specs.Sound.{AreBytes}
+use Rattle.sp_typed_unit_laws.proofs.Fits.{AreOwn, IsLabel, AreLabels, setting_of}
 use Rattle.sp_typed_unit_laws.proofs.Held.{IsHeld}
 use Rattle.sp_typed_unit_laws.proofs.Locals.{AreLocals, no_locals}
 use Rattle.sp_typed_unit_laws.proofs.Shows.{Shows}
@@ -103,8 +103,8 @@ none_lost labels (k ∷ js) h = by (is_among nat_eq labels k.0) refl h (none_los
     by true e h rest (suc i) j at = rest h i j at
     by false e h rest i j at = absurd (none_some k.1 (sym h))
 
-where_none_met : {A : Type 0} (P : A → Type 0) (o : Option Place) (k : FaultKind) (c : Checked A)
-    → (o ≡ None → Gives P c) → Gives P (where_none o k c)
+pub where_none_met : {A : Type 0} (P : A → Type 0) (o : Option Place) (k : FaultKind)
+    (c : Checked A) → (o ≡ None → Gives P c) → Gives P (where_none o k c)
 where_none_met P None k c h = h refl
 where_none_met P (Some p) k c h = gives_none
 
@@ -128,7 +128,7 @@ IsBody own env t s later = Reaches own env later
     × IsTypedStatement (setting_of own (labels_in s) t later) None s
     × AreLocals (locals_in s) later
 
-module _ (names : List (List ℕ)) (bytes : AreBytes names) (own : ℕ → Bool)
+module _ (names : List (List ℕ)) (bytes : AreByteNames names) (own : ℕ → Bool)
     (partly : SeesAll own → ⊥) where
   declares : (labels : List ℕ) → DeclarationsAreTyped names bytes own labels
   declares labels env ds h w inner =

@@ -18,7 +18,7 @@ use Rattle.sp_operands.specs.Answers.{Checked, accepted, refused, and_then}
 use Rattle.sp_operands.specs.Conversions.{is_function, is_void}
 use Rattle.sp_rules.specs.Rules.{function_type}
 use Rattle.sp_scopes.specs.Meanings as means
-use Rattle.sp_scopes.specs.Scopes.{is_empty, is_file_scope}
+use Rattle.sp_scopes.specs.Scopes.{is_file_scope}
 use Rattle.sp_env.specs.declared.env.Entity.{Entity}
 use Rattle.sp_env.specs.declared.env.Entity.TheVariants as entities
 use Rattle.sp_env.specs.Env.{Env, set_object, linked, object_type}
@@ -37,9 +37,9 @@ use Rattle.sp_unit_laws.proofs.After.{accepted_is, Gives, gives, gives_then, giv
 use Rattle.sp_unit_laws.proofs.Expressions.{declared_formed}
 use Rattle.sp_written_laws.specs.Written.{IsWrittenInit, IsWrittenStart, IsWrittenDeclarator, IsWrittenItem, AreWrittenItems, IsWrittenDeclaration, AreWrittenDeclarations}
 use Rattle.sp_typing.specs.Programs.{lasts}
-use Rattle.sp_typed_laws.specs.Sound.{AreBytes, KnowsElements, is_seen, lasting_alone, scene_of}
-use Rattle.sp_typed_laws.proofs.Named.{is_linked}
-use Rattle.sp_typed_laws.proofs.Envs.{IsFit, IsKeptObject, SeesAll, Reaches, reaches_nowhere, reaches_on, grows_of}
+use Rattle.sp_written_laws.specs.Laws.{AreByteNames}
+use Rattle.sp_typed_laws.specs.Sound.{KnowsElements, is_seen, lasting_alone, scene_of}
+use Rattle.sp_typed_laws.proofs.Envs.{IsFit, IsKeptObject, SeesAll, Reaches, reaches_nowhere, reaches_on, grows_of, around_alike}
 use Rattle.sp_typed_laws.proofs.Starts.{HasStart, HaveStarts, IsAside, IsCalm, start_stays}
 use Rattle.sp_typed_laws.proofs.Grows.{Grows}
 use Rattle.sp_typed_laws.proofs.After.{After, Leads, leads, leads_after, leads_met, leads_either}
@@ -50,8 +50,8 @@ use Rattle.sp_typed_laws.proofs.Leaves.{IsType, type_kept}
 use Rattle.sp_typed_laws.proofs.Expressions.{specifiers_good, declared_good}
 use Rattle.sp_typed_laws.proofs.Declared.{elements_kept, specifiers_elements, declared_elements}
 use Rattle.sp_typed_laws.proofs.Law.{sound_of}
-use Rattle.sp_typed_unit_laws.specs.Fits.{AreOwn}
-use Rattle.sp_typed_unit_laws.specs.Starts.{IsStart}
+use Rattle.sp_typed_unit_laws.proofs.Fits.{AreOwn}
+use Rattle.sp_typed_unit_laws.proofs.Started.{IsStart}
 use Rattle.sp_typed_unit_laws.proofs.Starts.{starts_typed}
 use Rattle.sp_typed_unit_laws.proofs.Begun.{IsTested, holds_values, storage_declared, storage_valued}
 use Rattle.sp_typed_unit_laws.proofs.Parted.{each_right}
@@ -86,7 +86,7 @@ signature_in env (structure k) s h e = absurd (none_some s e)
 -- ---- the values of an object
 
 -- where linkage is none the object stands here, and has to be complete
-waits_not : (l : Linkage) (t : CType) → is_linked l ≡ false → may_wait l t ≡ false
+waits_not : (l : Linkage) (t : CType) → has_linkage l ≡ false → may_wait l t ≡ false
 waits_not External t h = absurd (true≢false h)
 waits_not Internal t h = refl
 waits_not Inner t h = refl
@@ -168,11 +168,11 @@ ends_through {c = refused k p} R back h g = ends_none
 abbrev all_seen : ℕ → Bool
 all_seen k = true
 
-module _ (names : List (List ℕ)) (bytes : AreBytes names) (own : ℕ → Bool)
+module _ (names : List (List ℕ)) (bytes : AreByteNames names) (own : ℕ → Bool)
     (partly : SeesAll own → ⊥) where
   -- an object without linkage is complete, where it doesn't last
   abbrev IsWhole : Linkage → ℕ → Env → Type 0
-  IsWhole l k env = is_linked l ≡ false → (o : Object) → slice_get env.tables.objects k ≡ Some o
+  IsWhole l k env = has_linkage l ≡ false → (o : Object) → slice_get env.tables.objects k ≡ Some o
       → is_lasting o.storage ≡ false → 1 ≤ size_of env.tables.structs o.of
 
   abbrev IsFinished : Env → ℕ → Linkage → ℕ → Env → Type 0
@@ -305,7 +305,7 @@ module _ (names : List (List ℕ)) (bytes : AreBytes names) (own : ℕ → Bool)
             entered = valued_entered v later i f start o.storage refl;
           };
           private = λ e z at-z.
-              subst (λ z. is_linked z.linkage ≡ false)
+              subst (λ z. has_linkage z.linkage ≡ false)
               (some_is (valued v) z (sym there ∙ at-z)) (x.private e o at);
         }
       where
@@ -382,7 +382,7 @@ module _ (names : List (List ℕ)) (bytes : AreBytes names) (own : ℕ → Bool)
       (start : MaybeInit) → IsHeld own env
       → Reaches own first env → IsEntry own (length first.tables.objects) l k env
       → IsKeptEntry (is_given start) k env → IsLinkedAs n l k env
-      → IsWrittenStart start → (is_linked l ≡ false → is_outside s ≡ false)
+      → IsWrittenStart start → (has_linkage l ≡ false → is_outside s ≡ false)
       → Ends own first (IsFinished first n l k) (object_finished names env k p at l s start)
   finished_ends first env n l k p at s no_init h g x kept link w inside =
       ends_given {o = object_type (slice_get env.tables.objects k)} _ _ (λ t e.
@@ -436,7 +436,7 @@ module _ (names : List (List ℕ)) (bytes : AreBytes names) (own : ℕ → Bool)
 
   told_ends : (first env : Env) (class : Option Keyword) (t : CType) (k n : ℕ) (p at : Place)
       (start : MaybeInit) (l : Linkage) (e : Option Entity) → IsHeld own first
-      → Reaches own first env → IsObjectType t env → (is_linked l ≡ false → own k ≡ true)
+      → Reaches own first env → IsObjectType t env → (has_linkage l ≡ false → own k ≡ true)
       → IsPlace first env n l k e → IsWrittenStart start → IsQuiet first env k
       → KnowsElements env.tables.structs t → IsOuterClass first l class
       → MayOpen first k l class (is_given start)
@@ -451,7 +451,7 @@ module _ (names : List (List ℕ)) (bytes : AreBytes names) (own : ℕ → Bool)
       let file : IsOuter first l s = λ is inside.
       outer_file l class (is_given start) (is_file_scope first.scopes)
       (subst (λ b. (b || not (has_linkage l) || not (is_given start)) ≡ true)
-      (ap is_empty g.moves.around) may) outer is inside in
+      (around_alike g.moves) may) outer is inside in
       object_ends own first env k n t s l (is_given start) p e h g f mine knows (record {
         home = storage_home l class (is_given start);
         declares = storage_declared l class (is_given start);
@@ -522,7 +522,7 @@ module _ (names : List (List ℕ)) (bytes : AreBytes names) (own : ℕ → Bool)
       → AreDeclaredIn ks env → IsType base env → KnowsElements env.tables.structs base
       → names_function (is_function base) d ≡ false
       → IsWrittenDeclarator d → IsWrittenStart start
-      → (is_linked l ≡ false → own (reserved_number env e) ≡ true)
+      → (has_linkage l ≡ false → own (reserved_number env e) ≡ true)
       → ((later : Env) → Reaches own (object_reserved env n p e) later
       → IsPlace env later n l (reserved_number env e) e)
       → IsOuterClass env l class → MayOpen env (reserved_number env e) l class (is_given start)
@@ -584,7 +584,7 @@ module _ (names : List (List ℕ)) (bytes : AreBytes names) (own : ℕ → Bool)
         omega (arith, more, pushed_length env.tables.objects (new_object n void Outside Inner p)),
       )
 
-  pub linked_place : (env : Env) (n : ℕ) (l : Linkage) (p : Place) → is_linked l ≡ true
+  pub linked_place : (env : Env) (n : ℕ) (l : Linkage) (p : Place) → has_linkage l ≡ true
       → (o : Option Entity) → linked env n ≡ o → (later : Env) → Reaches own
       (object_reserved env n p o) later
       → IsPlace env later n l (reserved_number env o) o
@@ -696,7 +696,7 @@ module _ (names : List (List ℕ)) (bytes : AreBytes names) (own : ℕ → Bool)
   IsInner env = is_file_scope env.scopes ≡ false
 
   inner_on : (env later : Env) → Reaches own env later → IsInner env → IsInner later
-  inner_on env later g h = ap is_empty g.moves.around ∙ h
+  inner_on env later g h = around_alike g.moves ∙ h
 
   inner_opens : (env : Env) (class : Option Keyword) (base : CType) (i : InitDeclarator)
       → IsInner env

@@ -11,7 +11,7 @@ use Rattle.sp_syntax.specs.Places.{declarator_place}
 use Rattle.sp_types.specs.Types.{CType}
 use Rattle.sp_types.specs.declared.program.Linkage.{Linkage}
 use Rattle.sp_types.specs.declared.program.Linkage.TheVariants.{External, Internal, Inner}
-use Rattle.sp_scopes.specs.Scopes.{is_empty, is_file_scope}
+use Rattle.sp_scopes.specs.Scopes.{is_file_scope}
 use Rattle.sp_env.specs.declared.env.Entity.{Entity}
 use Rattle.sp_env.specs.declared.env.Entity.TheVariants as entities
 use Rattle.sp_env.specs.Env.{Env, linked}
@@ -19,16 +19,16 @@ use Rattle.sp_operands.specs.Conversions.{is_function}
 use Rattle.sp_names.specs.Functions.{extern_of}
 use Rattle.sp_member_rules.specs.Parameters.{declared_name}
 use Rattle.sp_expr_check.specs.Expressions.{declared_type}
-use Rattle.sp_objects.specs.Objects.{linkage_for, storage_for, is_outside, static_linkage, plain_linkage, entry_for, object_reserved, reserved_number}
+use Rattle.sp_objects.specs.Objects.{linkage_for, storage_for, is_outside, static_linkage, plain_linkage, entry_for, object_reserved, reserved_number, has_linkage}
 use Rattle.sp_declarations.specs.Words.{storage_class, is_automatic, declares_tag, has_none, is_given, names_function}
 use Rattle.sp_declarations.specs.Declarations.{with_number, object_told, object_at, object_checked, other_told, other_checked, names_object, item_declared, items_declared, declaration_checked}
 use Rattle.sp_unit_laws.proofs.Lists.{none_some, some_is, each_none}
 use Rattle.sp_unit_laws.proofs.Longer.{type_longer}
 use Rattle.sp_unit_laws.proofs.After.{Gives, gives, gives_then, gives_more, gives_met, gives_given, gives_either, anything}
 use Rattle.sp_written_laws.specs.Written.{AreWrittenSpecifiers, IsWrittenDeclarator, IsWrittenItem, AreWrittenItems, IsWrittenDeclaration}
-use Rattle.sp_typed_laws.specs.Sound.{AreBytes, KnowsElements, lasting_alone}
-use Rattle.sp_typed_laws.proofs.Named.{is_linked}
-use Rattle.sp_typed_laws.proofs.Envs.{IsFit, Moves, moves_nowhere, moves_on, SeesAll, Reaches, table_stays}
+use Rattle.sp_written_laws.specs.Laws.{AreByteNames}
+use Rattle.sp_typed_laws.specs.Sound.{KnowsElements, lasting_alone}
+use Rattle.sp_typed_laws.proofs.Envs.{IsFit, Moves, moves_nowhere, moves_on, SeesAll, Reaches, table_stays, around_alike}
 use Rattle.sp_typed_laws.proofs.Elements.{elements_stay}
 use Rattle.sp_typed_laws.proofs.Starts.{HaveStarts, starts_more}
 use Rattle.sp_typed_laws.proofs.Types.{number_equals}
@@ -39,33 +39,33 @@ use Rattle.sp_typed_unit_laws.proofs.Tentative.{name_after, item_after, items_af
 use Rattle.sp_typed_laws.proofs.Leaves.{IsType}
 use Rattle.sp_typed_laws.proofs.Expressions.{specifiers_good}
 use Rattle.sp_typed_laws.proofs.Declared.{specifiers_elements}
-use Rattle.sp_typed_unit_laws.specs.Fits.{AreOwn}
+use Rattle.sp_typed_unit_laws.proofs.Fits.{AreOwn}
 use Rattle.sp_typed_unit_laws.proofs.Held.{IsHeld, held_on}
 use Rattle.sp_typed_unit_laws.proofs.Locals.{no_locals}
 use Rattle.sp_typed_unit_laws.proofs.Declarations.{after_both, ItemMayOpen, object_shows, linked_place, plain_name, other_typed, item_typed}
 
 -- ---- linkage in the scope of the file
 
-extern_linked : (o : Option Linkage) → is_linked (extern_of o) ≡ true
+extern_linked : (o : Option Linkage) → has_linkage (extern_of o) ≡ true
 extern_linked None = refl
 extern_linked (Some External) = refl
 extern_linked (Some Internal) = refl
 extern_linked (Some Inner) = refl
 
 file_linked : (env : Env) (n : ℕ) (class : Option Keyword) → is_file_scope env.scopes ≡ true
-    → is_linked (linkage_for env n class) ≡ true
+    → has_linkage (linkage_for env n class) ≡ true
 file_linked env n (Some words.Extern) h = extern_linked _
-file_linked env n (Some words.Static) h = ap (λ b. is_linked (static_linkage b)) h
-file_linked env n class h = ap (λ b. is_linked (plain_linkage b)) h
+file_linked env n (Some words.Static) h = ap (λ b. has_linkage (static_linkage b)) h
+file_linked env n class h = ap (λ b. has_linkage (plain_linkage b)) h
 
-listed_same : (ks : List ℕ) (l : Linkage) (k : ℕ) → is_linked l ≡ true → with_number ks l k ≡ ks
+listed_same : (ks : List ℕ) (l : Linkage) (k : ℕ) → has_linkage l ≡ true → with_number ks l k ≡ ks
 listed_same ks External k h = refl
 listed_same ks Internal k h = refl
 listed_same ks Inner k h = absurd (true≢false (sym h))
 
 pub file_on : {own : ℕ → Bool} {env later : Env} → Reaches own env later
     → is_file_scope env.scopes ≡ true → is_file_scope later.scopes ≡ true
-file_on g h = ap is_empty g.moves.around ∙ h
+file_on g h = around_alike g.moves ∙ h
 
 -- a declaration of the file leads there, where the objects of these names may wait
 pub record IsFiled (env : Env) (ts : List ℕ) (later : Env) : Type 0 where
@@ -80,10 +80,10 @@ type_moved : (env later : Env) → Moves env later → (t : CType) → IsType t 
 type_moved env later g t h =
     (type_longer env.tables.structs later.tables.structs g.keeps.longer t h.0, h.1)
 
-module _ (names : List (List ℕ)) (bytes : AreBytes names) where
+module _ (names : List (List ℕ)) (bytes : AreByteNames names) where
   object_unlisted : (env : Env) (ks : List ℕ) (class : Option Keyword) (base : CType)
       (d : Declarator) (start : MaybeInit) (n : ℕ) (p : Place) (l : Linkage) (e : Option Entity)
-      → is_linked l ≡ true
+      → has_linkage l ≡ true
       → Gives (λ y. y.0 ≡ ks) (object_at names env ks class base d start n p l e)
   object_unlisted env ks class base d start n p l e h =
       gives_then {Q = λ x. ⊤}
@@ -333,7 +333,7 @@ module _ (names : List (List ℕ)) (bytes : AreBytes names) where
       (items_declared names x.1 class whole base ks is)) (sym q.0)
       (gives_more (λ y a. filed_on env x.1 (items_after (item_after ts class i) class is) g y a)
       (items_file x.1 class whole base (item_after ts class i) is
-      (record { fit = q.1.fit; homes = g.homes h.homes }) (ap is_empty g.around ∙ f)
+      (record { fit = q.1.fit; homes = g.homes h.homes }) (around_alike g ∙ f)
       (type_moved env x.1 g base t)
       (elements_stay env.tables.structs x.1.tables.structs
       (table_stays lasting_alone env x.1 g h.fit.formed) base knows) w.1 c q.1.starts)))

@@ -4,11 +4,12 @@ use Rattle.sp_unit_laws.proofs.Envs.{IsFormedEnv}
 use Rattle.sp_ir.specs.Terrain.{size_of}
 use Rattle.sp_typing.specs.Statements.{is_lasting}
 use Rattle.sp_typing.specs.Programs.{lasts}
+use Rattle.sp_written_laws.specs.Laws.{AreByteNames}
 use Rattle.sp_typed_laws.proofs.Grows.{has_size}
 use Rattle.std.proofs.Common.{◌≡◌, ℕ, ◌<◌, Bool, true, false, not, ◌&&◌, ◌||◌, if◌then◌else◌, length, List, [], ◌∷◌, ◌++◌, Option, Some, None, refl, ap, sym, ◌∙◌, true≢false, arith, ◌≤◌, subst}
 use Rattle.std.specs.Prelude.{slice_get, ⊤}
 use Rattle.sp_tree.specs.declared.fault.Place.{Place}
-use Rattle.sp_syntax.specs.Syntax.{Declarator, declarator, DeclaratorForm, absent, declared, group, pointer, array, function, Param, param, Params, no_params, next_param}
+use Rattle.sp_syntax.specs.Syntax.{Declarator, declarator, DeclaratorForm, absent, declared, group, pointer, array, function, Param, param, Params, no_params, next_param, MaybeExpression, no_expression, some_expression}
 use Rattle.sp_syntax.specs.Syntax as syntax
 use Rattle.sp_syntax.specs.Places.{declarator_place}
 use Rattle.sp_types.specs.Types.{CType, void, Signature, signature, Struct, result_of}
@@ -19,28 +20,28 @@ use Rattle.sp_operands.specs.Answers.{Checked, accepted, refused, and_then}
 use Rattle.sp_operands.specs.Conversions.{is_void, is_floating, is_complete, is_function}
 use Rattle.sp_rules.specs.Rules.{function_type}
 use Rattle.sp_scopes.specs.Meanings as means
-use Rattle.sp_env.specs.Env.{Env, entered, set_object}
-use Rattle.sp_type_rules.specs.Derivations.{to_pointer, to_function, made}
+use Rattle.sp_env.specs.Env.{Env, list_entered, set_object}
+use Rattle.sp_type_rules.specs.Derivations.{Derivation, to_pointer, to_array, to_function, made}
 use Rattle.sp_member_rules.specs.Parameters.{declared_name, has_parameter_storage, is_lone_void, adjusted, formal, reserved, reserved_number, named_parameter}
-use Rattle.sp_expr_check.specs.Expressions.{specifiers_checked, declared_type}
+use Rattle.sp_expr_check.specs.Expressions.{specifiers_checked, declared_type, length_checked, list_checked}
 use Rattle.sp_expr_check.specs.Parameters.{is_alone, told_types}
-use Rattle.sp_formals.specs.Formals.{Read, formal_told, formal_checked, formals_checked, Steps, no_parameters, own_list, outwards, outer_list, is_name, own_steps, form_steps, is_floating_array, Own, own_told, own_declared}
+use Rattle.sp_formals.specs.Formals.{Read, formal_told, formal_checked, formals_checked, Steps, no_parameters, own_list, outwards, outer_list, outer_length, is_name, own_steps, form_steps, is_floating_array, Own, own_told, own_declared}
 use Rattle.sp_typing.specs.Trees.{IsCalled}
 use Rattle.sp_unit_laws.proofs.Lists.{Each, each_none, each_first, each_pushed, none_some, get_below, set_there, pushed_length, pushed_last, pushed_before}
 use Rattle.sp_unit_laws.proofs.After.{Gives, gives, gives_then, gives_met, gives_given, gives_either, gives_more, anything}
 use Rattle.sp_unit_laws.proofs.Leaves.{parameters_told}
-use Rattle.sp_written_laws.specs.Written.{IsWrittenDeclarator, IsWrittenDeclaratorForm, IsWrittenParam, AreWrittenParams}
-use Rattle.sp_typed_laws.specs.Sound.{AreBytes, lasting_alone}
+use Rattle.sp_written_laws.specs.Written.{IsWrittenMaybe, IsWrittenDeclarator, IsWrittenDeclaratorForm, IsWrittenParam, AreWrittenParams}
+use Rattle.sp_typed_laws.specs.Sound.{lasting_alone}
 use Rattle.sp_typed_laws.proofs.Types.{or_left, complete_sized}
 use Rattle.sp_typed_laws.proofs.Envs.{IsFit, fit_table, IsKeptObject, Moves, Reaches, reaches_nowhere, reaches_on, table_stays}
-use Rattle.sp_typed_laws.proofs.After.{Leads, beside}
-use Rattle.sp_typed_laws.proofs.Updates.{IsWider, fit_wider, more_seen, more_wider, more_from, fit_entered, leads_declared}
+use Rattle.sp_typed_laws.proofs.After.{Leads}
+use Rattle.sp_typed_laws.proofs.Updates.{fit_entered, leads_declared}
 use Rattle.sp_typed_laws.proofs.Objects.{formal_calm, formal_starts, reaches_set}
 use Rattle.sp_typed_laws.proofs.Derived.{IsGoodStep, adjusted_good, told_sound, made_good}
 use Rattle.sp_typed_laws.proofs.Functions.{IsGoodSignature}
-use Rattle.sp_typed_laws.proofs.Leaves.{IsType, AreTypes, AreSteps, AreParameters, type_kept, types_kept, steps_kept, reaches_reserved, list_sound}
-use Rattle.sp_typed_laws.proofs.Expressions.{specifiers_good, declared_good, params_good}
-use Rattle.sp_typed_unit_laws.specs.Fits.{AreOwn}
+use Rattle.sp_typed_laws.proofs.Leaves.{IsType, AreTypes, AreSteps, type_kept, types_kept, steps_kept, reaches_reserved}
+use Rattle.sp_typed_laws.proofs.Expressions.{specifiers_good, declared_good, length_good, list_good}
+use Rattle.sp_typed_unit_laws.proofs.Fits.{AreOwn}
 use Rattle.sp_typed_unit_laws.proofs.Shows.{Shows, shown, shows_none, hence, behind, shows_taken, shows_met, shows_given, shows_either, ahead, asked}
 use Rattle.sp_typed_unit_laws.proofs.Distinct.{AreDistinct, distinct_none, distinct_pushed}
 use Rattle.sp_typed_unit_laws.proofs.Declarations.{signature_in}
@@ -180,7 +181,7 @@ module _ (own : ℕ → Bool) where
         )}
         (λ l. l (length x.formals) k (pushed_last x.formals k))))))))
 
-module _ (names : List (List ℕ)) (bytes : AreBytes names) (own : ℕ → Bool) where
+module _ (names : List (List ℕ)) (bytes : AreByteNames names) (own : ℕ → Bool) where
   formal_shows : (env : Env) (alone : Bool) (x : Read) (q : Param) → IsFit own env
       → IsWrittenParam q → IsRead x env
       → Shows own env (ReadFits own) IsRead (formal_checked names env alone x q)
@@ -296,10 +297,10 @@ module _ (names : List (List ℕ)) (bytes : AreBytes names) (own : ℕ → Bool)
 
   list_shows : (env : Env) (p : Place) (ps : Params) (dots : Bool) → IsFit own env
       → AreWrittenParams ps
-      → Shows own (entered env) StepsFit AreOwnSteps (own_list names env p ps dots)
+      → Shows own (list_entered env) StepsFit AreOwnSteps (own_list names env p ps dots)
   list_shows env p ps dots h w =
-      hence (formals_shows (entered env) (is_alone ps dots) no_parameters ps (fit_entered own env h)
-      w (each_none (λ t. IsType t env), no_formals (entered env)))
+      hence (formals_shows (list_entered env) (is_alone ps dots) no_parameters ps
+      (fit_entered own env h) w (each_none (λ t. IsType t env), no_formals (list_entered env)))
       (λ y. gives {x = (
         record {
           steps = to_function (told_types ps y.0.types) dots p ∷ [];
@@ -319,52 +320,77 @@ module _ (names : List (List ℕ)) (bytes : AreBytes names) (own : ℕ → Bool)
         ),
       )))
 
-  outer_shows : (p : Place) (ps : Params) (dots : Bool) (x : Steps × Env) → IsFit own x.1
-      → AreWrittenParams ps → AreOwnSteps x.0 x.1
-      → Shows own x.1 StepsFit AreOwnSteps (outer_list names p ps dots x)
-  outer_shows p ps dots x h w f =
-      let wide : ℕ → Bool = more_seen own (length x.1.tables.objects) in
-      let wider : IsWider own wide = more_wider own (length x.1.tables.objects) in
-      behind (beside {P = AreParameters}
-      (params_good names bytes wide (entered x.1) (is_alone ps dots) [] ps
-      (fit_entered wide x.1 (fit_wider own wide x.1 wider h)) w
-      (λ k l. more_from own (length x.1.tables.objects) k l) (each_none (λ t. IsType t x.1)))
-      (λ y k ts. list_sound own wide x.1 y.1 ps y.0 h wider k ts)) (λ l k r.
+  -- a further derivation
+  one_more : (x : Steps × Env) (later : Env) (d : Derivation) → IsFormedEnv x.1
+      → Reaches own x.1 later → AreOwnSteps x.0 x.1 → IsGoodStep later.tables.structs d
+      → AreOwnSteps (outwards x.0 d) later
+  one_more x later d f g q s = (
+    each_pushed (IsGoodStep later.tables.structs) x.0.steps d (steps_kept g x.0.steps q.0) s,
+    formals_on f g x.0.formals q.1,
+  )
+
+  outer_list_shows : (p : Place) (f : DeclaratorForm) (dots : Bool) (x : Steps × Env)
+      → IsFit own x.1 → IsWrittenDeclaratorForm f → AreOwnSteps x.0 x.1
+      → Shows own x.1 StepsFit AreOwnSteps (outer_list names p f dots x)
+  outer_list_shows p f dots x h w q =
+      behind (list_good names bytes own x.1 f h w) (λ l k r.
       shown (λ fits. (
         reaches_nowhere own l.1 k.fit,
-        (
-          each_pushed (IsGoodStep l.1.tables.structs) x.0.steps (to_function l.0 dots p)
-              (steps_kept k x.0.steps f.0) r,
-          formals_on h.formed k x.0.formals f.1,
-        ),
+        one_more x l.1 (to_function l.0 dots p) h.formed k q r,
       )))
+
+  outer_length_shows : (p : Place) (e : MaybeExpression) (x : Steps × Env) → IsFit own x.1
+      → IsWrittenMaybe e → AreOwnSteps x.0 x.1
+      → Shows own x.1 StepsFit AreOwnSteps (outer_length names p e x)
+  outer_length_shows p no_expression x h w q =
+      let r : Reaches own x.1 x.1 = reaches_nowhere own x.1 h in
+      shown (λ fits. (r, one_more x x.1 (to_array None p) h.formed r q (tt, tt)))
+  outer_length_shows p (some_expression e) x h w q =
+      behind (length_good names bytes own x.1 e h w) (λ n k l.
+      shown (λ fits. (
+        reaches_nowhere own n.1 k.fit,
+        one_more x n.1 (to_array (Some n.0) p) h.formed k q (l, tt),
+      )))
+
+  -- the formals stay
+  list_before : (p : Place) (f : DeclaratorForm) (dots : Bool) (x : Steps × Env)
+      → Gives (λ y. StepsFit y.0 → StepsFit x.0) (outer_list names p f dots x)
+  list_before p f dots x =
+      gives_then {Q = λ l. ⊤} {c = list_checked names x.1 f} anything (λ l t.
+      gives {x = (outwards x.0 (to_function l.0 dots p), l.1)} (λ q. q))
+
+  length_before : (p : Place) (e : MaybeExpression) (x : Steps × Env)
+      → Gives (λ y. StepsFit y.0 → StepsFit x.0) (outer_length names p e x)
+  length_before p no_expression x = gives {x = (outwards x.0 (to_array None p), x.1)} (λ q. q)
+  length_before p (some_expression e) x =
+      gives_then {Q = λ n. ⊤} {c = length_checked names x.1 e} anything (λ n t.
+      gives {x = (outwards x.0 (to_array (Some n.0) p), n.1)} (λ q. q))
 
   mutual
     own_steps_show : (env : Env) (at : Place) (d : Declarator) → IsFit own env
         → IsWrittenDeclarator d
-        → Shows own (entered env) StepsFit AreOwnSteps (own_steps names env at d)
+        → Shows own (list_entered env) StepsFit AreOwnSteps (own_steps names env at d)
     own_steps_show env at (declarator f p) h w = form_steps_show env at p f h w
 
     form_steps_show : (env : Env) (at p : Place) (f : DeclaratorForm) → IsFit own env
         → IsWrittenDeclaratorForm f
-        → Shows own (entered env) StepsFit AreOwnSteps (form_steps names env at p f)
+        → Shows own (list_entered env) StepsFit AreOwnSteps (form_steps names env at p f)
     form_steps_show env at p (group d) h w = own_steps_show env at d h w
     form_steps_show env at p (syntax.pointer qs d) h w =
         hence (own_steps_show env at d h w)
         (λ x. gives {x = (outwards x.0 to_pointer, x.1)} (λ l. l))
-        (λ x g q. shown (λ l. (
-          reaches_nowhere own x.1 g.fit,
-          (each_pushed (IsGoodStep x.1.tables.structs) x.0.steps to_pointer q.0 (tt, tt), q.1),
-        )))
+        (λ x g q.
+        let r : Reaches own x.1 x.1 = reaches_nowhere own x.1 g.fit in
+        shown (λ l. (r, one_more x x.1 to_pointer g.fit.formed r q (tt, tt))))
     form_steps_show env at p (syntax.function d ps dots) h w =
         shows_either {b = is_name d} (λ e. list_shows env p ps dots h w.1)
-        (λ e. hence (own_steps_show env at d h w.0)
-        (λ x. gives_then {A = types.Parameters × Env} {Q = λ l. ⊤} anything (λ l t.
-        gives {x = (outwards x.0 (to_function l.0 dots p), l.1)} (λ f. f)))
-        (λ x g q. outer_shows p ps dots x g.fit w.1 q))
+        (λ e. hence (own_steps_show env at d h w.0) (list_before p (syntax.function d ps dots) dots)
+        (λ x g q. outer_list_shows p (syntax.function d ps dots) dots x g.fit w q))
+    form_steps_show env at p (syntax.array d e) h w =
+        hence (own_steps_show env at d h w.0) (length_before p e)
+        (λ x g q. outer_length_shows p e x g.fit w.1 q)
     form_steps_show env at p absent h w = shows_none
     form_steps_show env at p (declared n) h w = shows_none
-    form_steps_show env at p (syntax.array d e) h w = shows_none
 
   -- ---- the whole declarator
 
@@ -408,7 +434,7 @@ module _ (names : List (List ℕ)) (bytes : AreBytes names) (own : ℕ → Bool)
 
   pub own_shows : (env : Env) (base : CType) (d : Declarator) → IsFit own env
       → IsWrittenDeclarator d → IsType base env
-      → Shows own (entered env) OwnFits IsOwn (own_declared names env base d)
+      → Shows own (list_entered env) OwnFits IsOwn (own_declared names env base d)
   own_shows env base d h w t =
       shows_given {o = declared_name d} _ _ (λ n e.
       hence (own_steps_show env (declarator_place d) d h w)

@@ -1,3 +1,5 @@
+pub mod Fits
+pub mod Started
 pub mod Shows
 pub mod Linkage
 pub mod Going

@@ -2,21 +2,14 @@
 use Rattle.std.proofs.Common.{◌≡◌, inl, inr, ℕ, Bool, true, false, Some, refl, ap, sym, subst, ◌∙◌}
 use Rattle.std.specs.Prelude.{slice_get}
 use Rattle.sp_types.specs.Programs.{Object, Function}
-use Rattle.sp_types.specs.declared.program.Linkage.{Linkage}
-use Rattle.sp_types.specs.declared.program.Linkage.TheVariants.{External, Internal, Inner}
 use Rattle.sp_types.specs.declared.program.Storage.TheVariants.{Formal}
 use Rattle.sp_env.specs.declared.env.Entity.{Entity}
 use Rattle.sp_env.specs.declared.env.Entity.TheVariants as entities
 use Rattle.sp_env.specs.Env.{Env, linked}
 use Rattle.sp_objects.specs.Objects.{has_linkage}
 use Rattle.sp_unit_laws.proofs.Lists.{some_is}
-use Rattle.sp_typed_laws.proofs.Named.{is_linked, AreNamed}
+use Rattle.sp_typed_laws.proofs.Named.{AreNamed}
 use Rattle.sp_typed_laws.proofs.Envs.{IsHome, IsHomeStorage}
-
-pub linkage_same : (l : Linkage) → has_linkage l ≡ is_linked l
-linkage_same External = refl
-linkage_same Internal = refl
-linkage_same Inner = refl
 
 abbrev number_of : Entity → ℕ
 number_of (entities.Object k) = k
@@ -28,8 +21,7 @@ module _ (env : Env) (named : AreNamed env) where
       → has_linkage p.linkage ≡ true → o.name ≡ p.name → i ≡ k
   objects_apart i k o p at there h g same =
       ap number_of (some_is (entities.Object i) (entities.Object k)
-      (sym (named.0 i o at (sym (linkage_same o.linkage) ∙ h)) ∙ ap (λ n. linked env n) same
-      ∙ named.0 k p there (sym (linkage_same p.linkage) ∙ g)))
+      (sym (named.0 i o at h) ∙ ap (λ n. linked env n) same ∙ named.0 k p there g))
 
   pub functions_apart : (i k : ℕ) (f g : Function) → slice_get env.tables.functions i ≡ Some f
       → slice_get env.tables.functions k ≡ Some g → f.name ≡ g.name → i ≡ k
@@ -48,5 +40,4 @@ formal_private o home formal = by (has_linkage o.linkage) refl
     by : (b : Bool) → has_linkage o.linkage ≡ b → b ≡ false
     by false e = refl
     by true e =
-        absurd (formal_away (subst (λ s. IsHomeStorage s) formal
-        (home (sym (linkage_same o.linkage) ∙ e))))
+        absurd (formal_away (subst (λ s. IsHomeStorage s) formal (home e)))

@@ -19,7 +19,7 @@ use Rattle.sp_declarations.specs.Declarations.{with_number, object_told, object_
 use Rattle.sp_statement_check.specs.Parts.{one_declaration, declarations_checked}
 use Rattle.sp_unit_laws.proofs.Lists.{pushed_before, pushed_last}
 use Rattle.sp_unit_laws.proofs.After.{Gives, gives, gives_then, gives_more, gives_given, gives_either, anything}
-use Rattle.sp_typed_unit_laws.specs.Fits.{AreOwn}
+use Rattle.sp_typed_unit_laws.proofs.Fits.{AreOwn}
 use Rattle.sp_typed_unit_laws.proofs.Parted.{each_left}
 
 module _ (names : List (List ℕ)) (own : ℕ → Bool) where

@@ -6,18 +6,18 @@ use Rattle.sp_types.specs.Types.{Struct}
 use Rattle.sp_types.specs.Programs.{Object}
 use Rattle.sp_env.specs.Env.{Env}
 use Rattle.sp_ir.specs.Terrain.{size_of}
+use Rattle.sp_objects.specs.Objects.{has_linkage}
 use Rattle.sp_typing.specs.Statements.{is_lasting}
 use Rattle.sp_unit_laws.proofs.Lists.{Each, each_none, each_appended}
 use Rattle.sp_unit_laws.proofs.Envs.{IsFormedEnv}
 use Rattle.sp_typed_laws.specs.Sound.{lasting_alone, scene_of}
-use Rattle.sp_typed_laws.proofs.Named.{is_linked}
 use Rattle.sp_typed_laws.proofs.Envs.{IsKeptObject, Moves, scene_grows}
 use Rattle.sp_typed_unit_laws.proofs.Going.{size_kept}
 
 pub record IsLocalOf (ss : List Struct) (os : List Object) (n : ℕ) : Type 0 where
   pub object : Object
   pub there : slice_get os n ≡ Some object
-  pub private : is_linked object.linkage ≡ false
+  pub private : has_linkage object.linkage ≡ false
   pub sized : is_lasting object.storage ≡ false → 1 ≤ size_of ss object.of
 
 abbrev pub IsLocalIn : Env → ℕ → Type 0
@@ -40,7 +40,7 @@ local_moved env later f g n h =
     record {
       object = x.object;
       there = x.there;
-      private = ap is_linked x.linkage ∙ h.private;
+      private = ap has_linkage x.linkage ∙ h.private;
       sized = size_kept (scene_of lasting_alone env) (scene_of lasting_alone later) f.table
           (scene_grows lasting_alone env later g f) g.objects h.object x.object
           (is_lasting h.object.storage) refl x.stored x.whole h.sized;

@@ -1,6 +1,7 @@
 -- Declarations of objects leave the environment sound, and the entry of each is declared
 -- (C90 6.1.2.2, 6.1.2.6, 6.7.2).
 use Rattle.std.proofs.Common.{◌≡◌, ◌⊎◌, inl, inr, ℕ, ◌≤◌, ◌<◌, Bool, true, false, ◌&&◌, ◌||◌, not, if◌then◌else◌, length, List, [], ◌∷◌, ◌++◌, Option, Some, None, refl, ap, sym, subst, ◌∙◌, true≢false, arith}
+use Rattle.std.proofs.lemmas.Bool.{not-true}
 use Rattle.std.specs.Prelude.{is_some, slice_get, slice_set, ⊤}
 use Rattle.sp_tree.specs.declared.fault.Place.{Place}
 use Rattle.sp_tree.specs.declared.fault.FaultKind.{FaultKind}
@@ -19,13 +20,13 @@ use Rattle.sp_types.specs.declared.program.Storage.TheVariants.{Outside, Static,
 use Rattle.sp_operands.specs.Answers.{Checked, accepted, refused, and_then, where_met, where_given}
 use Rattle.sp_scopes.specs.Meanings.{Meaning}
 use Rattle.sp_scopes.specs.Meanings as means
-use Rattle.sp_scopes.specs.Scopes.{entry, is_empty, is_file_scope}
+use Rattle.sp_scopes.specs.Scopes.{entry, is_file_scope}
 use Rattle.sp_env.specs.declared.env.Entity.{Entity}
 use Rattle.sp_env.specs.declared.env.Entity.TheVariants as entities
 use Rattle.sp_env.specs.Env.{Env, is_same_entity, declared_beside, declared, with_typing, linked, with_link, set_object, object_type}
 use Rattle.sp_names.specs.Composite.{composite}
 use Rattle.sp_names.specs.Functions.{is_same_linkage, is_retyped, retyped}
-use Rattle.sp_objects.specs.Objects.{storage_for, is_outside, new_object, object_reserved, reserved_number, object_added, is_valued, is_more_defined, joined_object, may_join, joined_at, object_joined, object_declared}
+use Rattle.sp_objects.specs.Objects.{storage_for, is_outside, new_object, object_reserved, reserved_number, object_added, is_valued, is_more_defined, joined_object, may_join, joined_at, object_joined, object_declared, has_linkage}
 use Rattle.sp_typing.specs.Refines.{Tells}
 use Rattle.sp_typing.specs.Trees.{Scene}
 use Rattle.sp_typing.specs.Statements.{IsEntered, is_lasting}
@@ -36,8 +37,8 @@ use Rattle.sp_typing.specs.Programs.{lasts}
 use Rattle.sp_typed_laws.specs.Sound.{KnowsElements, is_seen, lasting_alone, scene_of}
 use Rattle.sp_typed_laws.proofs.Types.{and_true, or_left, or_right, IsSoundTable}
 use Rattle.sp_typed_laws.proofs.Composites.{composite_sound}
-use Rattle.sp_typed_laws.proofs.Named.{is_linked, inserted_there}
-use Rattle.sp_typed_laws.proofs.Envs.{IsHomeStorage, home_lasting, IsHome, IsFit, IsKeptObject, fit_table, Moves, SeesAll, KeepsStarts, Reaches, reaches_nowhere, reaches_on, grows_of, scene_grows, seen_on, lasts_on}
+use Rattle.sp_typed_laws.proofs.Named.{inserted_there}
+use Rattle.sp_typed_laws.proofs.Envs.{IsHomeStorage, home_lasting, IsHome, IsFit, IsKeptObject, fit_table, Moves, SeesAll, KeepsStarts, Reaches, reaches_nowhere, reaches_on, grows_of, scene_grows, seen_on, lasts_on, around_alike}
 use Rattle.sp_typed_laws.proofs.Grows.{IsStill, Grows}
 use Rattle.sp_typed_laws.proofs.Starts.{HasStart, IsAside, aside_start, IsCalm, start_stays, pushed_split}
 use Rattle.sp_typed_laws.proofs.After.{After, Leads, leads_none}
@@ -92,14 +93,14 @@ module _ {own : ℕ → Bool} {env : Env} {P : Env → Type 0} where
 -- the object of the number has no linkage
 abbrev pub IsPrivate : ℕ → Env → Type 0
 IsPrivate k env =
-    (o : Object) → slice_get env.tables.objects k ≡ Some o → is_linked o.linkage ≡ false
+    (o : Object) → slice_get env.tables.objects k ≡ Some o → has_linkage o.linkage ≡ false
 
 -- it is seen, it is a new one or lasts, and without linkage it is declared and stays without
 pub record IsEntry (own : ℕ → Bool) (first : ℕ) (l : Linkage) (k : ℕ) (env : Env) : Type 0 where
   pub seen : is_seen own env.tables.objects k ≡ true
   pub where_from : (first ≤ k) ⊎ (lasts (slice_get env.tables.objects k) ≡ true)
-  pub declared : is_linked l ≡ false → IsBegun (scene_of own env) k
-  pub private : is_linked l ≡ false → IsPrivate k env
+  pub declared : has_linkage l ≡ false → IsBegun (scene_of own env) k
+  pub private : has_linkage l ≡ false → IsPrivate k env
 
 pub entry_on : (own : ℕ → Bool) (first : ℕ) (l : Linkage) (k : ℕ) (env later : Env) → IsFit own env
     → Reaches own env later → IsEntry own first l k env → IsEntry own first l k later
@@ -112,8 +113,8 @@ entry_on own first l k env later h g x = record {
       let b : IsBegun (scene_of own env) k = x.declared e in
       let y : IsKeptObject later.tables.objects k b.object =
       g.moves.objects k b.object b.there in
-      subst (λ z. is_linked z.linkage ≡ false) (some_is y.object o (sym y.there ∙ at))
-      (ap is_linked y.linkage ∙ x.private e b.object b.there);
+      subst (λ z. has_linkage z.linkage ≡ false) (some_is y.object o (sym y.there ∙ at))
+      (ap has_linkage y.linkage ∙ x.private e b.object b.there);
 }
   where
     by : (first ≤ k) ⊎ (lasts (slice_get env.tables.objects k) ≡ true)
@@ -218,7 +219,7 @@ quiet_reserved env n p o later calm j y at apart = by (calm j y at)
     by (inl h) = pushed (pushed_split env.tables.objects new y j h)
     by (inr h) = inr h.1
 
-pub storage_home : (l : Linkage) (class : Option Keyword) (valued : Bool) → is_linked l ≡ true
+pub storage_home : (l : Linkage) (class : Option Keyword) (valued : Bool) → has_linkage l ≡ true
     → IsHomeStorage (storage_for l class valued)
 storage_home Inner class valued h = absurd (true≢false (sym h))
 storage_home External (Some words.Extern) true h = inl refl
@@ -228,7 +229,7 @@ storage_home Internal (Some words.Extern) false h = inr refl
 storage_home External class valued h = inl refl
 storage_home Internal class valued h = inl refl
 
-pub storage_inside : (l : Linkage) (class : Option Keyword) (valued : Bool) → is_linked l ≡ false
+pub storage_inside : (l : Linkage) (class : Option Keyword) (valued : Bool) → has_linkage l ≡ false
     → is_outside (storage_for l class valued) ≡ false
 storage_inside External class valued h = absurd (true≢false h)
 storage_inside Internal class valued h = absurd (true≢false h)
@@ -243,8 +244,8 @@ empty_entered r Outside t = tt
 empty_entered r Text t = tt
 empty_entered r Formal t = tt
 
-mine_seen : (l : Linkage) (own-k last : Bool) → (is_linked l ≡ true → last ≡ true)
-    → (is_linked l ≡ false → own-k ≡ true) → (own-k || last) ≡ true
+mine_seen : (l : Linkage) (own-k last : Bool) → (has_linkage l ≡ true → last ≡ true)
+    → (has_linkage l ≡ false → own-k ≡ true) → (own-k || last) ≡ true
 mine_seen External own-k last h g = or_right own-k last (h refl)
 mine_seen Internal own-k last h g = or_right own-k last (h refl)
 mine_seen Inner own-k last h g = or_left own-k last (g refl)
@@ -269,7 +270,7 @@ IsOuter env l s = l ≡ External → is_outside s ≡ false → is_file_scope en
 
 -- its name is linked to it, and it lasts
 abbrev pub IsLinkedAs : ℕ → Linkage → ℕ → Env → Type 0
-IsLinkedAs n l k env = is_linked l ≡ true → (linked env n ≡ Some (entities.Object k))
+IsLinkedAs n l k env = has_linkage l ≡ true → (linked env n ≡ Some (entities.Object k))
     × (lasts (slice_get env.tables.objects k) ≡ true)
 
 -- where it has no initialiser, it may be left open (6.7.2)
@@ -282,7 +283,7 @@ IsDeclaredAs own first n l k valued env =
     IsEntry own first l k env × IsKeptEntry valued k env × IsLinkedAs n l k env
 
 module _ (own : ℕ → Bool) (env later : Env) (g : Reaches own env later) (k n : ℕ) (t : CType)
-    (l : Linkage) (p : Place) (mine : is_linked l ≡ false → own k ≡ true)
+    (l : Linkage) (p : Place) (mine : has_linkage l ≡ false → own k ≡ true)
     (f : IsObjectType t later) (partly : SeesAll own → ⊥) (held : IsHeld own env)
     (quiet : IsQuiet env later k) (knows : KnowsElements later.tables.structs t) (s : Storage)
     (declares : is_declared s ≡ true)
@@ -322,8 +323,8 @@ module _ (own : ℕ → Bool) (env later : Env) (g : Reaches own env later) (k n
   abbrev c : Env
   c = with_typing a l n t p
 
-  added_ends : (is_linked l ≡ true → linked later n ≡ Some (entities.Object k))
-      → (is_linked l ≡ true → IsHomeStorage s)
+  added_ends : (has_linkage l ≡ true → linked later n ≡ Some (entities.Object k))
+      → (has_linkage l ≡ true → IsHomeStorage s)
       → length env.tables.objects ≤ k → k < length later.tables.objects
       → Readies l s valued k (declared c n (means.object k) p)
       → Ends own env (IsDeclaredAs own (length env.tables.objects) n l k valued)
@@ -345,7 +346,7 @@ module _ (own : ℕ → Bool) (env later : Env) (g : Reaches own env later) (k n
           let tested : is_outside s ≡ false → IsTested later.tables.structs l valued t =
           (λ inside. subst (λ ss. IsTested ss l valued t) (ap (λ z. z.structs) (tables e eq))
           (ready e eq inside o (objects e eq))) in
-          let lasting : is_linked l ≡ true → is_lasting s ≡ true =
+          let lasting : has_linkage l ≡ true → is_lasting s ≡ true =
           λ h. home_lasting s (home h) in
           let shown : (own k || is_lasting s) ≡ true =
           mine_seen l (own k) (is_lasting s) lasting mine in
@@ -365,7 +366,7 @@ module _ (own : ℕ → Bool) (env later : Env) (g : Reaches own env later) (k n
               entered = empty_entered (scene_of own c) s t;
             };
             private = λ e x at.
-                subst (λ z. is_linked z.linkage ≡ false) (some_is o x (sym there ∙ at)) e;
+                subst (λ z. has_linkage z.linkage ≡ false) (some_is o x (sym there ∙ at)) e;
           } in
           record {
             at = λ x is.
@@ -397,11 +398,11 @@ met_so {d = d} k p h e = ap (λ b. where_met b k p d) h ∙ e
 
 -- a name with linkage has no entry before, and is linked to the new one
 first_ends : (own : ℕ → Bool) (env later : Env) → Reaches own env later → (k n : ℕ) (t : CType)
-    (l : Linkage) (p : Place) → (is_linked l ≡ false → own k ≡ true) → IsObjectType t later
+    (l : Linkage) (p : Place) → (has_linkage l ≡ false → own k ≡ true) → IsObjectType t later
     → (SeesAll own → ⊥) → IsHeld own env → IsQuiet env later k
     → KnowsElements later.tables.structs t → (s : Storage) → is_declared s ≡ true
     → IsOuter env l s → (valued : Bool) → (valued ≡ true → holds_values s ≡ true)
-    → IsOpening own k l s valued → (is_linked l ≡ true → IsHomeStorage s)
+    → IsOpening own k l s valued → (has_linkage l ≡ true → IsHomeStorage s)
     → length env.tables.objects ≤ k → k < length later.tables.objects
     → Readies l s valued k (object_added later k n t s l p)
     → Ends own env (IsDeclaredAs own (length env.tables.objects) n l k valued)
@@ -431,8 +432,8 @@ first_ends own env later g k n t Inner p mine f partly held quiet knows s declar
 
 -- ---- a further declaration
 
-linked_same : (a l : Linkage) → is_same_linkage a l ≡ true → is_linked l ≡ true
-    → is_linked a ≡ true
+linked_same : (a l : Linkage) → is_same_linkage a l ≡ true → has_linkage l ≡ true
+    → has_linkage a ≡ true
 linked_same External External h g = refl
 linked_same Internal Internal h g = refl
 linked_same Inner Inner h g = g
@@ -482,15 +483,11 @@ module _ (l : Linkage) (s : Storage) (valued : Bool) (k : ℕ) (t : CType) where
       outside_none waits env was was.storage
       (and_true (is_outside was.storage) (not (is_outside s)) more).0 start
 
-  not_true : (b : Bool) → not b ≡ true → b ≡ false
-  not_true true h = absurd (true≢false (sym h))
-  not_true false h = refl
-
   more_inside : (st : Storage) (v : Bool) → (v ≡ true → is_outside s ≡ false)
       → is_more_defined st s v ≡ true → is_outside s ≡ false
   more_inside st true inside more = inside refl
   more_inside st false inside more =
-      not_true (is_outside s) (and_true (is_outside st) (not (is_outside s)) more).1
+      not-true (is_outside s) (and_true (is_outside st) (not (is_outside s)) more).1
 
   module _ (own : ℕ → Bool) (env : Env) (was : Object) (p : Place) (h : IsHeld own env)
       (fits : compatible was.of t ≡ true) (at : slice_get env.tables.objects k ≡ Some was)
@@ -558,7 +555,7 @@ module _ (l : Linkage) (s : Storage) (valued : Bool) (k : ℕ) (t : CType) where
     joined_good = by_more (is_more_defined was.storage s valued) refl
 
   joins : (own : ℕ → Bool) (env : Env) (p : Place) → IsHeld own env
-      → is_linked l ≡ true → IsObjectType t env → (valued ≡ true → is_outside s ≡ false)
+      → has_linkage l ≡ true → IsObjectType t env → (valued ≡ true → is_outside s ≡ false)
       → Gives (IsJoined env) (joined_at env.tables.objects t s l valued p k)
   joins own env p h linked f inside =
       gives_given {o = slice_get env.tables.objects k} _ _ (λ o e.
@@ -582,7 +579,7 @@ ends_known {c = accepted x} h g = g x (h.at x refl) (λ e i. i)
 ends_known {c = refused k p} h g = ends_none
 
 joined_ends : (own : ℕ → Bool) (env : Env) (n : ℕ) (t : CType) (s : Storage) (l : Linkage)
-    (valued : Bool) (p : Place) (first k : ℕ) → IsHeld own env → is_linked l ≡ true
+    (valued : Bool) (p : Place) (first k : ℕ) → IsHeld own env → has_linkage l ≡ true
     → IsObjectType t env → KnowsElements env.tables.structs t → (SeesAll own → ⊥)
     → (valued ≡ true → is_outside s ≡ false) → IsOuter env l s → IsOpening own k l s valued
     → linked env n ≡ Some (entities.Object k)
@@ -674,20 +671,20 @@ joined_ends own env n t s l valued p first k h mine f knows partly inside outer 
 abbrev pub IsPlace : Env → Env → ℕ → Linkage → ℕ → Option Entity → Type 0
 IsPlace env later n l k None =
     (length env.tables.objects ≤ k) × (k < length later.tables.objects)
-IsPlace env later n l k (Some (entities.Object j)) = (j ≡ k) × (is_linked l ≡ true)
+IsPlace env later n l k (Some (entities.Object j)) = (j ≡ k) × (has_linkage l ≡ true)
     × (linked env n ≡ Some (entities.Object j))
 IsPlace env later n l k (Some (entities.Function j)) = ⊤
 
 -- what the storage of a declaration is
 pub record IsStored (env : Env) (l : Linkage) (s : Storage) (valued : Bool) : Type 0 where
-  pub home : is_linked l ≡ true → IsHomeStorage s
+  pub home : has_linkage l ≡ true → IsHomeStorage s
   pub declares : is_declared s ≡ true
   pub outer : IsOuter env l s
   pub holds : valued ≡ true → holds_values s ≡ true
 
 pub object_ends : (own : ℕ → Bool) (env later : Env) (k n : ℕ) (t : CType) (s : Storage)
     (l : Linkage) (valued : Bool) (p : Place) (o : Option Entity) → IsHeld own env
-    → Reaches own env later → IsObjectType t later → (is_linked l ≡ false → own k ≡ true)
+    → Reaches own env later → IsObjectType t later → (has_linkage l ≡ false → own k ≡ true)
     → KnowsElements later.tables.structs t
     → IsStored env l s valued → IsOpening own k l s valued → IsPlace env later n l k o
     → (SeesAll own → ⊥)
@@ -708,7 +705,7 @@ object_ends own env later k n t s l valued p (Some (entities.Object j)) h g f mi
     (joined_ends own later n t s l valued p (length env.tables.objects) j
     (held_on h g) place.1 f knows partly
     (λ v. holds_inside s (stored.holds v))
-    (λ e i. ap is_empty g.moves.around ∙ stored.outer e i) open-here
+    (λ e i. around_alike g.moves ∙ stored.outer e i) open-here
     (g.moves.links n j place.2) told)) opens ready
   where
     ends_from : {P : Env → Type 0} {c : Checked Env} → Ends own later P c → Ends own env P c

@@ -26,7 +26,8 @@ use Rattle.sp_typing.specs.Starts.{IsLeafValue, AreApart, AreLeafValues, IsWhole
 use Rattle.sp_unit_laws.proofs.Lists.{none_some, nil_all, cons_all}
 use Rattle.sp_unit_laws.proofs.After.{accepted_is, Gives, gives, gives_then, gives_met, gives_given, anything}
 use Rattle.sp_written_laws.specs.Written.{IsWritten, IsWrittenInit, AreWrittenInits}
-use Rattle.sp_typed_laws.specs.Sound.{IsSound, scene_of, AreBytes}
+use Rattle.sp_written_laws.specs.Laws.{AreByteNames}
+use Rattle.sp_typed_laws.specs.Sound.{IsSound, scene_of}
 use Rattle.sp_typed_laws.proofs.Operators.{IsGood}
 use Rattle.sp_typed_laws.proofs.Trees.{IsValued, IsOf, tree_converted}
 use Rattle.sp_typed_laws.proofs.Envs.{IsFit}
@@ -34,7 +35,7 @@ use Rattle.sp_typed_laws.proofs.After.{After, next, given, staying}
 use Rattle.sp_typed_laws.proofs.Leaves.{IsType, type_kept}
 use Rattle.sp_typed_laws.proofs.Expressions.{checked_value}
 use Rattle.sp_typed_laws.proofs.Law.{fit_of}
-use Rattle.sp_typed_unit_laws.specs.Starts.{IsStart, StartsAreTyped}
+use Rattle.sp_typed_unit_laws.proofs.Started.{IsStart, StartsAreTyped}
 use Rattle.sp_leaf_laws.proofs.Values.{gives_after}
 use Rattle.sp_leaf_laws.proofs.Values.{kept_type}
 use Rattle.sp_leaf_laws.proofs.Literals.{literal_started}
@@ -125,7 +126,7 @@ whole_leaves s (array u n) (v ∷ vs) plain h = absurd h.whole.2
 whole_leaves s (function q) [] plain h = absurd h.whole
 whole_leaves s (function q) (v ∷ vs) plain h = absurd h.whole.2
 
-module _ (names : List (List ℕ)) (bytes : AreBytes names) (own : ℕ → Bool) (env : Env)
+module _ (names : List (List ℕ)) (bytes : AreByteNames names) (own : ℕ → Bool) (env : Env)
     (w : Target) (h : IsFit own env) where
   abbrev IsOneIn : CType → List (ℕ × Typed) → Env → Type 0
   IsOneIn t vs later = IsOne (scene_of own later) t vs
@@ -230,7 +231,7 @@ started_aggregate names env w t i h =
 
 -- ---- all
 
-pub starts_typed : (names : List (List ℕ)) → AreBytes names → StartsAreTyped names
+pub starts_typed : (names : List (List ℕ)) → AreByteNames names → StartsAreTyped names
 starts_typed names bytes own env w t i s f plain sound r x e = by t i f plain sound r e
   where
     h : IsFit own env

@@ -31,7 +31,8 @@ use Rattle.sp_typing.specs.Statements.{IsCondition, IsMaybeTyped, IsMaybeConditi
 use Rattle.sp_unit_laws.proofs.Lists.{some_is, Each, each_none, each_pushed, each_behind, none_some, pushed_before, pushed_last}
 use Rattle.sp_unit_laws.proofs.After.{Gives, gives, gives_then, gives_met, gives_given, gives_more, anything}
 use Rattle.sp_written_laws.specs.Written.{IsWritten, IsWrittenMaybe, AreWrittenDeclarations}
-use Rattle.sp_typed_laws.specs.Sound.{AreBytes, scene_of}
+use Rattle.sp_written_laws.specs.Laws.{AreByteNames}
+use Rattle.sp_typed_laws.specs.Sound.{scene_of}
 use Rattle.sp_typed_laws.proofs.Operators.{IsGood}
 use Rattle.sp_typed_laws.proofs.Grows.{typed_stays}
 use Rattle.sp_typed_laws.proofs.Trees.{IsValued, IsOf, tree_converted}
@@ -42,7 +43,7 @@ use Rattle.sp_typed_laws.proofs.Leaves.{IsType, type_kept}
 use Rattle.sp_typed_laws.proofs.Expressions.{checked_value}
 use Rattle.sp_written_laws.specs.Statements.{IsWrittenStatement, IsWrittenForm, AreWrittenStatements}
 use Rattle.sp_leaf_laws.proofs.Values.{kept_type}
-use Rattle.sp_typed_unit_laws.specs.Fits.{AreOwn, IsLabel, AreLabels, Fits, setting_of}
+use Rattle.sp_typed_unit_laws.proofs.Fits.{AreOwn, IsLabel, AreLabels, Fits, setting_of}
 use Rattle.sp_typed_unit_laws.proofs.Held.{IsHeld, held_on, held_entered}
 use Rattle.sp_typed_unit_laws.proofs.Parted.{each_left, each_right}
 use Rattle.sp_typed_unit_laws.proofs.Shows.{Shows, shown, hence, parted, behind, shows_taken, shows_staying, gives_staying}
@@ -117,7 +118,8 @@ case_good k at e =
 
 -- ---- statements
 
-module _ (names : List (List ℕ)) (bytes : AreBytes names) (own : ℕ → Bool) (labels : List ℕ) where
+module _ (names : List (List ℕ)) (bytes : AreByteNames names) (own : ℕ → Bool)
+    (labels : List ℕ) where
   abbrev pub FitsForm : Place → TypedStatementForm → Type 0
   FitsForm p f = AreOwn own (form_locals f) × AreLabels labels (form_jumps p f)
 

@@ -1,9 +1,8 @@
 -- What the checks of a unit accept is typed (C90 6.7).
-use Rattle.std.proofs.Common.{◌≡◌, ◌⊎◌, inl, inr, ℕ, ◌≤◌, zero, suc, ◌+◌, ◌||◌, nat_eq, Bool, true, false, not, length, List, [], ◌∷◌, ◌++◌, Option, Some, None, is_some, refl, ap, sym, subst, ◌∙◌, true≢false, eqb-true, arith}
+use Rattle.std.proofs.Common.{◌≡◌, ◌⊎◌, inl, inr, ℕ, ◌≤◌, zero, suc, ◌+◌, ◌||◌, nat_eq, Bool, true, false, length, List, [], ◌∷◌, ◌++◌, Some, None, is_some, refl, ap, sym, subst, ◌∙◌, true≢false, eqb-true, arith}
+use Rattle.std.proofs.lemmas.Bool.{not-false}
 use Rattle.std.specs.Prelude.{slice_get}
 use Rattle.std.specs.List.{list_any}
-use Rattle.sp_tree.specs.declared.fault.Place.{Place}
-use Rattle.sp_tree.specs.declared.fault.FaultKind.{FaultKind}
 use Rattle.sp_syntax.specs.Syntax.{Specifiers, Declarator, Statement, External, definition, external_declaration, semicolon}
 use Rattle.sp_types.specs.Structs.{IsFormed, IsFormedSignature}
 use Rattle.sp_types.specs.Types.{CType, void, integer, floating, pointer, array, structure, function, Struct, result_of}
@@ -12,10 +11,9 @@ use Rattle.sp_types.specs.declared.program.Storage.{Storage}
 use Rattle.sp_types.specs.declared.program.Storage.TheVariants.{Static, Outside, Text, Auto, Formal}
 use Rattle.sp_types.specs.Statements.{TypedStatement}
 use Rattle.sp_operands.specs.Answers.{Checked}
-use Rattle.sp_scopes.specs.Scopes.{is_empty, is_file_scope}
+use Rattle.sp_scopes.specs.Scopes.{is_file_scope}
 use Rattle.sp_env.specs.declared.env.Entity.TheVariants as entities
-use Rattle.sp_env.specs.Env.{Env, linked, entered, left, set_function, unit_start}
-use Rattle.sp_labels.specs.Repeats.{where_none}
+use Rattle.sp_env.specs.Env.{Env, linked, list_entered, left, set_function, unit_start}
 use Rattle.sp_mentions.specs.Undefined.{undefined_function}
 use Rattle.sp_statement_rules.specs.Blocks.{locals_in}
 use Rattle.sp_statement_check.specs.Statements.{body_checked}
@@ -32,11 +30,12 @@ use Rattle.sp_unit_laws.proofs.Envs.{IsFormedEnv, AreBelow}
 use Rattle.sp_unit_laws.proofs.Objects.{AreNumbers, Has, has_later, numbers_below}
 use Rattle.sp_unit_laws.proofs.Updates.{goes_function_set}
 use Rattle.sp_unit_laws.proofs.Statements.{body_formed}
-use Rattle.sp_unit_laws.proofs.After.{Gives, gives, gives_none, gives_then, gives_more}
-use Rattle.sp_typed_laws.specs.Sound.{AreBytes, IsSoundSignature, scene_of, lasting_alone}
+use Rattle.sp_unit_laws.proofs.After.{Gives, gives, gives_then, gives_more}
+use Rattle.sp_written_laws.specs.Laws.{AreByteNames}
+use Rattle.sp_typed_laws.specs.Sound.{IsSoundSignature, scene_of, lasting_alone}
 use Rattle.sp_typed_laws.proofs.Types.{number_equals, or_left, or_right, complete_sized}
 use Rattle.sp_typed_laws.proofs.Grows.{Grows, called_stays}
-use Rattle.sp_typed_laws.proofs.Envs.{IsFit, fit_table, Follows, IsKeptFunction, KeepObjects, kept_there, Moves, SeesAll, Reaches, reaches_on, scene_grows}
+use Rattle.sp_typed_laws.proofs.Envs.{IsFit, fit_table, around_alike, Follows, IsKeptFunction, KeepObjects, kept_there, Moves, SeesAll, Reaches, reaches_on, scene_grows}
 use Rattle.sp_typed_laws.proofs.Starts.{IsWaiting, HasStart, HaveStarts, start_stays, starts_more, static_stays}
 use Rattle.sp_typed_laws.proofs.Named.{AreNamed}
 use Rattle.sp_typed_laws.proofs.Objects.{set_split}
@@ -45,11 +44,11 @@ use Rattle.sp_typed_laws.proofs.Law.{fit_of, start_sound}
 use Rattle.sp_typed_laws.proofs.Leaves.{IsType}
 use Rattle.sp_written_laws.specs.Statements.{IsWrittenStatement, IsWrittenExternal, AreWrittenExternals}
 use Rattle.sp_written_laws.specs.Written.{AreWrittenSpecifiers, IsWrittenDeclarator}
-use Rattle.sp_typed_unit_laws.specs.Fits.{AreOwn, setting_of}
+use Rattle.sp_typed_unit_laws.proofs.Fits.{AreOwn, setting_of}
 use Rattle.sp_typed_unit_laws.specs.Units.{scene_in, IsUnmeasured, HasUnitStart, IsTypedFunction, IsTypedUnit, UnitsAreTyped}
 use Rattle.sp_leaf_laws.proofs.Values.{gives_both}
 use Rattle.sp_typed_unit_laws.proofs.Held.{IsHeld}
-use Rattle.sp_typed_unit_laws.proofs.Linkage.{linkage_same, objects_apart, functions_apart, formal_private}
+use Rattle.sp_typed_unit_laws.proofs.Linkage.{objects_apart, functions_apart, formal_private}
 use Rattle.sp_typed_unit_laws.proofs.Locals.{AreLocals, locals_moved}
 use Rattle.sp_typed_unit_laws.proofs.Going.{statement_stays}
 use Rattle.sp_typed_unit_laws.proofs.Distinct.{AreDistinct, distinct_none, distinct_pushed}
@@ -58,7 +57,7 @@ use Rattle.sp_typing.specs.Programs.{AreOwners}
 use Rattle.sp_typed_unit_laws.proofs.Owners.{AreThere, ListBelow, owners_none, owners_on, listed_before, listed_below, owners_pushed}
 use Rattle.sp_typed_unit_laws.proofs.Formals.{AreFormals, formals_on, formals_moved}
 use Rattle.sp_typed_unit_laws.proofs.Heads.{IsHead, head_good}
-use Rattle.sp_typed_unit_laws.proofs.Bodies.{IsBody, body_typed}
+use Rattle.sp_typed_unit_laws.proofs.Bodies.{where_none_met, IsBody, body_typed}
 use Rattle.sp_leaf_laws.proofs.Complete.{member_less}
 use Rattle.sp_typed_unit_laws.proofs.Files.{IsFiled, file_typed}
 use Rattle.sp_typed_unit_laws.proofs.Tentative.{external_after, names_after, waits_in, waits_on, IsClosedName, names_closed, waiting_closed}
@@ -239,7 +238,7 @@ unit_moved : (ts us ns : List ℕ) (env later : Env) → IsUnitEnv ts ns env →
 unit_moved ts us ns env later u fit g starts = record {
   held = record { fit = fit; homes = g.homes u.held.homes };
   starts = starts;
-  file = ap is_empty g.around ∙ u.file;
+  file = around_alike g ∙ u.file;
   named = g.names.0 u.named;
   bodied = λ k f at body. let y = g.names.1 k f at body in u.bodied k y.0 y.1 y.2;
   distinct = u.distinct;
@@ -370,7 +369,7 @@ gives_all : {A X : Type 0} {P : X → A → Type 0} {c : Checked A} → ((x : X)
     → Gives (λ a. (x : X) → P x a) c
 gives_all h = record { at = λ a e x. (h x).at a e }
 
-module _ (names : List (List ℕ)) (bytes : AreBytes names) where
+module _ (names : List (List ℕ)) (bytes : AreByteNames names) where
   -- what is known of a body in an environment, whatever the function's own objects are
   abbrev IsBodyBy : Env → CType → (ℕ → Bool) → TypedStatement × Env → Type 0
   IsBodyBy env t own b = IsHeld own env → (SeesAll own → ⊥) → IsType t env
@@ -406,12 +405,12 @@ module _ (names : List (List ℕ)) (bytes : AreBytes names) where
       } in
       let bd : IsBody own first (result_of h.own.of) s later =
       bodies own held (among_partly (h.own.formals ++ locals_in s)) hd.type
-      (ap is_empty hd.to_later.moves.around)
+      (around_alike hd.to_later.moves)
       (among_right h.own.formals (locals_in s)) in
       let out : Reaches lasting_alone hd.file (left later) =
       reaches_left lasting_alone own hd.file later hd.to_file.fit
       (λ all. absurd (true≢false (sym (all 0))))
-      (reaches_on own (entered hd.file) first later hd.to_later bd.0) in
+      (reaches_on own (list_entered hd.file) first later hd.to_later bd.0) in
       let to-out : Reaches lasting_alone env (left later) =
       reaches_on lasting_alone env hd.file (left later) hd.to_file out in
       let before : IsUnitEnv ts ns (left later) = unit_on ts ns env (left later) u to-out in
@@ -536,7 +535,7 @@ module _ (env : Env) (ts ns : List ℕ) (u : IsUnitEnv ts ns env)
         record {
           object = y.object;
           there = y.there;
-          private = linkage_same y.object.linkage ∙ y.private;
+          private = y.private;
           sized = y.sized;
         };
     bodied = ap is_some d.is;
@@ -562,10 +561,6 @@ module _ (env : Env) (ts ns : List ℕ) (u : IsUnitEnv ts ns env)
     };
   }
 
-  twice : (b : Bool) → not b ≡ false → b ≡ true
-  twice true h = refl
-  twice false h = absurd (true≢false h)
-
   abbrev alone : Scene
   alone = scene_in (checked_unit env.tables ns) []
 
@@ -583,7 +578,7 @@ module _ (env : Env) (ts ns : List ℕ) (u : IsUnitEnv ts ns env)
       )
   closed_start k o at none f (structure j) is h =
       let whole : is_complete env.tables.structs (structure j) ≡ true =
-      twice (is_complete env.tables.structs (structure j))
+      not-false (is_complete env.tables.structs (structure j))
       (subst (λ z. is_open_struct env.tables.structs z ≡ false) is
       (waiting_closed env ts k o closed h at)) in
       inl (complete_start alone (fit_table lasting_alone env u.held.fit) o none f
@@ -618,7 +613,7 @@ module _ (env : Env) (ts ns : List ℕ) (u : IsUnitEnv ts ns env)
       formed = (u.held.fit.formed.objects n o at).0;
       plain = (u.held.fit.formed.objects n o at).1;
       sound = u.held.fit.objects n o at;
-      home = λ e. u.held.homes n o at (sym (linkage_same o.linkage) ∙ e);
+      home = u.held.homes n o at;
       start = unit_start_of n o o.storage at (u.held.fit.formed.objects n o at).0 (u.starts n o at);
     };
     functions = λ n g at.
@@ -631,17 +626,12 @@ module _ (env : Env) (ts ns : List ℕ) (u : IsUnitEnv ts ns env)
     owners = u.owners;
   }
 
-none_bad : {A : Type 0} (P : A → Type 0) (o : Option Place) (k : FaultKind) (c : Checked A)
-    → (o ≡ None → Gives P c) → Gives P (where_none o k c)
-none_bad P None k c h = h refl
-none_bad P (Some p) k c h = gives_none
-
 told_typed : (env : Env) (ns : List ℕ) (us : List External)
     → IsUnitEnv (names_after [] us) ns env → Gives IsTypedUnit (unit_told env ns us)
 told_typed env ns us u =
-    none_bad IsTypedUnit (open_tentative env us) _ _ (λ whole.
-    none_bad IsTypedUnit (undefined_function env.tables.objects env.tables.functions) _ _ (λ e.
-    gives {x = checked_unit env.tables ns} (typed_unit env (names_after [] us) ns u
+    where_none_met IsTypedUnit (open_tentative env us) _ _ (λ whole.
+    where_none_met IsTypedUnit (undefined_function env.tables.objects env.tables.functions) _ _
+    (λ e. gives {x = checked_unit env.tables ns} (typed_unit env (names_after [] us) ns u
     (names_closed env [] us (each_none (IsClosedName env)) whole))))
 
 start_unit : IsUnitEnv [] [] unit_start

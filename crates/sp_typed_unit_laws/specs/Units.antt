@@ -17,7 +17,8 @@ use Rattle.sp_typing.specs.Trees.{Scene, IsCalled}
 use Rattle.sp_typing.specs.Starts.{IsStaticStart}
 use Rattle.sp_typing.specs.Statements.{is_lasting, IsTypedBody}
 use Rattle.sp_typing.specs.Programs.{sees, AreOwners}
-use Rattle.sp_typed_laws.specs.Sound.{AreBytes, IsSound, IsSoundSignature, KnowsElements}
+use Rattle.sp_written_laws.specs.Laws.{AreByteNames}
+use Rattle.sp_typed_laws.specs.Sound.{IsSound, IsSoundSignature, KnowsElements}
 use Rattle.sp_written_laws.specs.Statements.{AreWrittenExternals}
 
 -- a function sees the objects of static storage, and its own
@@ -102,4 +103,5 @@ pub record IsTypedUnit (x : CheckedUnit) : Type 0 where
 -- each unit that the checks accept
 abbrev pub UnitsAreTyped : Type 0
 UnitsAreTyped = (names : List (List ℕ)) (us : List External) (x : CheckedUnit)
-    → AreBytes names → AreWrittenExternals us → unit_checked names us ≡ accepted x → IsTypedUnit x
+    → AreByteNames names → AreWrittenExternals us → unit_checked names us ≡ accepted x
+    → IsTypedUnit x

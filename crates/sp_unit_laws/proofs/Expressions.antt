@@ -1,6 +1,6 @@
 -- The environment behind expressions, type names, specifiers and declarators is formed, and so are
 -- the types that they give (C90 6.3, 6.5.2, 6.5.4, 6.5.5).
-use Rattle.std.proofs.Common.{◌≡◌, ℕ, ℤ, pos, Bool, false, ◌&&◌, List, [], ◌∷◌, ◌++◌, Some, None, refl, sym, ◌∙◌}
+use Rattle.std.proofs.Common.{◌≡◌, ℕ, ◌≤◌, ℤ, pos, Bool, false, ◌&&◌, List, [], ◌∷◌, ◌++◌, Some, None, refl, sym, ◌∙◌}
 use Rattle.sp_tree.specs.declared.fault.Place.{Place}
 use Rattle.sp_syntax.specs.Syntax.{Expression, expression, ExpressionForm, Expressions, no_expressions, next_expression, MaybeExpression, no_expression, some_expression, Specifier, storage, qualifier, basic, named, struct_specifier, enum_specifier, Specifiers, no_specifiers, next_specifier, StructSpec, struct_spec, no_members, some_members, Members, EnumSpec, enum_spec, Constants, no_constants, some_constants, Enumerators, no_enumerators, next_enumerator, Declaration, declaration, Declarations, no_declarations, next_declaration, InitDeclarator, init_declarator, InitDeclarators, no_items, next_item, Declarator, declarator, DeclaratorForm, absent, declared, group, Param, param, Params, no_params, next_param, TypeName, type_name}
 use Rattle.sp_syntax.specs.Syntax as syntax
@@ -10,20 +10,20 @@ use Rattle.sp_types.specs.Structs.{IsFormed}
 use Rattle.sp_types.specs.Typed.{of}
 use Rattle.sp_rules.specs.Rules.{behind, takes_object, not_floating, called_signature, told}
 use Rattle.sp_operands.specs.Conversions.{is_function}
-use Rattle.sp_env.specs.Env.{Env, entered}
+use Rattle.sp_env.specs.Env.{Env, list_entered}
 use Rattle.sp_declarations.specs.Words.{names_function, form_names_function}
 use Rattle.sp_type_rules.specs.Derivations.{Derivation, to_pointer, to_array, to_function}
 use Rattle.sp_member_rules.specs.Parameters.{declared_name, is_lone_void, reserved, reserved_number}
 use Rattle.sp_expr_check.specs.Parameters.{is_alone}
-use Rattle.sp_expr_check.specs.Expressions.{checked, value_checked, form_checked, arguments_checked, type_name_checked, specifiers_checked, specifier_checked, struct_checked, members_checked, declaration_members, items_checked, item_checked, enum_checked, constants_checked, constant_checked, declared_type, steps_checked, derivations_checked, params_checked, param_checked}
+use Rattle.sp_expr_check.specs.Expressions.{checked, value_checked, form_checked, arguments_checked, type_name_checked, specifiers_checked, specifier_checked, struct_checked, members_checked, declaration_members, items_checked, item_checked, enum_checked, constants_checked, constant_checked, declared_type, steps_checked, derivations_checked, params_checked, param_checked, list_checked, length_checked}
 use Rattle.sp_expr_check.specs.Specifiers.{names_type}
 use Rattle.sp_unit_laws.proofs.Lists.{Each, each_none, each_pushed}
 use Rattle.sp_unit_laws.proofs.Derived.{IsFormedStep, step_longer, ends_in_function, ends_behind, is_to_function, type_made}
 use Rattle.sp_unit_laws.proofs.Envs.{IsFormedEnv, Goes, goes_nowhere, goes_on}
 use Rattle.sp_unit_laws.proofs.After.{Any, gives_more, anything, After, done, carried, onto, next, lead, taken, met, either, staying, after_more}
-use Rattle.sp_unit_laws.proofs.Updates.{goes_constant, goes_entered}
+use Rattle.sp_unit_laws.proofs.Updates.{goes_constant, goes_list_entered}
 use Rattle.sp_unit_laws.proofs.Braces.{IsType, struct_named, enum_named, struct_begun, struct_done}
-use Rattle.sp_unit_laws.proofs.Leaves.{AreMembers, AreTypes, type_kept, members_kept, types_kept, size_formed, text_formed, call_formed, words_formed, named_formed, member_formed, tag_formed, enumerator_formed, told_formed, length_formed, list_formed, reserved_formed, parameter_formed}
+use Rattle.sp_unit_laws.proofs.Leaves.{AreMembers, AreTypes, type_kept, members_kept, types_kept, AreParameters, size_formed, text_formed, call_formed, words_formed, named_formed, member_formed, tag_formed, enumerator_formed, told_formed, length_formed, list_formed, reserved_formed, parameter_formed}
 
 -- the type of a declarator's name is formed, and is a function where the declarator says so
 abbrev pub IsDeclared : CType → Declarator → CType → Env → Type 0
@@ -163,7 +163,7 @@ module _ (names : List (List ℕ)) where
         done (goes_nowhere n.1 k.formed) (more_steps x.1 n.1 k d (syntax.array d (some_expression e)) x.0 (to_array (Some n.0) p) q l (λ whole. refl))))
     derivations_formed env p (syntax.function d ps dots) h =
         next (steps_formed env d h) (λ x g q.
-        next (carried (goes_entered x.1 g.formed) (next (params_formed (entered x.1) (is_alone ps dots) [] ps (goes_entered x.1 g.formed).formed (each_none (λ t. IsFormed x.1.tables.structs t))) (λ y k ts.
+        next (carried (goes_list_entered x.1 g.formed) (next (params_formed (list_entered x.1) (is_alone ps dots) [] ps (goes_list_entered x.1 g.formed).formed (each_none (λ t. IsFormed x.1.tables.structs t))) (λ y k ts.
         list_formed ps y.0 y.1 k.formed ts))) (λ l k r.
         done (goes_nowhere l.1 k.formed) (more_steps x.1 l.1 k d (syntax.function d ps dots) x.0 (to_function l.0 dots p) q r (λ whole. refl))))
 
@@ -180,3 +180,19 @@ module _ (names : List (List ℕ)) where
         (λ more. next (declared_formed x.1 x.0 d g.formed t) (λ y k u.
         parameter_formed y.1 (reserved_number env (declared_name d)) ts y.0 d k.formed
         (types_kept env y.1 (goes_on env (reserved env (declared_name d)) y.1 (reserved_formed env (declared_name d) h) (goes_on (reserved env (declared_name d)) x.1 y.1 g k)) ts f) u.0)))))
+
+  -- ---- the parts of a declarator's derivations
+
+  pub list_checked_formed : (env : Env) (f : DeclaratorForm) → IsFormedEnv env → After env AreParameters (list_checked names env f)
+  list_checked_formed env (syntax.function d ps dots) h =
+      let g : Goes env (list_entered env) = goes_list_entered env h in
+      carried g (next (params_formed (list_entered env) (is_alone ps dots) [] ps g.formed (each_none (λ t. IsFormed env.tables.structs t))) (λ y k ts.
+      list_formed ps y.0 y.1 k.formed ts))
+  list_checked_formed env absent h = done (goes_nowhere env h) tt
+  list_checked_formed env (declared n) h = done (goes_nowhere env h) tt
+  list_checked_formed env (group d) h = done (goes_nowhere env h) tt
+  list_checked_formed env (syntax.pointer qs d) h = done (goes_nowhere env h) tt
+  list_checked_formed env (syntax.array d e) h = done (goes_nowhere env h) tt
+
+  pub length_checked_formed : (env : Env) (e : Expression) → IsFormedEnv env → After env (λ n later. 1 ≤ n) (length_checked names env e)
+  length_checked_formed env e h = next (value_formed env e h) (λ y k r. length_formed (place_of e) y.0 y.1 k.formed)

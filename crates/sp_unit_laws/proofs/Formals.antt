@@ -2,25 +2,25 @@
 -- formals (C90 6.7.1).
 use Rattle.std.proofs.Common.{◌≡◌, ℕ, Bool, false, not, ◌&&◌, ◌||◌, List, [], Option, Some, None, arith}
 use Rattle.sp_tree.specs.declared.fault.Place.{Place}
-use Rattle.sp_syntax.specs.Syntax.{Declarator, declarator, DeclaratorForm, absent, declared, group, pointer, array, function, Param, param, Params, no_params, next_param}
+use Rattle.sp_syntax.specs.Syntax.{Declarator, declarator, DeclaratorForm, absent, declared, group, pointer, array, function, Param, param, Params, no_params, next_param, MaybeExpression, no_expression, some_expression}
 use Rattle.sp_syntax.specs.Places.{declarator_place}
 use Rattle.sp_types.specs.Types.{CType, void, result_of}
 use Rattle.sp_types.specs.Structs.{IsFormed, IsFormedSignature}
 use Rattle.sp_operands.specs.Conversions.{is_void, is_floating, is_complete, is_function}
 use Rattle.sp_rules.specs.Rules.{function_type}
-use Rattle.sp_env.specs.Env.{Env, entered}
-use Rattle.sp_type_rules.specs.Derivations.{to_pointer, to_function}
+use Rattle.sp_env.specs.Env.{Env, list_entered}
+use Rattle.sp_type_rules.specs.Derivations.{Derivation, to_pointer, to_array, to_function}
 use Rattle.sp_member_rules.specs.Parameters.{declared_name, is_lone_void, adjusted, formal, reserved, reserved_number}
 use Rattle.sp_expr_check.specs.Parameters.{is_alone, told_types}
-use Rattle.sp_formals.specs.Formals.{Read, formal_told, formal_checked, formals_checked, Steps, no_parameters, own_list, outer_list, is_name, own_steps, form_steps, is_floating_array, Own, own_told, own_declared}
+use Rattle.sp_formals.specs.Formals.{Read, formal_told, formal_checked, formals_checked, Steps, no_parameters, outwards, own_list, outer_list, outer_length, is_name, own_steps, form_steps, is_floating_array, Own, own_told, own_declared}
 use Rattle.sp_unit_laws.proofs.Lists.{none_some, Each, each_none, each_pushed, each_first, pushed_length}
 use Rattle.sp_unit_laws.proofs.Derived.{IsFormedStep, adjusted_formed, type_made}
 use Rattle.sp_unit_laws.proofs.Envs.{IsFormedEnv, Goes, goes_nowhere, goes_on}
 use Rattle.sp_unit_laws.proofs.After.{Gives, gives, gives_met, gives_given, After, done, after_none, carried, next, lead, taken, met, given, either}
-use Rattle.sp_unit_laws.proofs.Updates.{goes_entered}
+use Rattle.sp_unit_laws.proofs.Updates.{goes_list_entered}
 use Rattle.sp_unit_laws.proofs.Braces.{IsType}
-use Rattle.sp_unit_laws.proofs.Leaves.{AreTypes, type_kept, types_kept, parameters_told, list_formed, reserved_formed, parameter_leads}
-use Rattle.sp_unit_laws.proofs.Expressions.{specifiers_formed, declared_formed, params_formed, steps_kept}
+use Rattle.sp_unit_laws.proofs.Leaves.{AreTypes, type_kept, types_kept, parameters_told, reserved_formed, parameter_leads}
+use Rattle.sp_unit_laws.proofs.Expressions.{specifiers_formed, declared_formed, list_checked_formed, length_checked_formed, steps_kept}
 use Rattle.sp_unit_laws.proofs.Objects.{IsNumber, AreNumbers, Has, has_later, numbers_kept}
 use Rattle.sp_unit_laws.proofs.Declarations.{signature_in}
 
@@ -80,21 +80,26 @@ module _ (names : List (List ℕ)) (from : ℕ) where
 
   own_list_formed : (env : Env) (p : Place) (ps : Params) (dots : Bool) → IsFormedEnv env → Has from env → After env AreOwnSteps (own_list names env p ps dots)
   own_list_formed env p ps dots h has =
-      let g : Goes env (entered env) = goes_entered env h in
-      carried g (next (formals_formed (entered env) (is_alone ps dots) no_parameters ps g.formed has (each_none (λ t. IsFormed env.tables.structs t), each_none (IsNumber from env))) (λ y k r.
+      let g : Goes env (list_entered env) = goes_list_entered env h in
+      carried g (next (formals_formed (list_entered env) (is_alone ps dots) no_parameters ps g.formed has (each_none (λ t. IsFormed env.tables.structs t), each_none (IsNumber from env))) (λ y k r.
       done (goes_nowhere y.1 k.formed) (
         each_first (IsFormedStep y.1.tables.structs) (to_function (told_types ps y.0.types) dots p) [] (parameters_told y.1.tables.structs ps y.0.types r.0) (each_none (IsFormedStep y.1.tables.structs)),
         r.1,
       )))
 
-  outer_formed : (p : Place) (ps : Params) (dots : Bool) (x : Steps × Env) → IsFormedEnv x.1 → AreOwnSteps x.0 x.1 → After x.1 AreOwnSteps (outer_list names p ps dots x)
-  outer_formed p ps dots x h f =
-      next (carried (goes_entered x.1 h) (next (params_formed names (entered x.1) (is_alone ps dots) [] ps (goes_entered x.1 h).formed (each_none (λ t. IsFormed x.1.tables.structs t))) (λ y k ts.
-      list_formed ps y.0 y.1 k.formed ts))) (λ l k r.
-      done (goes_nowhere l.1 k.formed) (
-        each_pushed (IsFormedStep l.1.tables.structs) x.0.steps (to_function l.0 dots p) (steps_kept x.1 l.1 k x.0.steps f.0) r,
-        numbers_kept from x.1 l.1 k x.0.formals f.1,
-      ))
+  -- a further derivation
+  one_more : (x : Steps × Env) (later : Env) (d : Derivation) → Goes x.1 later → AreOwnSteps x.0 x.1 → IsFormedStep later.tables.structs d → AreOwnSteps (outwards x.0 d) later
+  one_more x later d g f s =
+      (each_pushed (IsFormedStep later.tables.structs) x.0.steps d (steps_kept x.1 later g x.0.steps f.0) s, numbers_kept from x.1 later g x.0.formals f.1)
+
+  outer_list_formed : (p : Place) (f : DeclaratorForm) (dots : Bool) (x : Steps × Env) → IsFormedEnv x.1 → AreOwnSteps x.0 x.1 → After x.1 AreOwnSteps (outer_list names p f dots x)
+  outer_list_formed p f dots x h q =
+      next (list_checked_formed names x.1 f h) (λ l k r. done (goes_nowhere l.1 k.formed) (one_more x l.1 (to_function l.0 dots p) k q r))
+
+  outer_length_formed : (p : Place) (e : MaybeExpression) (x : Steps × Env) → IsFormedEnv x.1 → AreOwnSteps x.0 x.1 → After x.1 AreOwnSteps (outer_length names p e x)
+  outer_length_formed p no_expression x h q = done (goes_nowhere x.1 h) (one_more x x.1 (to_array None p) (goes_nowhere x.1 h) q tt)
+  outer_length_formed p (some_expression e) x h q =
+      next (length_checked_formed names x.1 e h) (λ n k l. done (goes_nowhere n.1 k.formed) (one_more x n.1 (to_array (Some n.0) p) k q l))
 
   mutual
     own_steps_formed : (env : Env) (at : Place) (d : Declarator) → IsFormedEnv env → Has from env → After env AreOwnSteps (own_steps names env at d)
@@ -103,12 +108,13 @@ module _ (names : List (List ℕ)) (from : ℕ) where
     form_steps_formed : (env : Env) (at p : Place) (f : DeclaratorForm) → IsFormedEnv env → Has from env → After env AreOwnSteps (form_steps names env at p f)
     form_steps_formed env at p (group d) h has = own_steps_formed env at d h has
     form_steps_formed env at p (pointer qs d) h has =
-        next (own_steps_formed env at d h has) (λ x g q. done (goes_nowhere x.1 g.formed) (each_pushed (IsFormedStep x.1.tables.structs) x.0.steps to_pointer q.0 tt, q.1))
+        next (own_steps_formed env at d h has) (λ x g q. done (goes_nowhere x.1 g.formed) (one_more x x.1 to_pointer (goes_nowhere x.1 g.formed) q tt))
     form_steps_formed env at p (function d ps dots) h has =
-        either {b = is_name d} (λ e. own_list_formed env p ps dots h has) (λ e. next (own_steps_formed env at d h has) (λ x g q. outer_formed p ps dots x g.formed q))
+        either {b = is_name d} (λ e. own_list_formed env p ps dots h has)
+        (λ e. next (own_steps_formed env at d h has) (λ x g q. outer_list_formed p (function d ps dots) dots x g.formed q))
+    form_steps_formed env at p (array d e) h has = next (own_steps_formed env at d h has) (λ x g q. outer_length_formed p e x g.formed q)
     form_steps_formed env at p absent h has = after_none
     form_steps_formed env at p (declared n) h has = after_none
-    form_steps_formed env at p (array d e) h has = after_none
 
   -- ---- the whole declarator
 

@@ -16,7 +16,7 @@ use Rattle.sp_unit_laws.proofs.Lists.{none_some, some_is, each_none}
 use Rattle.sp_unit_laws.proofs.Composites.{signature_composed}
 use Rattle.sp_unit_laws.proofs.Envs.{IsFormedEnv, Goes, goes_nowhere, goes_on}
 use Rattle.sp_unit_laws.proofs.After.{Any, Gives, gives, gives_met, gives_given, After, done, after_none, carried, lead, taken, Leads, leads, leads_after, leads_either}
-use Rattle.sp_unit_laws.proofs.Updates.{goes_linked, goes_typing, goes_typings, typings_more, goes_function, goes_function_typed, leads_declared}
+use Rattle.sp_unit_laws.proofs.Updates.{goes_linked, goes_typing, goes_typings, typings_more, goes_function, goes_function_typed, leads_declared_in_block}
 
 -- ---- the types of external names
 
@@ -58,13 +58,13 @@ function_leads : (env : Env) (n : ℕ) (l : Linkage) (s : Signature) (p : Place)
     → After env Any (function_at env n l s p o)
 function_leads env n l s p None h f =
     let g : Goes env (with_typing (with_link (with_function env (undefined_function n l s p)) n (entities.Function (length env.tables.functions))) l n (function s) p) = goes_added env n l s p h f in
-    carried g (lead (leads_declared (with_typing (with_link (with_function env (undefined_function n l s p)) n (entities.Function (length env.tables.functions))) l n (function s) p) g.formed n (means.function (length env.tables.functions)) p tt)
+    carried g (lead (leads_declared_in_block (with_typing (with_link (with_function env (undefined_function n l s p)) n (entities.Function (length env.tables.functions))) l n (function s) p) g.formed n (means.function (length env.tables.functions)) p tt)
     (λ e k. done (goes_nowhere e k.formed) tt))
 function_leads env n l s p (Some (entities.Function k)) h f =
     taken (type_joined env l s p k h f) (λ t j.
     let g : Goes env (with_function_type (retyped env (is_retyped (as_function (function_type (slice_get env.tables.functions k))) (function t)) l n (function t) p) k t) =
     goes_joined env (is_retyped (as_function (function_type (slice_get env.tables.functions k))) (function t)) l n t p k h j in
-    carried g (lead (leads_declared (with_function_type (retyped env (is_retyped (as_function (function_type (slice_get env.tables.functions k))) (function t)) l n (function t) p) k t) g.formed n (means.function k) p tt)
+    carried g (lead (leads_declared_in_block (with_function_type (retyped env (is_retyped (as_function (function_type (slice_get env.tables.functions k))) (function t)) l n (function t) p) k t) g.formed n (means.function k) p tt)
     (λ e k. done (goes_nowhere e k.formed) tt)))
 function_leads env n l s p (Some (entities.Object k)) h f = after_none
 

@@ -2,7 +2,7 @@
 use Rattle.std.proofs.Common.{ℕ, ◌≤◌, ℤ, Bool, true, false, length, List, [], ◌∷◌, ◌++◌, Option, Some, None, if◌then◌else◌, refl, arith}
 use Rattle.std.specs.Prelude.{slice_set}
 use Rattle.sp_tree.specs.declared.fault.Place.{Place}
-use Rattle.sp_types.specs.Types.{CType, Signature}
+use Rattle.sp_types.specs.Types.{CType, Signature, Struct}
 use Rattle.sp_types.specs.Structs.{IsFormed, IsFormedSignature}
 use Rattle.sp_types.specs.Programs.{Object, Function}
 use Rattle.sp_types.specs.declared.program.Linkage.{Linkage}
@@ -11,11 +11,13 @@ use Rattle.sp_tree.specs.declared.fault.FaultKind.TheVariants.{F9}
 use Rattle.sp_operands.specs.Answers.{accepted, refused}
 use Rattle.sp_scopes.specs.declared.meaning.Tag.{Tag}
 use Rattle.sp_scopes.specs.Meanings.{Meaning}
-use Rattle.sp_scopes.specs.Scopes.{Scope, Scopes, entry}
+use Rattle.sp_scopes.specs.declared.scope.ScopeKind.{ScopeKind}
+use Rattle.sp_scopes.specs.declared.scope.ScopeKind.TheVariants.{Block, Parameters}
+use Rattle.sp_scopes.specs.Scopes.{Scope, Scopes, entry, is_block, name_added, named_in_block, meaning_in_block}
 use Rattle.sp_scopes.specs.Scopes as scopes
 use Rattle.sp_units.specs.Units.{Typing}
 use Rattle.sp_env.specs.declared.env.Entity.{Entity}
-use Rattle.sp_env.specs.Env.{Env, unit_start, entered, left, with_tag, is_same_entity, declared_beside, declared, with_link, with_object, set_object, with_function, set_function, typed_by, with_function_type, with_constant, with_typings, typings_with, with_typing}
+use Rattle.sp_env.specs.Env.{Env, unit_start, entered, list_entered, as_block, left, with_tag, is_same_entity, declared_beside, declared, declared_in_block_beside, declared_in_block, with_link, with_object, set_object, with_function, set_function, typed_by, with_function_type, with_constant, with_typings, typings_with, with_typing}
 use Rattle.sp_unit_laws.proofs.Lists.{Each, each_none, each_first, each_behind, each_pushed, each_set, each_changed, each_inserted, pushed_length, set_length}
 use Rattle.sp_unit_laws.proofs.Envs.{IsMeant, AreMeant, IsFormedObject, IsFormedFunction, below_more, IsFormedEnv, Goes, goes_nowhere}
 use Rattle.sp_unit_laws.proofs.After.{Leads, leads, leads_none}
@@ -30,11 +32,22 @@ start_formed = record {
   around = λ k s at. absurd (cc);
 }
 
+-- a name more in the innermost block of these
+named_around : (ss : List Struct) (around : List Scope) (n : ℕ) (m : Meaning) → Each (λ s. AreMeant ss s.names) around → IsMeant ss m
+    → Each (λ s. AreMeant ss s.names) (named_in_block around n m)
+named_around ss [] n m h p = h
+named_around ss (s ∷ around) n m h p = by (is_block s.kind) (named_around ss around n m (each_behind (λ s. AreMeant ss s.names) s around h) p)
+  where
+    by : (b : Bool) → Each (λ s. AreMeant ss s.names) (named_in_block around n m) → Each (λ s. AreMeant ss s.names) (if b then name_added s n m ∷ around else s ∷ named_in_block around n m)
+    by true rest =
+        each_first (λ s. AreMeant ss s.names) (name_added s n m) around (each_inserted (IsMeant ss) s.names n m (h 0 s refl) p) (each_behind (λ s. AreMeant ss s.names) s around h)
+    by false rest = each_first (λ s. AreMeant ss s.names) s (named_in_block around n m) (h 0 s refl) rest
+
 module _ (env : Env) (h : IsFormedEnv env) where
   -- ---- scopes
 
-  pub goes_entered : Goes env (entered env)
-  goes_entered = record {
+  pub goes_inside : (k : ScopeKind) → Goes env (record env { scopes = scopes.entered k env.scopes })
+  goes_inside k = record {
     formed = record {
       table = h.table;
       objects = h.objects;
@@ -43,6 +56,18 @@ module _ (env : Env) (h : IsFormedEnv env) where
       inner = each_none (λ n. IsMeant env.tables.structs n.1);
       around = each_first (λ s. AreMeant env.tables.structs s.names) env.scopes.inner env.scopes.around h.inner h.around;
     };
+    keeps = (goes_nowhere env h).keeps;
+  }
+
+  pub goes_entered : Goes env (entered env)
+  goes_entered = goes_inside Block
+
+  pub goes_list_entered : Goes env (list_entered env)
+  goes_list_entered = goes_inside Parameters
+
+  pub goes_as_block : Goes env (as_block env)
+  goes_as_block = record {
+    formed = record { table = h.table; objects = h.objects; functions = h.functions; typings = h.typings; inner = h.inner; around = h.around };
     keeps = (goes_nowhere env h).keeps;
   }
 
@@ -91,6 +116,38 @@ module _ (env : Env) (h : IsFormedEnv env) where
 
       by : (o : Option Meaning) → Leads env (declared_beside env n m p o)
       by None = leads (goes_named n m meant)
+      by (Some old) = same (is_same_entity old m)
+
+  goes_named_around : (n : ℕ) (m : Meaning) → IsMeant env.tables.structs m
+      → Goes env (record env { scopes = record env.scopes { around = named_in_block env.scopes.around n m } })
+  goes_named_around n m p = record {
+    formed = record {
+      table = h.table;
+      objects = h.objects;
+      functions = h.functions;
+      typings = h.typings;
+      inner = h.inner;
+      around = named_around env.tables.structs env.scopes.around n m h.around p;
+    };
+    keeps = (goes_nowhere env h).keeps;
+  }
+
+  goes_named_in_block : (n : ℕ) (m : Meaning) → IsMeant env.tables.structs m → Goes env (record env { scopes = scopes.with_block_name env.scopes n m })
+  goes_named_in_block n m p = by (is_block env.scopes.inner.kind)
+    where
+      by : (b : Bool) → Goes env (record env { scopes = if b then scopes.with_name env.scopes n m else record env.scopes { around = named_in_block env.scopes.around n m } })
+      by true = goes_named n m p
+      by false = goes_named_around n m p
+
+  pub leads_declared_in_block : (n : ℕ) (m : Meaning) (p : Place) → IsMeant env.tables.structs m → Leads env (declared_in_block env n m p)
+  leads_declared_in_block n m p meant = by (meaning_in_block env.scopes n)
+    where
+      same : (b : Bool) → Leads env (if b then accepted env else refused F9 p)
+      same true = leads (goes_nowhere env h)
+      same false = leads_none
+
+      by : (o : Option Meaning) → Leads env (declared_in_block_beside env n m p o)
+      by None = leads (goes_named_in_block n m meant)
       by (Some old) = same (is_same_entity old m)
 
   -- ---- tables

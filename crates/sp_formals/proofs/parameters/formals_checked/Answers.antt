@@ -1,9 +1,8 @@
-use Rattle.std.proofs.Common.{◌≡◌, [], List, ℕ, map, drop, suc, refl, sym, ap, ◌∙◌, add-one}
-use Rattle.std.specs.Prelude.{Err, Vec}
-use Rattle.std.specs.declared.alloc.Global.{Global}
+use Rattle.std.proofs.Common.{◌≡◌, map, drop, suc, sym, ap, ◌∙◌, add-one}
+use Rattle.std.specs.Prelude.{Err}
 use Rattle.std.proofs.lemmas.Result.{err_from_is_err_and}
 use Rattle.sp_syntax.specs.View.{param_of, params}
-use Rattle.sp_operands.specs.Answers.{accepted, and_then, AnswersIn}
+use Rattle.sp_operands.specs.Answers.{and_then, AnswersIn}
 use Rattle.sp_env.specs.Views.{env_of}
 use Rattle.sp_formals.proofs.Lists.{first_param, no_param_left, taken_in, ended_by, list_failed}
 use Rattle.sp_formals.specs.Formals.{Read, formals_checked, formal_checked, no_parameters}
