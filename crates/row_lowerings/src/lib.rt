@@ -7,16 +7,11 @@ ghost use Rattle.sp_ir.specs.Programs as ir;
 ghost use Rattle.sp_ir.specs.Formed.{IsFormed};
 ghost use Rattle.sp_front.specs.Sources.{source_of, AreWithin};
 
-use sp_front::{FrontError, Source, lowering_of};
+use sp_front::{FrontError, MAX_FILES, MAX_TEXT, Source, lowering_of};
 use sp_ir::Lowered;
 use sp_operands::CheckError;
 use sp_tree::Names;
 use std::alloc::{AllocError, Global};
-
-/// The most files, and the most bytes of all of them.
-const MAX_FILES: usize = 64;
-
-const MAX_TEXT: usize = 16_777_216;
 
 fn file_name(number: usize) -> &'static [u8] {
     if number == 0 {

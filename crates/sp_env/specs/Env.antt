@@ -11,7 +11,7 @@ use Rattle.sp_operands.specs.Answers.{Checked, accepted, refused}
 use Rattle.sp_scopes.specs.declared.meaning.Tag.{Tag}
 use Rattle.sp_scopes.specs.declared.scope.ScopeKind.TheVariants.{Block, Parameters}
 use Rattle.sp_scopes.specs.Meanings.{Meaning, object, function}
-use Rattle.sp_scopes.specs.Scopes.{Scopes, file_scope, entry}
+use Rattle.sp_scopes.specs.Scopes.{Scope, Scopes, file_scope, entry}
 use Rattle.sp_scopes.specs.Scopes as scopes
 use Rattle.sp_units.specs.Units.{Typing}
 use Rattle.sp_env.specs.declared.env.Entity.{Entity}
@@ -44,36 +44,37 @@ entered env = record env { scopes = scopes.entered Block env.scopes }
 abbrev pub list_entered : Env → Env
 list_entered env = record env { scopes = scopes.entered Parameters env.scopes }
 
--- the list of a definition is in the block that is its body (6.1.2.1)
-abbrev pub as_block : Env → Env
-as_block env = record env { scopes = scopes.as_block env.scopes }
-
 abbrev pub left : Env → Env
 left env = record env { scopes = scopes.left env.scopes }
+
+-- the scope of a list is set aside, and inside the others again as a block's: the parameters of a
+-- definition are in the block that is its body (6.1.2.1)
+abbrev pub set_aside : Env → Env
+set_aside env = record env { scopes = scopes.set_aside env.scopes }
+
+abbrev pub resumed : Scope → Env → Env
+resumed s env = record env { scopes = scopes.resumed s env.scopes }
 
 abbrev pub with_tag : Env → ℕ → Tag → Env
 with_tag env n t = record env { scopes = scopes.with_tag env.scopes n t }
 
--- 6.1.2.1, 6.5: a scope declares a name once, but for one object or one function
+-- 6.1.2.1, 6.5: a scope declares a name once, but for one object or one function; `named` are the
+-- scopes with the name in it
 abbrev pub is_same_entity : Meaning → Meaning → Bool
 is_same_entity (object j) (object k) = j == k
 is_same_entity (function j) (function k) = j == k
 is_same_entity _ _ = false
 
-abbrev pub declared_beside : Env → ℕ → Meaning → Place → Option Meaning → Checked Env
-declared_beside env n m p None = accepted (record env { scopes = scopes.with_name env.scopes n m })
-declared_beside env n m p (Some old) = if is_same_entity old m then accepted env else refused F9 p
+abbrev pub declared_beside : Env → Scopes → Meaning → Place → Option Meaning → Checked Env
+declared_beside env named m p None = accepted (record env { scopes = named })
+declared_beside env named m p (Some old) = if is_same_entity old m then accepted env else refused F9 p
 
 abbrev pub declared : Env → ℕ → Meaning → Place → Checked Env
-declared env n m p = declared_beside env n m p (entry env.scopes.inner.names n)
+declared env n m p = declared_beside env (scopes.with_name env.scopes n m) m p (entry env.scopes.inner.names n)
 
 -- the same in the innermost block, or the file: a list of parameters is no block
-abbrev pub declared_in_block_beside : Env → ℕ → Meaning → Place → Option Meaning → Checked Env
-declared_in_block_beside env n m p None = accepted (record env { scopes = scopes.with_block_name env.scopes n m })
-declared_in_block_beside env n m p (Some old) = if is_same_entity old m then accepted env else refused F9 p
-
 abbrev pub declared_in_block : Env → ℕ → Meaning → Place → Checked Env
-declared_in_block env n m p = declared_in_block_beside env n m p (scopes.meaning_in_block env.scopes n)
+declared_in_block env n m p = declared_beside env (scopes.with_block_name env.scopes n m) m p (scopes.meaning_in_block env.scopes n)
 
 -- ---- names with linkage (6.1.2.2)
 

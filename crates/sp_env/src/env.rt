@@ -17,12 +17,14 @@ ghost use Rattle.sp_types.specs.Programs.{object_of, function_of};
 ghost use Rattle.sp_types.specs.View.{type_of, signature_of, struct_of};
 ghost use Rattle.sp_scopes.specs.Meanings.{meaning_of};
 ghost use Rattle.sp_scopes.specs.Scopes.{entry, visible_meaning, visible_tag, is_file_scope};
+ghost use Rattle.sp_scopes.specs.Views.{scope_of};
 ghost use Rattle.sp_env.specs.Env.{
   unit_start,
   entered,
   list_entered,
-  as_block,
   left,
+  set_aside,
+  resumed,
   declared,
   declared_in_block,
   is_same_entity,
@@ -52,7 +54,7 @@ ghost use Rattle.sp_env.specs.Declaring.{LeadsTo};
 use crate::UnitTables;
 use indexmap::IndexMap;
 use sp_operands::{CheckError, fault};
-use sp_scopes::{Meaning, ScopeKind, Scopes, Tag};
+use sp_scopes::{Meaning, Scope, ScopeKind, Scopes, Tag};
 use sp_tree::{FaultKind, Place};
 use sp_types::{CType, FunctionDef, Linkage, ObjectDef, Signature, StructType};
 use sp_units::Typing;
@@ -143,19 +145,30 @@ impl Env {
         self.scopes.enter(alloc, ScopeKind::Parameters)
     }
 
-    /// Makes the innermost scope a block's: the parameters of a definition are in the block that is
-    /// its body (C90 6.1.2.1).
-    pub fn make_block(&mut self)
-        ensures { env_of self.new ≡ as_block (env_of self.old) }
-    {
-        self.scopes.make_block();
-    }
-
     /// Closes the innermost scope. That of the file stays.
     pub fn leave(&mut self)
         ensures { env_of self.new ≡ left (env_of self.old) }
     {
         self.scopes.leave();
+    }
+
+    /// Takes the innermost scope from the others, and answers it. In the place of the file's comes
+    /// an empty one.
+    pub fn set_aside(&mut self, alloc: Global) -> Scope
+        ensures scope { scope_of result ≡ (env_of self.old).scopes.inner }
+        ensures others { env_of self.new ≡ set_aside (env_of self.old) }
+    {
+        self.scopes.set_aside(alloc)
+    }
+
+    /// Opens a scope that was set aside inside the others, as a block's: the parameters of a
+    /// definition are in the block that is its body (C90 6.1.2.1).
+    pub fn resume(&mut self, scope: Scope) -> Result<(), AllocError>
+        ensures ok { OnOk result (env_of self.new ≡
+            resumed (scope_of scope) (env_of self.old)) }
+        ensures err { OnErr result (env_of self.new ≡ env_of self.old) }
+    {
+        self.scopes.resume(scope)
     }
 
     /// Whether the innermost scope is that of the file.

@@ -5,10 +5,10 @@
 //! ([`sp_env`]) and gives the typed tree of its value, in which every conversion of C90 is written
 //! out. It walks the tree from left to right. Strings, constants and functions that are declared by
 //! their call go to the tables on the way. [`check_specifiers`] and [`check_declarator`] give the
-//! types that specifiers and declarators name, [`check_length`] and [`check_list`] those of the parts
-//! of a declarator. Each form of tree has one rule, which stands below
-//! (`sp_rules`, `sp_unary_rules`, `sp_names`, `sp_type_rules`, `sp_member_rules`, `sp_expr_steps`):
-//! here are the calls that walk.
+//! types that specifiers and declarators name; of the parts of a declarator [`check_length`] gives
+//! the length of an array, and [`check_list`] the types of a function's parameters. Each form of tree
+//! has one rule, which stands below (`sp_rules`, `sp_unary_rules`, `sp_names`, `sp_type_rules`,
+//! `sp_member_rules`, `sp_expr_steps`): here are the calls that walk.
 //!
 //! So for `char *p` the expression `*p + 1` is, without places, `binary + (convert (unary * p) int)
 //! 1` of type `int`; on `p + q`, with two pointers, it is the fault F14 at `p`.

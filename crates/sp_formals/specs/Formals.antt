@@ -10,7 +10,8 @@ use Rattle.sp_types.specs.Types as types
 use Rattle.sp_operands.specs.Answers.{Checked, accepted, refused, and_then, where_met, where_given}
 use Rattle.sp_operands.specs.Conversions.{is_void, is_floating, is_complete}
 use Rattle.sp_rules.specs.Rules.{function_type}
-use Rattle.sp_env.specs.Env.{Env, list_entered}
+use Rattle.sp_scopes.specs.Scopes.{Scope}
+use Rattle.sp_env.specs.Env.{Env, list_entered, set_aside}
 use Rattle.sp_type_rules.specs.Derivations.{Derivation, to_pointer, to_array, to_function, made}
 use Rattle.sp_member_rules.specs.Parameters.{declared_name, has_parameter_storage, is_lone_void, adjusted, reserved, reserved_number, named_parameter}
 use Rattle.sp_expr_check.specs.Expressions.{specifiers_checked, declared_type, length_checked, list_checked}
@@ -43,19 +44,22 @@ abbrev pub formals_checked : List (List ℕ) → Env → Bool → Read → Param
 formals_checked names env alone x no_params = accepted (x, env)
 formals_checked names env alone x (next_param q qs) = and_then (formal_checked names env alone x q) (λ y. formals_checked names y.1 alone y.0 qs)
 
--- what the parts of the declarator derive, from the name outwards, and the numbers of the formals
+-- what the parts of the declarator derive, from the name outwards, the numbers of the formals, and
+-- their scope
 pub record Steps : Type 0 where
   pub steps : List Derivation
   pub formals : List ℕ
+  pub scope : Scope
 
 abbrev pub no_parameters : Read
 no_parameters = record { types = []; formals = [] }
 
--- the list next to the name; the scope of the formals stays open (6.1.2.1: it ends with the body)
+-- the list next to the name; the scope of the formals is set aside behind it, until the body comes
+-- (6.1.2.1: it ends with the body), so that the rest of the declarator stands in the file's scope
 abbrev pub own_list : List (List ℕ) → Env → Place → Params → Bool → Checked (Steps × Env)
 own_list names env p ps dots =
     and_then (formals_checked names (list_entered env) (is_alone ps dots) no_parameters ps) (λ y.
-    accepted (record { steps = to_function (told_types ps y.0.types) dots p ∷ []; formals = y.0.formals }, y.1))
+    accepted (record { steps = to_function (told_types ps y.0.types) dots p ∷ []; formals = y.0.formals; scope = y.1.scopes.inner }, set_aside y.1))
 
 abbrev pub outwards : Steps → Derivation → Steps
 outwards x d = record x { steps = x.steps ++ d ∷ [] }
@@ -114,12 +118,11 @@ own_told ss at n ks t =
     (where_met (is_void (result_of s) || is_complete ss (result_of s)) F13 at
     (accepted (record { name = n.0; place = n.1; of = s; formals = ks }))))
 
--- the declarator of a definition, whose specifiers name the base; the environment behind it has the
--- scope of the formals open
-abbrev pub own_declared : List (List ℕ) → Env → CType → Declarator → Checked (Own × Env)
+-- the declarator of a definition, whose specifiers name the base, with the scope of the formals
+abbrev pub own_declared : List (List ℕ) → Env → CType → Declarator → Checked ((Own × Scope) × Env)
 own_declared names env base d =
     where_given (declared_name d) F14 (declarator_place d) (λ n.
     and_then (own_steps names env (declarator_place d) d) (λ x.
     and_then (made x.1.tables.structs (declarator_place d) x.0.steps base) (λ t.
     and_then (own_told x.1.tables.structs (declarator_place d) n x.0.formals t) (λ o.
-    accepted (o, x.1)))))
+    accepted ((o, x.0.scope), x.1)))))

@@ -5,21 +5,22 @@ ghost use Rattle.sp_types.specs.View.{type_of, signature_of, struct_of};
 ghost use Rattle.sp_operands.specs.Answers.{Answers, AnswersIn};
 ghost use Rattle.sp_env.specs.Views.{env_of};
 ghost use Rattle.sp_rules.specs.Rules.{function_type};
-ghost use Rattle.sp_formals.specs.FormalsView.{own_of};
+ghost use Rattle.sp_formals.specs.FormalsView.{own_of, own_in_scope};
 ghost use Rattle.sp_formals.specs.Formals.{is_floating_array, own_told, own_declared};
 
 use crate::steps::own_steps;
 use sp_env::Env;
 use sp_member_rules::declared_name;
 use sp_operands::{CheckError, fault, is_complete, is_void};
+use sp_scopes::Scope;
 use sp_syntax::Declarator;
 use sp_tree::{FaultKind, Names, Place};
 use sp_type_rules::made;
 use sp_types::{CType, Signature, StructType};
 use std::alloc::Global;
 
-/// What the declarator of a definition declares: its name, with its place, the type of the function,
-/// and the numbers of its formals, in their order.
+/// What the declarator of a definition declares: its name, with its place, the type of the
+/// function, and the numbers of its formals, in their order.
 #[derive(Drop)]
 pub struct Own {
     pub name: u32,
@@ -77,11 +78,11 @@ fn own_told(
     })
 }
 
-/// The declarator of a definition, where the base is the type that its specifiers name. F14 stands at
-/// the declarator where it is no function's, and at a formal's where that has no name; U1 at the name
-/// of a function or a formal of floating type; F13 at the declarator of an incomplete one.
+/// The declarator of a definition, where the base is the type that its specifiers name. F14 stands
+/// at the declarator where it is no function's, and at a formal's where that has no name; U1 at the
+/// name of a function or a formal of floating type; F13 at the declarator of an incomplete one.
 ///
-/// The scope of the formals is open behind it.
+/// With it comes the scope of the formals, which the body resumes.
 #[tactic(auto, using(crate::proofs::Places::places))]
 pub fn check_own_declarator(
     alloc: Global,
@@ -89,8 +90,8 @@ pub fn check_own_declarator(
     base: CType,
     declarator: &Declarator,
     names: &Names,
-) -> Result<Own, CheckError>
-    ensures { AnswersIn own_of
+) -> Result<(Own, Scope), CheckError>
+    ensures { AnswersIn own_in_scope
         (own_declared names.now (env_of env.old) (type_of base) (declarator_of declarator.now))
         (env_of env.new) result }
 {
@@ -98,7 +99,8 @@ pub fn check_own_declarator(
     let Some(name) = declared_name(declarator) else {
         return fault(FaultKind::F14, at);
     };
-    let own = own_steps(alloc, declarator, env, names, at)?;
-    let of = made(alloc, env.structs(), at, own.steps, base)?;
-    own_told(env.structs(), at, name, own.formals, of)
+    let all = own_steps(alloc, declarator, env, names, at)?;
+    let of = made(alloc, env.structs(), at, all.steps, base)?;
+    let own = own_told(env.structs(), at, name, all.formals, of)?;
+    Ok((own, all.scope))
 }

@@ -27,9 +27,9 @@ pub(crate) struct Read {
     pub formals: Vec<u32>,
 }
 
-/// Puts a parameter of a definition behind the others, and declares it: F14 stands at its declarator
-/// where it has no name, U1 at its name where it is floating, F13 at its declarator where its type
-/// isn't complete.
+/// Puts a parameter of a definition behind the others, and declares it: F14 stands at its
+/// declarator where it has no name, U1 at its name where it is floating, F13 at its declarator
+/// where its type isn't complete.
 #[tactic(auto, using(crate::proofs::Places::places))]
 fn formal_told(
     alloc: Global,

@@ -20,19 +20,22 @@ use crate::parameters::{formals_checked, is_alone, told_types};
 use sp_env::Env;
 use sp_expr_check::{check_length, check_list};
 use sp_operands::{CheckError, fault};
+use sp_scopes::Scope;
 use sp_syntax::{Declarator, DeclaratorForm, Expr, Param};
 use sp_tree::{FaultKind, Names, Place};
 use sp_type_rules::Derivation;
 use std::alloc::Global;
 
-/// What the parts of a declarator derive, from the name outwards, and the numbers of the formals.
+/// What the parts of a declarator derive, from the name outwards, the numbers of the formals, and
+/// their scope.
 #[derive(Drop)]
 pub(crate) struct Steps {
     pub steps: Vec<Derivation>,
     pub formals: Vec<u32>,
+    pub scope: Scope,
 }
 
-/// The list next to the name of a function, whose scope stays open.
+/// The list next to the name of a function, whose scope is set aside behind it.
 fn own_list(
     alloc: Global,
     env: &mut Env,
@@ -54,6 +57,7 @@ fn own_list(
     Ok(Steps {
         steps,
         formals: read.formals,
+        scope: env.set_aside(alloc),
     })
 }
 

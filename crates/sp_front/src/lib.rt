@@ -24,4 +24,4 @@ mod sources;
 
 pub use front::FrontError;
 pub use program::{lowered_of, lowering_of};
-pub use sources::Source;
+pub use sources::{MAX_FILES, MAX_TEXT, Source};

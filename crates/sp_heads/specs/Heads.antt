@@ -7,11 +7,10 @@ use Rattle.sp_tree.specs.declared.token.Keyword.TheVariants as words
 use Rattle.sp_syntax.specs.Places.{declarator_place}
 use Rattle.sp_syntax.specs.Syntax.{Specifiers, Declarator}
 use Rattle.sp_types.specs.Programs.{Function}
-use Rattle.sp_types.specs.declared.program.Linkage.{Linkage}
-use Rattle.sp_operands.specs.Answers.{Checked, accepted, and_then, where_met, where_given}
-use Rattle.sp_env.specs.Env.{Env, as_block}
+use Rattle.sp_operands.specs.Answers.{Checked, accepted, and_then, where_met}
+use Rattle.sp_scopes.specs.Scopes.{Scope}
+use Rattle.sp_env.specs.Env.{Env, resumed}
 use Rattle.sp_names.specs.Functions.{function_declared}
-use Rattle.sp_member_rules.specs.Parameters.{declared_name}
 use Rattle.sp_expr_check.specs.Expressions.{specifiers_checked}
 use Rattle.sp_declarations.specs.Words.{storage_class}
 use Rattle.sp_declarations.specs.Declarations.{function_linkage}
@@ -33,20 +32,17 @@ pub record Head : Type 0 where
   pub number : ℕ
   pub own : Own
 
--- 6.1.2.1, 6.7.1: the name of the function belongs to the file, whose scope is around that of its
--- formals. It has the type of its declarator, and isn't defined yet. Its formals are in the block
--- that is its body
-abbrev pub own_defined : Env → Linkage → Own → Checked (Head × Env)
-own_defined env l o =
-    and_then (function_declared env o.name l o.of o.place) (λ x.
-    where_met (not (has_body (slice_get x.1.tables.functions x.0))) F9 o.place
-    (accepted (record { number = x.0; own = o }, as_block x.1)))
+-- 6.1.2.1, 6.7.1: the name of the function is declared in the file's scope behind its declarator. It
+-- has the type of its declarator, and isn't defined yet. Its formals are in the block that is its body
+abbrev pub own_defined : Env → Option Keyword → Own × Scope → Checked (Head × Env)
+own_defined env class o =
+    and_then (function_declared env o.0.name (function_linkage env o.0.name class) o.0.of o.0.place) (λ x.
+    where_met (not (has_body (slice_get x.1.tables.functions x.0))) F9 o.0.place
+    (accepted (record { number = x.0; own = o.0 }, resumed o.1 x.1)))
 
--- its linkage is told by what its name stands for before its list
 abbrev pub head_checked : List (List ℕ) → Env → Specifiers → Declarator → Checked (Head × Env)
 head_checked names env ss d =
     where_met (may_define (storage_class ss)) F14 (declarator_place d)
     (and_then (specifiers_checked names env false (declarator_place d) ss) (λ x.
-    where_given (declared_name d) F14 (declarator_place d) (λ n.
     and_then (own_declared names x.1 x.0 d) (λ o.
-    own_defined o.1 (function_linkage x.1 n.0 (storage_class ss)) o.0))))
+    own_defined o.1 (storage_class ss) o.0)))

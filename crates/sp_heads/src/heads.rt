@@ -4,7 +4,7 @@ ghost use Rattle.sp_syntax.specs.View.{declarator_of, specifiers_of};
 ghost use Rattle.sp_operands.specs.Answers.{AnswersIn};
 ghost use Rattle.sp_env.specs.Views.{env_of};
 ghost use Rattle.sp_declarations.specs.Declarations.{function_linkage};
-ghost use Rattle.sp_formals.specs.FormalsView.{own_of};
+ghost use Rattle.sp_formals.specs.FormalsView.{own_in_scope};
 ghost use Rattle.sp_heads.specs.HeadView.{head_of};
 ghost use Rattle.sp_heads.specs.Heads as rules;
 
@@ -12,9 +12,9 @@ use sp_declarations::storage_class;
 use sp_env::Env;
 use sp_expr_check::check_specifiers;
 use sp_formals::{Own, check_own_declarator};
-use sp_member_rules::declared_name;
 use sp_names::{extern_linkage, function_declared};
 use sp_operands::{CheckError, fault};
+use sp_scopes::Scope;
 use sp_syntax::{Declarator, Specifier};
 use sp_tree::{FaultKind, Keyword, Names};
 use sp_types::Linkage;
@@ -60,24 +60,31 @@ fn has_body(env: &Env, number: u32) -> bool
     }
 }
 
-/// Declares the function of a declarator in the scope of the file, which is around that of its
-/// formals; these are in the block that is its body from here on. F9 stands at its name where it is
-/// declared otherwise, or defined already.
-fn own_defined(alloc: Global, env: &mut Env, linkage: Linkage, own: Own) -> Result<Head, CheckError>
+/// Declares the function of a declarator in the scope of the file, inside which its formals are in
+/// the block that is its body. F9 stands at its name where it is declared otherwise, or defined
+/// already.
+fn own_defined(
+    alloc: Global,
+    env: &mut Env,
+    class: Option<Keyword>,
+    declared: (Own, Scope),
+) -> Result<Head, CheckError>
     ensures { AnswersIn head_of
-        (rules.own_defined (env_of env.old) linkage (own_of own)) (env_of env.new) result }
+        (rules.own_defined (env_of env.old) class (own_in_scope declared)) (env_of env.new) result }
 {
+    let (own, scope) = declared;
+    let linkage = function_linkage(env, own.name, class);
     let of = own.of.copy(alloc)?;
     let number = function_declared(alloc, env, own.name, linkage, of, own.place)?;
     if has_body(env, number) {
         return fault(FaultKind::F9, own.place);
     }
-    env.make_block();
+    env.resume(scope)?;
     Ok(Head { number, own })
 }
 
-/// Declares a function that is defined, in the scope of the file, and its parameters, in a scope
-/// that stays open for its body (C90 6.7.1).
+/// Declares a function that is defined, in the scope of the file. The scope of its parameters is
+/// open inside it for the body (C90 6.7.1).
 ///
 /// F14 stands at a declarator that names no function by a list of its own, and where a parameter
 /// has no name; U1 and F13 at a parameter or a result of floating or incomplete type; F9 at a name
@@ -101,10 +108,6 @@ pub fn check_head(
         return fault(FaultKind::F14, declarator.place);
     }
     let base = check_specifiers(alloc, env, specifiers, false, declarator.place, names)?;
-    let Some((name, _)) = declared_name(declarator) else {
-        return fault(FaultKind::F14, declarator.place);
-    };
-    let linkage = function_linkage(env, name, class);
     let own = check_own_declarator(alloc, env, base, declarator, names)?;
-    own_defined(alloc, env, linkage, own)
+    own_defined(alloc, env, class, own)
 }

@@ -1,5 +1,6 @@
 -- The functions of a linked program are well typed (C90 6.6, 6.7.1).
 use Rattle.std.proofs.Common.{◌≡◌, ℕ, zero, suc, Bool, true, false, ◌&&◌, ◌||◌, not, nat_eq, List, [], ◌∷◌, ◌++◌, Option, Some, None, refl, ap, sym, subst, ◌∙◌, true≢false, arith}
+use Rattle.std.proofs.lemmas.Bool.{false_from_ne_true}
 use Rattle.std.specs.List.{list_any}
 use Rattle.std.specs.Prelude.{◌≤◌, slice_get, option_map}
 use Rattle.sp_types.specs.declared.program.Storage.{Storage}
@@ -63,10 +64,6 @@ lasting_entered s Static t o h = tt
 lasting_entered s Outside t o h = tt
 lasting_entered s Text t o h = tt
 lasting_entered s Formal t o h = tt
-
-not_lasting : (b : Bool) → (b ≡ true → ⊥) → b ≡ false
-not_lasting true h = absurd (h refl)
-not_lasting false h = refl
 
 module _ (xs : List CheckedUnit) (m : Matching) (main : ℕ) (h : AreTypedUnits xs m) (follow : LinkedStructsFollow) (are_there : StructsAreThere)
     (objects : LinkedObjectsStand) (functions : LinkedFunctionsStand) (entries : LinkedEntriesAreTold)
@@ -234,7 +231,7 @@ module _ (xs : List CheckedUnit) (m : Matching) (main : ℕ) (h : AreTypedUnits 
           where
             private : (n : ℕ) (f : units.IsFormal x n) → is_external f.object.linkage ≡ false
             private n f =
-                not_lasting (is_external f.object.linkage)
+                false_from_ne_true (is_external f.object.linkage)
                 (λ e. true≢false (sym (external_lasts x (h.typed u x at) n f.object f.there e) ∙ ap is_lasting f.storage))
 
             formal_not_dropped : (i n : ℕ) (o : Object) → slice_get g.formals i ≡ Some n

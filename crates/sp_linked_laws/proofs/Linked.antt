@@ -1,5 +1,6 @@
 -- What units name is in their program.
 use Rattle.std.proofs.Common.{◌≡◌, ℕ, zero, suc, ◌<◌, Bool, true, false, not, ◌&&◌, ◌||◌, length, map, nat_eq, List, [], ◌∷◌, ◌++◌, Some, None, ◌⊎◌, inl, inr, refl, ap, sym, subst, ◌∙◌, true≢false, eqb-true, eq-eqb, arith}
+use Rattle.std.proofs.lemmas.List.{map-append}
 use Rattle.std.specs.Prelude.{slice_get, slice_index_or}
 use Rattle.std.specs.List.{list_any}
 use Rattle.sp_types.specs.declared.program.Storage.{Storage}
@@ -29,6 +30,7 @@ use Rattle.sp_renamed_laws.specs.Follows.{lacks_layout, IsObjectIn, StructsFollo
 use Rattle.sp_renamed_laws.proofs.Types.{repeated_small}
 use Rattle.sp_follow_laws.specs.Laws.{LinkedStructsFollow}
 use Rattle.sp_link_laws.specs.Names.{all_joined}
+use Rattle.sp_typed_laws.proofs.Types.{or_left, or_right}
 use Rattle.sp_joined_laws.specs.Joined.{IsObjectOf, StandsFor, LinkedObjectsStand, FunctionStandsFor, LinkedFunctionsStand, IsFrom, LinkedEntriesAreTold, ObjectsAreNumbered, FunctionsAreNumbered}
 use Rattle.sp_linked_laws.proofs.Units.{linked_of, external_lasts}
 use Rattle.sp_linked_laws.specs.Linked.{linked_program, AreTypedUnits, IsDefinedIn, LinkedUnitsFollow, LinkedStaticsFollow}
@@ -132,28 +134,13 @@ any_mapped ns n (x ∷ xs) h = by (nat_eq n x) refl h (any_mapped ns n xs)
         let same : nat_eq (number_in ns n) (number_in ns x) ≡ true =
         subst (λ z. nat_eq (number_in ns n) (number_in ns z) ≡ true) (eqb-true n x e) (equal_self (number_in ns n)) in
         ap (λ b. b || list_any (nat_eq (number_in ns n)) (map (number_in ns) xs)) same
-    by false e g ih = or_right (nat_eq (number_in ns n) (number_in ns x)) (ih g)
-      where
-        or_right : (b : Bool) → list_any (nat_eq (number_in ns n)) (map (number_in ns) xs) ≡ true
-            → (b || list_any (nat_eq (number_in ns n)) (map (number_in ns) xs)) ≡ true
-        or_right true h = refl
-        or_right false h = h
-
-pub map_append : (f : ℕ → ℕ) (xs ys : List ℕ) → map f (xs ++ ys) ≡ map f xs ++ map f ys
-map_append f [] ys = refl
-map_append f (x ∷ xs) ys = ap (λ zs. f x ∷ zs) (map_append f xs ys)
+    by false e g ih =
+        or_right (nat_eq (number_in ns n) (number_in ns x))
+        (list_any (nat_eq (number_in ns n)) (map (number_in ns) xs)) (ih g)
 
 either : (a b : Bool) → (a || b) ≡ true → (a ≡ true) ⊎ (b ≡ true)
 either true b h = inl refl
 either false b h = inr h
-
-or_first : (a b : Bool) → a ≡ true → (a || b) ≡ true
-or_first true b h = refl
-or_first false b h = absurd (true≢false (sym h))
-
-or_second : (a b : Bool) → b ≡ true → (a || b) ≡ true
-or_second true b h = refl
-or_second false b h = h
 
 module _ (xs : List CheckedUnit) (m : Matching) (main : ℕ) (h : AreTypedUnits xs m) (follow : LinkedStructsFollow) (are_there : StructsAreThere)
     (objects : LinkedObjectsStand) (functions : LinkedFunctionsStand) (entries : LinkedEntriesAreTold)
@@ -226,10 +213,10 @@ module _ (xs : List CheckedUnit) (m : Matching) (main : ℕ) (h : AreTypedUnits 
             → (is_lasting o.storage ≡ true) ⊎ (list_any (nat_eq n) own ≡ true)
             → sees p.objects (map (number_in ns.objects) own) (number_in ns.objects n) ≡ true
         visible s there lasting (inl e) =
-            or_first (lasts (slice_get p.objects (number_in ns.objects n)))
+            or_left (lasts (slice_get p.objects (number_in ns.objects n)))
             (list_any (nat_eq (number_in ns.objects n)) (map (number_in ns.objects) own)) (ap lasts there ∙ lasting e)
         visible s there lasting (inr e) =
-            or_second (lasts (slice_get p.objects (number_in ns.objects n)))
+            or_right (lasts (slice_get p.objects (number_in ns.objects n)))
             (list_any (nat_eq (number_in ns.objects n)) (map (number_in ns.objects) own)) (any_mapped ns.objects n own e)
 
     -- an object of the unit that doesn't last, as the program has it
@@ -287,7 +274,7 @@ module _ (xs : List CheckedUnit) (m : Matching) (main : ℕ) (h : AreTypedUnits 
     pub unit_follows : (g : Function) → IsDefinedIn xs u x g
         → Follows r (scene_in x (g.formals ++ g.locals)) (scene_of p (renumbered ns.objects g.formals ++ renumbered ns.objects g.locals))
     unit_follows g def =
-        subst (λ ks. Follows r (scene_in x (g.formals ++ g.locals)) (scene_of p ks)) (map_append (number_in ns.objects) g.formals g.locals)
+        subst (λ ks. Follows r (scene_in x (g.formals ++ g.locals)) (scene_of p ks)) (map-append (number_in ns.objects) g.formals g.locals)
         (follows (g.formals ++ g.locals)
         (λ n e. owned_there x.functions x.definitions def.index def.number n g def.defined def.function e))
 

@@ -1,5 +1,6 @@
 -- What passes is some function's own in the program (C90 6.1.2.4).
 use Rattle.std.proofs.Common.{◌≡◌, ℕ, zero, suc, ◌+◌, Bool, true, false, ◌&&◌, ◌||◌, not, map, nat_eq, List, [], ◌∷◌, ◌++◌, Option, Some, None, is_some, ◌⊎◌, inl, inr, refl, ap, sym, subst, ◌∙◌, true≢false, eqb-true}
+use Rattle.std.proofs.lemmas.List.{map-append}
 use Rattle.std.specs.List.{list_any}
 use Rattle.std.specs.Prelude.{◌≤◌, slice_get}
 use Rattle.sp_types.specs.declared.program.Storage.{Storage}
@@ -26,7 +27,7 @@ use Rattle.sp_link_laws.specs.Names.{all_joined}
 use Rattle.sp_joined_laws.specs.Joined.{IsFrom, FunctionStandsFor, LinkedObjectsStand, LinkedFunctionsStand, LinkedEntriesAreTold, LinkedDefinitionsAreThere, definitions_before, ObjectsAreNumbered, FunctionsAreNumbered}
 use Rattle.sp_linked_laws.proofs.Units.{IsOwnObject, bodies_of, linked_of}
 use Rattle.sp_linked_laws.specs.Linked.{linked_program, AreTypedUnits, LinkedObjectsAreOwned}
-use Rattle.sp_linked_laws.proofs.Linked.{map_append, renaming_is, there_is, own_there, statics_are_followed}
+use Rattle.sp_linked_laws.proofs.Linked.{renaming_is, there_is, own_there, statics_are_followed}
 use Rattle.sp_linked_laws.proofs.Bodies.{renamed_completed}
 
 -- ---- where an owned object is listed
@@ -150,7 +151,7 @@ module _ (xs : List CheckedUnit) (m : Matching) (main : ℕ) (h : AreTypedUnits 
         ≡ map (number_in ns.objects) (g.formals ++ g.locals) =
         ap (λ z. renumbered z.objects w.entry.source.formals ++ renumbered z.objects w.entry.source.locals) named
         ∙ ap (λ z. renumbered ns.objects z.formals ++ renumbered ns.objects z.locals) (w.source body)
-        ∙ sym (map_append (number_in ns.objects) g.formals g.locals) in (
+        ∙ sym (map-append (number_in ns.objects) g.formals g.locals) in (
           definitions_before xs f.unit + l.definition,
           record {
             number = q.0;

@@ -1,5 +1,6 @@
 -- Each function is defined once in the program, and an object is one function's own.
 use Rattle.std.proofs.Common.{◌≡◌, Bool, ℕ, ◌+◌, true, false, ◌&&◌, not, map, List, ◌++◌, Some, refl, is_some, ap, sym, subst, ◌∙◌, suc, if◌then◌else◌, [], ◌∷◌, true≢false, arith}
+use Rattle.std.proofs.lemmas.List.{map-append}
 use Rattle.std.specs.Prelude.{slice_get, unwrap_or, codes, bytes_eq}
 use Rattle.sp_types.specs.Types.{CType, result_of}
 use Rattle.sp_types.specs.Structs.{IsFormedSignature}
@@ -25,7 +26,7 @@ use Rattle.sp_link_laws.specs.Names.{all_joined}
 use Rattle.sp_joined_laws.specs.Joined.{FunctionStandsFor, LinkedFunctionsStand, LinkedFunctionsAreTold, OwnObjectsAreApart, definitions_before, IsDefinition, LinkedDefinitions, LinkedDefinitionsAreThere, IsFunctionFrom, ObjectsAreNumbered, FunctionsAreNumbered}
 use Rattle.sp_linked_laws.proofs.Units.{IsOwnObject, bodies_of, linked_of}
 use Rattle.sp_linked_laws.specs.Linked.{linked_program, AreTypedUnits, LinkedFunctionsAreFormed, LinkedDefinitionsAreApart, LinkedOwnersAreOne, LinkedMainIsDefined}
-use Rattle.sp_linked_laws.proofs.Linked.{any_there, map_append, owned_there, and_none}
+use Rattle.sp_linked_laws.proofs.Linked.{any_there, owned_there, and_none}
 
 module _ (xs : List CheckedUnit) (m : Matching) (main : ℕ) (h : AreTypedUnits xs m) where
   abbrev y : List Numbers × Joined
@@ -151,7 +152,7 @@ module _ (xs : List CheckedUnit) (m : Matching) (main : ℕ) (h : AreTypedUnits 
               ap (λ z. z.formals ++ z.locals) function_is
               ∙ ap (λ z. renumbered z.objects a.entry.source.formals ++ renumbered z.objects a.entry.source.locals) renaming_is
               ∙ ap (λ z. renumbered ns.objects z.formals ++ renumbered ns.objects z.locals) a.source
-              ∙ sym (map_append (number_in ns.objects) g.formals g.locals) in
+              ∙ sym (map-append (number_in ns.objects) g.formals g.locals) in
               let o : (o : ℕ) × (slice_get (g.formals ++ g.locals) l.index ≡ Some o) × (number_in ns.objects o ≡ n) =
               map_from (number_in ns.objects) (g.formals ++ g.locals) l.index n (ap (λ z. slice_get z l.index) (sym lists) ∙ l.listed) in
               let own : IsOwnObject a.is.checked o.0 =

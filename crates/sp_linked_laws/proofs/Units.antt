@@ -18,6 +18,7 @@ use Rattle.sp_conflicts.specs.Declarations.{is_external, is_defined}
 use Rattle.sp_conflicts.specs.Conflicts.{tables_of}
 use Rattle.sp_ir.specs.Terrain.{size_in, size_of}
 use Rattle.sp_typing.specs.Statements.{is_lasting}
+use Rattle.sp_typed_laws.proofs.Types.{size_laid}
 use Rattle.sp_typed_laws.specs.Sound.{KnowsElements}
 use Rattle.sp_typed_unit_laws.specs.Units.{IsUnmeasured, HasUnitStart, IsFormal, IsLocal, IsTypedFunction, IsTypedUnit}
 use Rattle.sp_table_laws.specs.Tables.{AreTables}
@@ -136,17 +137,13 @@ defined_closed x o Formal h e = absurd (true≢false (sym e))
 
 -- ---- elements
 
-size_there : (o : Option Extent) → 1 ≤ size_in o → (e : Extent) × (o ≡ Some e)
-size_there None h = absurd (omega (arith, h))
-size_there (Some e) h = (e, refl)
-
 some_there : (o : Option Extent) → is_some o ≡ true → (e : Extent) × (o ≡ Some e)
 some_there None h = absurd (true≢false (sym h))
 some_there (Some e) h = (e, refl)
 
 sized_elements : (ss : List Struct) (t : CType) → 1 ≤ size_of ss t → HasElements ss t
 sized_elements ss (array t None) h = absurd (omega (arith, h))
-sized_elements ss (array t (Some n)) h = size_there (layout ss (array t (Some n))) h
+sized_elements ss (array t (Some n)) h = size_laid (layout ss (array t (Some n))) h
 sized_elements ss void h = tt
 sized_elements ss (integer k) h = tt
 sized_elements ss (floating k) h = tt
@@ -155,7 +152,7 @@ sized_elements ss (structure k) h = tt
 sized_elements ss (function s) h = tt
 
 unmeasured_elements : (ss : List Struct) (t : CType) → IsUnmeasured ss t → HasElements ss t
-unmeasured_elements ss (array t None) h = size_there (layout ss t) h
+unmeasured_elements ss (array t None) h = size_laid (layout ss t) h
 unmeasured_elements ss (array t (Some n)) h = absurd h
 unmeasured_elements ss void h = tt
 unmeasured_elements ss (integer k) h = tt

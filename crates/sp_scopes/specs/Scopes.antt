@@ -75,10 +75,6 @@ with_tag s n t = record s { inner = tag_added s.inner n t }
 abbrev pub entered : ScopeKind → Scopes → Scopes
 entered k s = record { inner = empty_scope k; around = s.inner ∷ s.around }
 
--- the innermost scope is a block's from here on
-abbrev pub as_block : Scopes → Scopes
-as_block s = record s { inner = record s.inner { kind = Block } }
-
 -- the scope of the file is never left
 abbrev pub left_to : Scopes → List Scope → Scopes
 left_to s [] = s
@@ -86,6 +82,14 @@ left_to s (t ∷ ts) = record { inner = t; around = ts }
 
 abbrev pub left : Scopes → Scopes
 left s = left_to s s.around
+
+-- the scopes without the innermost one; in the place of the file's comes an empty one
+abbrev pub set_aside : Scopes → Scopes
+set_aside s = left_to file_scope s.around
+
+-- a scope that was set aside is inside the others again, and from here on a block's
+abbrev pub resumed : Scope → Scopes → Scopes
+resumed t s = record { inner = record t { kind = Block }; around = s.inner ∷ s.around }
 
 -- ---- the innermost block, or the file where there is none (6.1.2.1, 6.3.2.2): a list of parameters is no block
 

@@ -51,11 +51,15 @@ impl Scope {
         self.kind == ScopeKind::Block
     }
 
-    /// Makes it a block's.
-    pub fn make_block(&mut self)
-        ensures { scope_of self.new ≡ record (scope_of self.old) { kind = ScopeKind.Block } }
+    /// The same scope as a block's.
+    pub fn into_block(self) -> Scope
+        ensures { scope_of result ≡ record (scope_of self) { kind = ScopeKind.Block } }
     {
-        self.kind = ScopeKind::Block;
+        Scope {
+            kind: ScopeKind::Block,
+            names: self.names,
+            tags: self.tags,
+        }
     }
 
     /// What the scope has for a name.

@@ -12,8 +12,9 @@ ghost use Rattle.sp_scopes.specs.Scopes.{
   visible_meaning,
   visible_tag,
   entered,
-  as_block,
   left,
+  set_aside,
+  resumed,
   with_name,
   with_tag,
   meaning_in,
@@ -71,14 +72,6 @@ impl Scopes {
         Ok(())
     }
 
-    /// Makes the innermost scope a block's: the parameters of a definition are in the block that is
-    /// its body (C90 6.1.2.1).
-    pub fn make_block(&mut self)
-        ensures { scopes_of self.new ≡ as_block (scopes_of self.old) }
-    {
-        self.inner.make_block();
-    }
-
     /// Closes the innermost scope. That of the file stays.
     pub fn leave(&mut self)
         ensures { scopes_of self.new ≡ left (scopes_of self.old) }
@@ -86,6 +79,34 @@ impl Scopes {
         if let Some(outer) = self.around.pop() {
             self.inner = outer;
         }
+    }
+
+    /// Takes the innermost scope from the others, and answers it. In the place of the file's comes
+    /// an empty one.
+    pub fn set_aside(&mut self, alloc: Global) -> Scope
+        ensures scope { scope_of result ≡ (scopes_of self.old).inner }
+        ensures others { scopes_of self.new ≡ set_aside (scopes_of self.old) }
+    {
+        let outer = match self.around.pop() {
+            Some(outer) => outer,
+            None => Scope::new(alloc, ScopeKind::Block),
+        };
+        mem::replace(&mut self.inner, outer)
+    }
+
+    /// Opens a scope that was set aside inside the others, as a block's: the parameters of a
+    /// definition are in the block that is its body (C90 6.1.2.1).
+    pub fn resume(&mut self, scope: Scope) -> Result<(), AllocError>
+        ensures ok { OnOk result (scopes_of self.new ≡
+            resumed (scope_of scope) (scopes_of self.old)) }
+        ensures err { OnErr result (scopes_of self.new ≡ scopes_of self.old) }
+    {
+        let outer = mem::replace(&mut self.inner, scope.into_block());
+        if let Err(refused) = self.around.push(outer) {
+            self.inner = refused.value;
+            return Err(AllocError);
+        }
+        Ok(())
     }
 
     /// What a name stands for here: its meaning in the innermost scope that has it.

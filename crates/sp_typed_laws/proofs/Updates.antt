@@ -13,16 +13,16 @@ use Rattle.sp_scopes.specs.declared.meaning.Tag.{Tag}
 use Rattle.sp_scopes.specs.Meanings.{Meaning}
 use Rattle.sp_scopes.specs.Meanings as means
 use Rattle.sp_scopes.specs.declared.scope.ScopeKind.{ScopeKind}
-use Rattle.sp_scopes.specs.Scopes.{Scope, Scopes, entry}
+use Rattle.sp_scopes.specs.Scopes.{Scope, Scopes, file_scope, entry}
 use Rattle.sp_scopes.specs.Scopes as scopes
 use Rattle.sp_units.specs.Units.{Typing}
 use Rattle.sp_env.specs.declared.env.Entity.{Entity}
 use Rattle.sp_env.specs.declared.env.Entity.TheVariants as entities
-use Rattle.sp_env.specs.Env.{Env, with_tag, is_same_entity, declared_beside, declared, declared_in_block_beside, declared_in_block, linked, with_link, with_object, with_function, typed_by, changed, with_function_type, with_constant, with_typings, typings_with, with_typing, as_block, left}
+use Rattle.sp_env.specs.Env.{Env, with_tag, is_same_entity, declared_beside, declared, declared_in_block, linked, with_link, with_object, with_function, typed_by, changed, with_function_type, with_constant, with_typings, typings_with, with_typing, list_entered, left, set_aside, resumed}
 use Rattle.sp_objects.specs.Objects.{has_linkage}
 use Rattle.sp_unit_laws.proofs.Lists.{some_is, Each, each_none, each_first, each_pushed, each_changed, each_inserted, pushed_length, pushed_before}
-use Rattle.sp_unit_laws.proofs.Envs.{IsMeant, AreMeant, IsFormedObject, IsFormedFunction, Goes}
-use Rattle.sp_unit_laws.proofs.Updates.{goes_inside, goes_constant, goes_linked, goes_object, goes_function, goes_function_typed, goes_typings, typings_more, goes_left}
+use Rattle.sp_unit_laws.proofs.Envs.{IsMeant, AreMeant, IsFormedObject, IsFormedFunction, IsFormedEnv, Goes}
+use Rattle.sp_unit_laws.proofs.Updates.{goes_inside, goes_constant, goes_linked, goes_object, goes_function, goes_function_typed, goes_typings, typings_more, goes_left, goes_set_aside}
 use Rattle.sp_typing.specs.Programs.{lasts}
 use Rattle.sp_typed_laws.specs.Sound.{IsSound, IsSoundSignature, IsSoundStruct, lasting_alone}
 use Rattle.sp_typed_laws.proofs.Types.{or_left, or_right, or_wider}
@@ -279,12 +279,6 @@ module _ (own : ℕ → Bool) (env : Env) (h : IsFit own env) where
       reaches_scopes (scopes.with_tag env.scopes n t) (scopes_stay env.scopes.around)
       h.formed.inner h.inner
 
-  -- the list of a definition becomes a block
-  pub reaches_as_block : Reaches own env (as_block env)
-  reaches_as_block =
-      reaches_scopes (scopes.as_block env.scopes) (scopes_stay env.scopes.around)
-      h.formed.inner h.inner
-
   reaches_named : (n : ℕ) (m : Meaning) → IsMeant env.tables.structs m
       → IsFitting own env.tables.structs env.tables.objects m
       → Reaches own env (in_scopes (scopes.with_name env.scopes n m))
@@ -307,30 +301,27 @@ module _ (own : ℕ → Bool) (env : Env) (h : IsFit own env) where
       (names_gained (IsFitting own env.tables.structs env.tables.objects) (λ k. tt)
       env.scopes.inner.names s.inner.names gain.0 h.inner)
 
+  -- the name goes to these scopes, or is there already
+  leads_beside : (named : Scopes) (m : Meaning) (p : Place) (o : Option Meaning)
+      → Reaches own env (in_scopes named) → Leads own env (declared_beside env named m p o)
+  leads_beside named m p None g = leads g
+  leads_beside named m p (Some old) g = by (is_same_entity old m)
+    where
+      by : (b : Bool) → Leads own env (if b then accepted env else refused F9 p)
+      by true = leads (reaches_nowhere own env h)
+      by false = leads_none
+
   pub leads_declared : (n : ℕ) (m : Meaning) (p : Place) → IsMeant env.tables.structs m
       → IsFitting own env.tables.structs env.tables.objects m → Leads own env (declared env n m p)
-  leads_declared n m p meant fits = by (entry env.scopes.inner.names n)
-    where
-      same : (b : Bool) → Leads own env (if b then accepted env else refused F9 p)
-      same true = leads (reaches_nowhere own env h)
-      same false = leads_none
-
-      by : (o : Option Meaning) → Leads own env (declared_beside env n m p o)
-      by None = leads (reaches_named n m meant fits)
-      by (Some old) = same (is_same_entity old m)
+  leads_declared n m p meant fits =
+      leads_beside (scopes.with_name env.scopes n m) m p (entry env.scopes.inner.names n)
+      (reaches_named n m meant fits)
 
   pub leads_declared_in_block : (n k : ℕ) (p : Place)
       → Leads own env (declared_in_block env n (means.function k) p)
-  leads_declared_in_block n k p = by (scopes.meaning_in_block env.scopes n)
-    where
-      same : (b : Bool) → Leads own env (if b then accepted env else refused F9 p)
-      same true = leads (reaches_nowhere own env h)
-      same false = leads_none
-
-      by : (o : Option Meaning)
-          → Leads own env (declared_in_block_beside env n (means.function k) p o)
-      by None = leads (reaches_named_in_block n k)
-      by (Some old) = same (is_same_entity old (means.function k))
+  leads_declared_in_block n k p =
+      leads_beside (scopes.with_block_name env.scopes n (means.function k)) (means.function k) p
+      (scopes.meaning_in_block env.scopes n) (reaches_named_in_block n k)
 
 -- ---- more objects are seen
 
@@ -408,13 +399,14 @@ fit_entered {kind = kind} own env h = record {
       env.scopes.around h.inner h.around;
 }
 
--- the scopes around the one that is left gained functions alone, whatever was seen in it
-pub reaches_left : {kind : ScopeKind} (own wide : ℕ → Bool) (env later : Env) → IsFit own env
-    → (SeesAll own → SeesAll wide)
-    → Reaches wide (in_scope kind env) later → Reaches own env (left later)
-reaches_left own wide env later h wider g =
-    reaches_by own env h (left later)
-    (record { formed = (goes_left later g.fit.formed).formed; keeps = g.moves.keeps })
+-- the scopes around the one that goes gained functions alone, whatever was seen in it
+reaches_out : {kind : ScopeKind} (file : Scopes) (own wide : ℕ → Bool) (env later : Env)
+    → IsFit own env → (SeesAll own → SeesAll wide) → Reaches wide (in_scope kind env) later
+    → IsFormedEnv (record later { scopes = scopes.left_to file later.scopes.around })
+    → Reaches own env (record later { scopes = scopes.left_to file later.scopes.around })
+reaches_out file own wide env later h wider g formed =
+    reaches_by own env h (record later { scopes = scopes.left_to file later.scopes.around })
+    (record { formed = formed; keeps = g.moves.keeps })
     g.moves.objects g.moves.homes g.moves.functions g.moves.kept
     (by later.scopes.around g.moves.around) g.fit.structs g.fit.objects
     g.fit.functions (λ all. g.calm (wider all))
@@ -422,9 +414,31 @@ reaches_left own wide env later h wider g =
     g.moves.names
   where
     by : (around : List Scope) → ScopesGain (all_scopes env.scopes) around
-        → ScopesGain (all_scopes env.scopes) (all_scopes (scopes.left_to later.scopes around))
+        → ScopesGain (all_scopes env.scopes) (all_scopes (scopes.left_to file around))
     by [] gain = absurd gain
     by (s ∷ ss) gain = gain
+
+pub reaches_left : {kind : ScopeKind} (own wide : ℕ → Bool) (env later : Env) → IsFit own env
+    → (SeesAll own → SeesAll wide)
+    → Reaches wide (in_scope kind env) later → Reaches own env (left later)
+reaches_left own wide env later h wider g =
+    reaches_out later.scopes own wide env later h wider g (goes_left later g.fit.formed).formed
+
+pub reaches_set_aside : {kind : ScopeKind} (own wide : ℕ → Bool) (env later : Env) → IsFit own env
+    → (SeesAll own → SeesAll wide)
+    → Reaches wide (in_scope kind env) later → Reaches own env (set_aside later)
+reaches_set_aside own wide env later h wider g =
+    reaches_out file_scope own wide env later h wider g
+    (goes_set_aside later g.fit.formed).formed
+
+-- one that was set aside is inside the others again
+pub reaches_resumed : (own : ℕ → Bool) (env : Env) (s : Scope) → IsFit own env
+    → AreMeant env.tables.structs s.names
+    → AreFitting own env.tables.structs env.tables.objects s.names
+    → Reaches own (list_entered env) (resumed s env)
+reaches_resumed own env s h meant fits =
+    reaches_scopes own (list_entered env) (fit_entered own env h) (scopes.resumed s env.scopes)
+    (scopes_stay (all_scopes env.scopes)) meant fits
 
 -- ---- the list of parameters of a declarator
 

@@ -1,6 +1,6 @@
 -- The declarator of a definition leaves the environment sound, in which its formals are seen
 -- (C90 6.7.1).
-use Rattle.sp_unit_laws.proofs.Envs.{IsFormedEnv}
+use Rattle.sp_unit_laws.proofs.Envs.{AreMeant, meant_longer, IsFormedEnv}
 use Rattle.sp_ir.specs.Terrain.{size_of}
 use Rattle.sp_typing.specs.Statements.{is_lasting}
 use Rattle.sp_typing.specs.Programs.{lasts}
@@ -20,7 +20,8 @@ use Rattle.sp_operands.specs.Answers.{Checked, accepted, refused, and_then}
 use Rattle.sp_operands.specs.Conversions.{is_void, is_floating, is_complete, is_function}
 use Rattle.sp_rules.specs.Rules.{function_type}
 use Rattle.sp_scopes.specs.Meanings as means
-use Rattle.sp_env.specs.Env.{Env, list_entered, set_object}
+use Rattle.sp_scopes.specs.Scopes.{Scope}
+use Rattle.sp_env.specs.Env.{Env, list_entered, set_aside, set_object}
 use Rattle.sp_type_rules.specs.Derivations.{Derivation, to_pointer, to_array, to_function, made}
 use Rattle.sp_member_rules.specs.Parameters.{declared_name, has_parameter_storage, is_lone_void, adjusted, formal, reserved, reserved_number, named_parameter}
 use Rattle.sp_expr_check.specs.Expressions.{specifiers_checked, declared_type, length_checked, list_checked}
@@ -33,16 +34,16 @@ use Rattle.sp_unit_laws.proofs.Leaves.{parameters_told}
 use Rattle.sp_written_laws.specs.Written.{IsWrittenMaybe, IsWrittenDeclarator, IsWrittenDeclaratorForm, IsWrittenParam, AreWrittenParams}
 use Rattle.sp_typed_laws.specs.Sound.{lasting_alone}
 use Rattle.sp_typed_laws.proofs.Types.{or_left, complete_sized}
-use Rattle.sp_typed_laws.proofs.Envs.{IsFit, fit_table, IsKeptObject, Moves, Reaches, reaches_nowhere, reaches_on, table_stays}
+use Rattle.sp_typed_laws.proofs.Envs.{AreFitting, IsFit, fit_table, IsKeptObject, Moves, Reaches, reaches_nowhere, reaches_on, table_stays, all_fitting_on}
 use Rattle.sp_typed_laws.proofs.After.{Leads}
-use Rattle.sp_typed_laws.proofs.Updates.{fit_entered, leads_declared}
+use Rattle.sp_typed_laws.proofs.Updates.{fit_wider, fit_entered, reaches_set_aside, leads_declared}
 use Rattle.sp_typed_laws.proofs.Objects.{formal_calm, formal_starts, reaches_set}
 use Rattle.sp_typed_laws.proofs.Derived.{IsGoodStep, adjusted_good, told_sound, made_good}
 use Rattle.sp_typed_laws.proofs.Functions.{IsGoodSignature}
 use Rattle.sp_typed_laws.proofs.Leaves.{IsType, AreTypes, AreSteps, type_kept, types_kept, steps_kept, reaches_reserved}
 use Rattle.sp_typed_laws.proofs.Expressions.{specifiers_good, declared_good, length_good, list_good}
 use Rattle.sp_typed_unit_laws.proofs.Fits.{AreOwn}
-use Rattle.sp_typed_unit_laws.proofs.Shows.{Shows, shown, shows_none, hence, behind, shows_taken, shows_met, shows_given, shows_either, ahead, asked}
+use Rattle.sp_typed_unit_laws.proofs.Shows.{Shows, shown, shows_none, parted, hence, behind, shows_taken, shows_met, shows_given, shows_either, ahead, asked}
 use Rattle.sp_typed_unit_laws.proofs.Distinct.{AreDistinct, distinct_none, distinct_pushed}
 use Rattle.sp_typed_unit_laws.proofs.Declarations.{signature_in}
 
@@ -91,6 +92,18 @@ formals_on f g ns h = record {
 
 pub no_formals : (env : Env) → AreFormals [] env
 no_formals env = record { formals = each_none (IsFormalIn env); distinct = distinct_none }
+
+-- the names of a scope, where these objects and those that last are seen
+abbrev pub IsSeenScope : (ℕ → Bool) → Scope → Env → Type 0
+IsSeenScope own s env = AreMeant env.tables.structs s.names
+    × AreFitting own env.tables.structs env.tables.objects s.names
+
+pub scope_on : (own : ℕ → Bool) (env later : Env) → IsFormedEnv env → Moves env later → (s : Scope)
+    → IsSeenScope own s env → IsSeenScope own s later
+scope_on own env later f g s h = (
+  λ k n at. meant_longer env.tables.structs later.tables.structs g.keeps.longer n.1 (h.0 k n at),
+  all_fitting_on own env later g f s.names h.1,
+)
 
 abbrev IsRead : Read → Env → Type 0
 IsRead x env = AreTypes x.types env × AreFormals x.formals env
@@ -293,62 +306,69 @@ module _ (names : List (List ℕ)) (bytes : AreByteNames names) (own : ℕ → B
   StepsFit x = AreOwn own x.formals
 
   abbrev AreOwnSteps : Steps → Env → Type 0
-  AreOwnSteps x env = AreSteps x.steps env × AreFormals x.formals env
+  AreOwnSteps x env = AreSteps x.steps env × AreFormals x.formals env × IsSeenScope own x.scope env
 
-  list_shows : (env : Env) (p : Place) (ps : Params) (dots : Bool) → IsFit own env
+  -- behind the list its scope is set aside, and of the file's what lasts is seen
+  list_shows : (env : Env) (p : Place) (ps : Params) (dots : Bool) → IsFit lasting_alone env
       → AreWrittenParams ps
-      → Shows own (list_entered env) StepsFit AreOwnSteps (own_list names env p ps dots)
+      → Shows lasting_alone env StepsFit AreOwnSteps (own_list names env p ps dots)
   list_shows env p ps dots h w =
-      hence (formals_shows (list_entered env) (is_alone ps dots) no_parameters ps
-      (fit_entered own env h) w (each_none (λ t. IsType t env), no_formals (list_entered env)))
+      let wide : IsFit own env =
+      fit_wider lasting_alone own env (λ i e. absurd (true≢false (sym e))) h in
+      parted (formals_shows (list_entered env) (is_alone ps dots) no_parameters ps
+      (fit_entered own env wide) w (each_none (λ t. IsType t env), no_formals (list_entered env)))
       (λ y. gives {x = (
         record {
           steps = to_function (told_types ps y.0.types) dots p ∷ [];
           formals = y.0.formals;
+          scope = y.1.scopes.inner;
         },
-        y.1,
+        set_aside y.1,
       )} (λ l. l))
       (λ y k r. shown (λ l. (
-        reaches_nowhere own y.1 k.fit,
+        reaches_set_aside lasting_alone own env y.1 h
+            (λ all. absurd (true≢false (sym (all 0)))) k,
         (
           each_first (IsGoodStep y.1.tables.structs) (to_function (told_types ps y.0.types) dots p)
               [] (
                 parameters_told y.1.tables.structs ps y.0.types (λ i t at. (r.0 i t at).0),
                 told_sound ps y.0.types (λ i t at. (r.0 i t at).1),
               ) (each_none (IsGoodStep y.1.tables.structs)),
-          r.1,
+          record { formals = r.1.formals; distinct = r.1.distinct },
+          (k.fit.formed.inner, k.fit.inner),
         ),
       )))
 
   -- a further derivation
   one_more : (x : Steps × Env) (later : Env) (d : Derivation) → IsFormedEnv x.1
-      → Reaches own x.1 later → AreOwnSteps x.0 x.1 → IsGoodStep later.tables.structs d
+      → Reaches lasting_alone x.1 later → AreOwnSteps x.0 x.1 → IsGoodStep later.tables.structs d
       → AreOwnSteps (outwards x.0 d) later
   one_more x later d f g q s = (
     each_pushed (IsGoodStep later.tables.structs) x.0.steps d (steps_kept g x.0.steps q.0) s,
     formals_on f g x.0.formals q.1,
+    scope_on own x.1 later f g.moves x.0.scope q.2,
   )
 
   outer_list_shows : (p : Place) (f : DeclaratorForm) (dots : Bool) (x : Steps × Env)
-      → IsFit own x.1 → IsWrittenDeclaratorForm f → AreOwnSteps x.0 x.1
-      → Shows own x.1 StepsFit AreOwnSteps (outer_list names p f dots x)
+      → IsFit lasting_alone x.1 → IsWrittenDeclaratorForm f → AreOwnSteps x.0 x.1
+      → Shows lasting_alone x.1 StepsFit AreOwnSteps (outer_list names p f dots x)
   outer_list_shows p f dots x h w q =
-      behind (list_good names bytes own x.1 f h w) (λ l k r.
+      behind (list_good names bytes lasting_alone x.1 f h w) (λ l k r.
       shown (λ fits. (
-        reaches_nowhere own l.1 k.fit,
+        reaches_nowhere lasting_alone l.1 k.fit,
         one_more x l.1 (to_function l.0 dots p) h.formed k q r,
       )))
 
-  outer_length_shows : (p : Place) (e : MaybeExpression) (x : Steps × Env) → IsFit own x.1
-      → IsWrittenMaybe e → AreOwnSteps x.0 x.1
-      → Shows own x.1 StepsFit AreOwnSteps (outer_length names p e x)
+  outer_length_shows : (p : Place) (e : MaybeExpression) (x : Steps × Env)
+      → IsFit lasting_alone x.1 → IsWrittenMaybe e → AreOwnSteps x.0 x.1
+      → Shows lasting_alone x.1 StepsFit AreOwnSteps (outer_length names p e x)
   outer_length_shows p no_expression x h w q =
-      let r : Reaches own x.1 x.1 = reaches_nowhere own x.1 h in
+      let r : Reaches lasting_alone x.1 x.1 = reaches_nowhere lasting_alone x.1 h in
       shown (λ fits. (r, one_more x x.1 (to_array None p) h.formed r q (tt, tt)))
   outer_length_shows p (some_expression e) x h w q =
-      behind (length_good names bytes own x.1 e h w) (λ n k l.
+      behind (length_good names bytes lasting_alone x.1 e h w) (λ n k l.
       shown (λ fits. (
-        reaches_nowhere own n.1 k.fit,
+        reaches_nowhere lasting_alone n.1 k.fit,
         one_more x n.1 (to_array (Some n.0) p) h.formed k q (l, tt),
       )))
 
@@ -367,20 +387,20 @@ module _ (names : List (List ℕ)) (bytes : AreByteNames names) (own : ℕ → B
       gives {x = (outwards x.0 (to_array (Some n.0) p), n.1)} (λ q. q))
 
   mutual
-    own_steps_show : (env : Env) (at : Place) (d : Declarator) → IsFit own env
+    own_steps_show : (env : Env) (at : Place) (d : Declarator) → IsFit lasting_alone env
         → IsWrittenDeclarator d
-        → Shows own (list_entered env) StepsFit AreOwnSteps (own_steps names env at d)
+        → Shows lasting_alone env StepsFit AreOwnSteps (own_steps names env at d)
     own_steps_show env at (declarator f p) h w = form_steps_show env at p f h w
 
-    form_steps_show : (env : Env) (at p : Place) (f : DeclaratorForm) → IsFit own env
+    form_steps_show : (env : Env) (at p : Place) (f : DeclaratorForm) → IsFit lasting_alone env
         → IsWrittenDeclaratorForm f
-        → Shows own (list_entered env) StepsFit AreOwnSteps (form_steps names env at p f)
+        → Shows lasting_alone env StepsFit AreOwnSteps (form_steps names env at p f)
     form_steps_show env at p (group d) h w = own_steps_show env at d h w
     form_steps_show env at p (syntax.pointer qs d) h w =
         hence (own_steps_show env at d h w)
         (λ x. gives {x = (outwards x.0 to_pointer, x.1)} (λ l. l))
         (λ x g q.
-        let r : Reaches own x.1 x.1 = reaches_nowhere own x.1 g.fit in
+        let r : Reaches lasting_alone x.1 x.1 = reaches_nowhere lasting_alone x.1 g.fit in
         shown (λ l. (r, one_more x x.1 to_pointer g.fit.formed r q (tt, tt))))
     form_steps_show env at p (syntax.function d ps dots) h w =
         shows_either {b = is_name d} (λ e. list_shows env p ps dots h w.1)
@@ -394,15 +414,17 @@ module _ (names : List (List ℕ)) (bytes : AreByteNames names) (own : ℕ → B
 
   -- ---- the whole declarator
 
-  abbrev pub OwnFits : Own → Type 0
-  OwnFits o = AreOwn own o.formals
+  abbrev pub OwnFits : Own × Scope → Type 0
+  OwnFits o = AreOwn own o.0.formals
 
-  pub record IsOwn (o : Own) (env : Env) : Type 0 where
-    pub good : IsGoodSignature env.tables.structs o.of
-    pub called : IsCalled env.tables.structs (result_of o.of)
-    pub formals : AreFormals o.formals env
+  pub record IsOwn (o : Own × Scope) (env : Env) : Type 0 where
+    pub good : IsGoodSignature env.tables.structs o.0.of
+    pub called : IsCalled env.tables.structs (result_of o.0.of)
+    pub formals : AreFormals o.0.formals env
+    pub scope : IsSeenScope own o.1 env
 
-  result_called : (env : Env) (s : Signature) → IsFit own env → IsGoodSignature env.tables.structs s
+  result_called : (env : Env) (s : Signature) → IsFit lasting_alone env
+      → IsGoodSignature env.tables.structs s
       → not (is_floating_array (result_of s)) ≡ true
       → (is_void (result_of s) || is_complete env.tables.structs (result_of s)) ≡ true
       → IsCalled env.tables.structs (result_of s)
@@ -410,7 +432,7 @@ module _ (names : List (List ℕ)) (bytes : AreByteNames names) (own : ℕ → B
   result_called env (signature (types.integer k) ps v) h f kind whole = tt
   result_called env (signature (types.pointer t) ps v) h f kind whole = tt
   result_called env (signature (types.structure k) ps v) h f kind whole =
-      (complete_sized env.tables.structs (fit_table own env h) (types.structure k) f.0.0 whole).0
+      (complete_sized env.tables.structs (fit_table lasting_alone env h) (types.structure k) f.0.0 whole).0
   result_called env (signature (types.floating k) ps v) h f kind whole =
       absurd (true≢false (sym kind))
   result_called env (signature (types.array t n) ps v) h f kind whole =
@@ -418,34 +440,39 @@ module _ (names : List (List ℕ)) (bytes : AreByteNames names) (own : ℕ → B
   result_called env (signature (types.function s) ps v) h f kind whole =
       absurd (true≢false (sym whole))
 
-  told_own : (env : Env) (at : Place) (n : ℕ × Place) (ks : List ℕ) (t : CType) → IsFit own env
-      → AreFormals ks env → IsType t env
-      → Gives (λ o. (AreOwn own o.formals → AreOwn own ks) × IsOwn o env)
+  told_own : (env : Env) (at : Place) (n : ℕ × Place) (ks : List ℕ) (scope : Scope) (t : CType)
+      → IsFit lasting_alone env → AreFormals ks env → IsSeenScope own scope env → IsType t env
+      → Gives (λ o. (AreOwn own o.formals → AreOwn own ks) × IsOwn (o, scope) env)
       (own_told env.tables.structs at n ks t)
-  told_own env at n ks t h g f =
+  told_own env at n ks scope t h g seen f =
       gives_given {o = function_type t} _ _ (λ s e.
       let good : IsGoodSignature env.tables.structs s = signature_in env t s f e in
       gives_met {b = not (is_floating_array (result_of s))} _ _ (λ kind.
       gives_met {b = is_void (result_of s) || is_complete env.tables.structs (result_of s)} _ _
       (λ whole. gives {x = record { name = n.0; place = n.1; of = s; formals = ks }} (
         λ l. l,
-        record { good = good; called = result_called env s h good kind whole; formals = g },
+        record {
+          good = good;
+          called = result_called env s h good kind whole;
+          formals = g;
+          scope = seen;
+        },
       ))))
 
-  pub own_shows : (env : Env) (base : CType) (d : Declarator) → IsFit own env
+  pub own_shows : (env : Env) (base : CType) (d : Declarator) → IsFit lasting_alone env
       → IsWrittenDeclarator d → IsType base env
-      → Shows own (list_entered env) OwnFits IsOwn (own_declared names env base d)
+      → Shows lasting_alone env OwnFits IsOwn (own_declared names env base d)
   own_shows env base d h w t =
       shows_given {o = declared_name d} _ _ (λ n e.
       hence (own_steps_show env (declarator_place d) d h w)
       (λ x. gives_then {Q = λ u. ⊤}
       {c = made x.1.tables.structs (declarator_place d) x.0.steps base} anything (λ u v.
-      gives_then (own_kept x.1.tables.structs n x.0.formals u) (λ o b. gives {x = (o, x.1)} b)))
+      gives_then (own_kept x.1.tables.structs n x.0.formals u) (λ o b. gives {x = ((o, x.0.scope), x.1)} b)))
       (λ x g q.
       shows_taken (made_good x.1.tables.structs (declarator_place d) x.0.steps base q.0
       (type_kept g base t)) (λ u m.
-      shows_taken (told_own x.1 (declarator_place d) n x.0.formals u g.fit q.1 m) (λ o f.
-      shown (λ l. (reaches_nowhere own x.1 g.fit, f.1))))))
+      shows_taken (told_own x.1 (declarator_place d) n x.0.formals x.0.scope u g.fit q.1 q.2 m)
+      (λ o f. shown (λ l. (reaches_nowhere lasting_alone x.1 g.fit, f.1))))))
     where
       own_kept : (ss : List Struct) (n : ℕ × Place) (ks : List ℕ) (t : CType)
           → Gives (λ o. AreOwn own o.formals → AreOwn own ks)

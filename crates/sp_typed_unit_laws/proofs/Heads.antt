@@ -1,25 +1,23 @@
 -- The head of a definition leaves the environment sound, in which the formals are seen (C90 6.7.1).
-use Rattle.std.proofs.Common.{◌≡◌, ℕ, zero, suc, Bool, true, false, not, ◌&&◌, length, List, [], ◌∷◌, Option, Some, None, if◌then◌else◌, is_some, refl, ap, sym, subst, ◌∙◌, true≢false, eqb-true}
+use Rattle.std.proofs.Common.{◌≡◌, ℕ, zero, suc, Bool, true, false, not, ◌&&◌, length, List, [], ◌∷◌, Option, Some, None, is_some, refl, ap, sym, subst, ◌∙◌, true≢false, eqb-true}
 use Rattle.std.proofs.lemmas.Bool.{not-true}
 use Rattle.std.specs.Prelude.{slice_get}
-use Rattle.sp_tree.specs.declared.fault.FaultKind.TheVariants.{F9}
 use Rattle.sp_tree.specs.declared.fault.Place.{Place}
+use Rattle.sp_tree.specs.declared.token.Keyword.{Keyword}
 use Rattle.sp_syntax.specs.Syntax.{Specifiers, Declarator}
 use Rattle.sp_syntax.specs.Places.{declarator_place}
 use Rattle.sp_types.specs.Types.{CType, void, integer, floating, pointer, array, structure, function, Signature, signature, result_of}
 use Rattle.sp_types.specs.Compatible.{compatible, parameters_compatible}
 use Rattle.sp_types.specs.Programs.{Function}
 use Rattle.sp_types.specs.declared.program.Linkage.{Linkage}
-use Rattle.sp_operands.specs.Answers.{accepted, refused}
 use Rattle.sp_scopes.specs.Meanings.{Meaning}
 use Rattle.sp_scopes.specs.Meanings as means
-use Rattle.sp_scopes.specs.Scopes.{meaning_in_block, with_block_name}
+use Rattle.sp_scopes.specs.Scopes.{Scope, meaning_in_block, with_block_name}
 use Rattle.sp_env.specs.declared.env.Entity.{Entity}
 use Rattle.sp_env.specs.declared.env.Entity.TheVariants as entities
-use Rattle.sp_env.specs.Env.{Env, list_entered, as_block, is_same_entity, declared_in_block_beside, declared_in_block, linked, with_link, with_typing, with_function, changed, typed_by, with_function_type, function_type, function_linkage}
+use Rattle.sp_env.specs.Env.{Env, list_entered, resumed, declared_in_block, linked, with_link, with_typing, with_function, changed, typed_by, with_function_type, function_type, function_linkage}
 use Rattle.sp_names.specs.Composite.{composite_signature}
 use Rattle.sp_names.specs.Functions.{is_same_linkage, is_retyped, retyped, as_function, undefined_function, joined_type, function_at, function_declared}
-use Rattle.sp_member_rules.specs.Parameters.{declared_name}
 use Rattle.sp_declarations.specs.Words.{storage_class}
 use Rattle.sp_declarations.specs.Declarations as declarations
 use Rattle.sp_formals.specs.Formals.{Own}
@@ -27,14 +25,14 @@ use Rattle.sp_heads.specs.Heads.{may_define, has_body, Head, own_defined, head_c
 use Rattle.sp_typing.specs.Sorts.{agrees}
 use Rattle.sp_typing.specs.Trees.{IsCalled}
 use Rattle.sp_unit_laws.proofs.Lists.{none_some, some_is, pushed_last}
-use Rattle.sp_unit_laws.proofs.After.{Gives, gives, gives_none, gives_then, gives_met, gives_given}
+use Rattle.sp_unit_laws.proofs.After.{Gives, gives, gives_none, gives_then, gives_met, gives_given, gives_more}
 use Rattle.sp_written_laws.specs.Written.{AreWrittenSpecifiers, IsWrittenDeclarator}
 use Rattle.sp_written_laws.specs.Laws.{AreByteNames}
 use Rattle.sp_typed_laws.specs.Sound.{lasting_alone}
 use Rattle.sp_typed_laws.proofs.Types.{and_true}
 use Rattle.sp_typed_laws.proofs.Grows.{called_stays}
 use Rattle.sp_typed_laws.proofs.Envs.{Follows, IsFit, Reaches, reaches_on, scene_grows}
-use Rattle.sp_typed_laws.proofs.Updates.{fit_wider, reaches_as_block}
+use Rattle.sp_typed_laws.proofs.Updates.{fit_wider, reaches_resumed}
 use Rattle.sp_typed_laws.proofs.Objects.{composite_agrees}
 use Rattle.sp_typed_laws.proofs.Functions.{IsGoodSignature, IsFound, function_sound}
 use Rattle.sp_typed_laws.proofs.Leaves.{IsType, type_kept}
@@ -42,7 +40,8 @@ use Rattle.sp_typed_laws.proofs.Expressions.{specifiers_good}
 use Rattle.sp_leaf_laws.proofs.Values.{gives_after, gives_both}
 use Rattle.sp_typed_unit_laws.proofs.Fits.{AreOwn}
 use Rattle.sp_typed_unit_laws.proofs.Shows.{gives_shown}
-use Rattle.sp_typed_unit_laws.proofs.Formals.{AreFormals, IsOwn, own_shows, formals_on}
+use Rattle.sp_typed_unit_laws.proofs.Objects.{beside_tables}
+use Rattle.sp_typed_unit_laws.proofs.Formals.{AreFormals, IsSeenScope, scope_on, IsOwn, own_shows, formals_on}
 
 -- ---- the type that the definition gives the function
 
@@ -73,17 +72,9 @@ result_follows (signature r ps v) (signature q qs w) h x g =
 -- a name more in a block leaves the tables as they are
 declared_tables : (env : Env) (n : ℕ) (m : Meaning) (p : Place)
     → Gives (λ e. e.tables ≡ env.tables) (declared_in_block env n m p)
-declared_tables env n m p = by (meaning_in_block env.scopes n)
-  where
-    same : (b : Bool)
-        → Gives (λ e. e.tables ≡ env.tables) (if b then accepted env else refused F9 p)
-    same true = gives {x = env} refl
-    same false = gives_none
-
-    by : (o : Option Meaning)
-        → Gives (λ e. e.tables ≡ env.tables) (declared_in_block_beside env n m p o)
-    by None = gives {x = record env { scopes = with_block_name env.scopes n m }} refl
-    by (Some old) = same (is_same_entity old m)
+declared_tables env n m p =
+    gives_more (λ e same. same.0)
+    (beside_tables env (with_block_name env.scopes n m) m p (meaning_in_block env.scopes n))
 
 -- the function of this number has a type that follows
 abbrev FollowsAt : Signature → ℕ → Env → Type 0
@@ -131,7 +122,7 @@ name_follows env n l s p = by (linked env n)
 
 -- ---- heads
 
--- `file` is the environment before the list of the formals
+-- `file` is the environment before the scope of the formals is resumed
 pub record IsHead (own : ℕ → Bool) (env : Env) (h : Head) (later : Env) : Type 0 where
   pub file : Env
   pub to_file : Reaches lasting_alone env file
@@ -148,48 +139,55 @@ result_type : (env : Env) (s : Signature) → IsGoodSignature env.tables.structs
     → IsType (result_of s) env
 result_type env (signature r ps v) h = (h.0.0, h.1.1)
 
--- the name is declared behind the list
-module _ (names : List (List ℕ)) (bytes : AreByteNames names) (own : ℕ → Bool) (env file : Env)
-    (to-file : Reaches lasting_alone env file) (list : Env) (o : Own) where
+-- the name is declared in the file's scope, behind the declarator
+module _ (names : List (List ℕ)) (bytes : AreByteNames names) (own : ℕ → Bool) (env : Env)
+    (list : Env) (o : Own × Scope) where
   abbrev IsListed : Type 0
-  IsListed = Reaches own (list_entered file) list × IsOwn names bytes own o list
+  IsListed = Reaches lasting_alone env list × IsOwn names bytes own o list
 
-  head_of : (k : ℕ) (later : Env) → IsListed → Reaches own list later → IsFound k later
-      → FollowsAt o.of k later → has_body (slice_get later.tables.functions k) ≡ false
-      → IsHead own env (record { number = k; own = o }) (as_block later)
-  head_of k later x g found follows less =
-      let block : Env = as_block later in
-      let r : Reaches own list block =
-      reaches_on own list later block g (reaches_as_block own later g.fit) in
+  head_of : (k : ℕ) (file : Env) → IsListed → Reaches lasting_alone list file → IsFound k file
+      → FollowsAt o.0.of k file → has_body (slice_get file.tables.functions k) ≡ false
+      → IsHead own env (record { number = k; own = o.0 }) (resumed o.1 file)
+  head_of k file x g found follows less =
+      let seen : IsSeenScope own o.1 file =
+      scope_on own list file x.0.fit.formed g.moves o.1 x.1.scope in
+      let formals : AreFormals o.0.formals file =
+      formals_on x.0.fit.formed g o.0.formals x.1.formals in
       record {
         file = file;
-        to_file = to-file;
-        to_later = reaches_on own (list_entered file) list block x.0 r;
-        type = type_kept r (result_of o.of) (result_type list o.of x.1.good);
-        called = called_stays list.tables.structs later.tables.structs
-            (scene_grows own list later g.moves x.0.fit.formed).stays (result_of o.of) x.1.called;
-        formals = formals_on x.0.fit.formed r o.formals x.1.formals;
+        to_file = reaches_on lasting_alone env list file x.0 g;
+        to_later = reaches_resumed own file o.1
+            (fit_wider lasting_alone own file (λ i e. absurd (true≢false (sym e))) g.fit)
+            seen.0 seen.1;
+        type = type_kept g (result_of o.0.of) (result_type list o.0.of x.1.good);
+        called = called_stays list.tables.structs file.tables.structs
+            (scene_grows lasting_alone list file g.moves x.0.fit.formed).stays
+            (result_of o.0.of) x.1.called;
+        formals = record { formals = formals.formals; distinct = formals.distinct };
         function = found.0;
         there = found.1;
         bodiless = ap has_body (sym found.1) ∙ less;
         follows = follows found.0 found.1;
       }
 
-  own_good : (l : Linkage) → (AreOwn own o.formals → IsListed)
-      → Gives (λ x. AreOwn own x.0.own.formals → IsHead own env x.0 x.1) (own_defined list l o)
-  own_good l listed =
-      gives_then (gives_both declared (name_follows list o.name l o.of o.place)) (λ y h.
+  own_good : (class : Option Keyword) → (AreOwn own o.0.formals → IsListed)
+      → Gives (λ x. AreOwn own x.0.own.formals → IsHead own env x.0 x.1) (own_defined list class o)
+  own_good class listed =
+      let l : Linkage = declarations.function_linkage list o.0.name class in
+      gives_then (gives_both (declared l) (name_follows list o.0.name l o.0.of o.0.place)) (λ y h.
       gives_met {b = not (has_body (slice_get y.1.tables.functions y.0))} _ _ (λ new.
-      gives {x = (record { number = y.0; own = o }, as_block y.1)} (λ fits.
+      gives {x = (record { number = y.0; own = o.0 }, resumed o.1 y.1)} (λ fits.
       let x : IsListed = listed fits in
-      let d : Reaches own list y.1 × IsFound y.0 y.1 = h.0 x in
+      let d : Reaches lasting_alone list y.1 × IsFound y.0 y.1 = h.0 x in
       head_of y.0 y.1 x d.0 d.1 h.1
       (not-true (has_body (slice_get y.1.tables.functions y.0)) new))))
     where
-      declared : Gives (λ y. IsListed → Reaches own list y.1 × IsFound y.0 y.1)
-          (function_declared list o.name l o.of o.place)
-      declared = record {
-        at = λ y e x. (function_sound own list x.0.fit o.name l o.of o.place x.1.good).at y e;
+      declared : (l : Linkage)
+          → Gives (λ y. IsListed → Reaches lasting_alone list y.1 × IsFound y.0 y.1)
+          (function_declared list o.0.name l o.0.of o.0.place)
+      declared l = record {
+        at = λ y e x.
+            (function_sound lasting_alone list x.0.fit o.0.name l o.0.of o.0.place x.1.good).at y e;
       }
 
 pub head_good : (names : List (List ℕ)) → AreByteNames names → (own : ℕ → Bool) (env : Env)
@@ -201,8 +199,7 @@ head_good names bytes own env ss d h w v =
     gives_met {b = may_define (storage_class ss)} _ _ (λ class.
     gives_after (specifiers_good names bytes lasting_alone env false (declarator_place d) ss h w)
     (λ x g t.
-    gives_given {o = declared_name d} _ _ (λ n e.
-    gives_shown (own_shows names bytes own x.1 x.0 d
-    (fit_wider lasting_alone own x.1 (λ i e. absurd (true≢false (sym e))) g.fit) v t) (λ o q.
-    own_good names bytes own env x.1 g o.1 o.0
-    (declarations.function_linkage x.1 n.0 (storage_class ss)) q))))
+    gives_shown (own_shows names bytes own x.1 x.0 d g.fit v t) (λ o q.
+    own_good names bytes own env o.1 o.0 (storage_class ss) (λ fits.
+    let r = q fits in
+    (reaches_on lasting_alone env x.1 o.1 g r.0, r.1)))))

@@ -20,7 +20,7 @@ use Rattle.sp_types.specs.declared.program.Storage.TheVariants.{Outside, Static,
 use Rattle.sp_operands.specs.Answers.{Checked, accepted, refused, and_then, where_met, where_given}
 use Rattle.sp_scopes.specs.Meanings.{Meaning}
 use Rattle.sp_scopes.specs.Meanings as means
-use Rattle.sp_scopes.specs.Scopes.{entry, is_file_scope}
+use Rattle.sp_scopes.specs.Scopes.{Scopes, entry, is_file_scope, with_name}
 use Rattle.sp_env.specs.declared.env.Entity.{Entity}
 use Rattle.sp_env.specs.declared.env.Entity.TheVariants as entities
 use Rattle.sp_env.specs.Env.{Env, is_same_entity, declared_beside, declared, with_typing, linked, with_link, set_object, object_type}
@@ -125,10 +125,10 @@ entry_on own first l k env later h g x = record {
 -- ---- tables
 
 -- a name that is declared leaves the tables and links as they are
-beside_tables : (env : Env) (n : ℕ) (m : Meaning) (p : Place) (o : Option Meaning)
-    → Gives (λ e. (e.tables ≡ env.tables) × (e.links ≡ env.links)) (declared_beside env n m p o)
-beside_tables env n m p None = gives (refl, refl)
-beside_tables env n m p (Some old) = by (is_same_entity old m)
+pub beside_tables : (env : Env) (named : Scopes) (m : Meaning) (p : Place) (o : Option Meaning)
+    → Gives (λ e. (e.tables ≡ env.tables) × (e.links ≡ env.links)) (declared_beside env named m p o)
+beside_tables env named m p None = gives (refl, refl)
+beside_tables env named m p (Some old) = by (is_same_entity old m)
   where
     by : (b : Bool)
         → Gives (λ e. (e.tables ≡ env.tables) × (e.links ≡ env.links))
@@ -138,7 +138,8 @@ beside_tables env n m p (Some old) = by (is_same_entity old m)
 
 pub declared_tables : (env : Env) (n : ℕ) (m : Meaning) (p : Place)
     → Gives (λ e. (e.tables ≡ env.tables) × (e.links ≡ env.links)) (declared env n m p)
-declared_tables env n m p = beside_tables env n m p (entry env.scopes.inner.names n)
+declared_tables env n m p =
+    beside_tables env (with_name env.scopes n m) m p (entry env.scopes.inner.names n)
 
 -- ---- an object takes another start, or tells more
 

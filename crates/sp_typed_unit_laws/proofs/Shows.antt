@@ -28,11 +28,11 @@ module _ {own : ℕ → Bool} {A : Type 0} {env : Env} {L : A → Type 0} {P : A
   shows_carried {from = from} g h =
       record { at = λ x e l. (reaches_on own env from x.1 g (h.at x e l).0, (h.at x e l).1) }
 
-  -- the answer of the first part fits where the whole does
-  pub parted : {B : Type 0} {from : Env} {M : B → Type 0} {Q : B → Env → Type 0}
-      {c : Checked (B × Env)} {f : B × Env → Checked (A × Env)} → Shows own from M Q c
+  -- the answer of the first part fits where the whole does; it may see other objects
+  pub parted : {B : Type 0} {seen : ℕ → Bool} {from : Env} {M : B → Type 0} {Q : B → Env → Type 0}
+      {c : Checked (B × Env)} {f : B × Env → Checked (A × Env)} → Shows seen from M Q c
       → ((x : B × Env) → Gives (λ y. L y.0 → M x.0) (f x))
-      → ((x : B × Env) → Reaches own from x.1 → Q x.0 x.1 → Shows own env L P (f x))
+      → ((x : B × Env) → Reaches seen from x.1 → Q x.0 x.1 → Shows own env L P (f x))
       → Shows own env L P (and_then c f)
   parted {c = accepted x} h b g = record {
     at = λ y e l.

@@ -8,6 +8,7 @@ use Rattle.sp_types.specs.Types.{CType, void, result_of}
 use Rattle.sp_types.specs.Structs.{IsFormed, IsFormedSignature}
 use Rattle.sp_operands.specs.Conversions.{is_void, is_floating, is_complete, is_function}
 use Rattle.sp_rules.specs.Rules.{function_type}
+use Rattle.sp_scopes.specs.Scopes.{Scope}
 use Rattle.sp_env.specs.Env.{Env, list_entered}
 use Rattle.sp_type_rules.specs.Derivations.{Derivation, to_pointer, to_array, to_function}
 use Rattle.sp_member_rules.specs.Parameters.{declared_name, is_lone_void, adjusted, formal, reserved, reserved_number}
@@ -15,14 +16,18 @@ use Rattle.sp_expr_check.specs.Parameters.{is_alone, told_types}
 use Rattle.sp_formals.specs.Formals.{Read, formal_told, formal_checked, formals_checked, Steps, no_parameters, outwards, own_list, outer_list, outer_length, is_name, own_steps, form_steps, is_floating_array, Own, own_told, own_declared}
 use Rattle.sp_unit_laws.proofs.Lists.{none_some, Each, each_none, each_pushed, each_first, pushed_length}
 use Rattle.sp_unit_laws.proofs.Derived.{IsFormedStep, adjusted_formed, type_made}
-use Rattle.sp_unit_laws.proofs.Envs.{IsFormedEnv, Goes, goes_nowhere, goes_on}
+use Rattle.sp_unit_laws.proofs.Envs.{AreMeant, meant_longer, IsFormedEnv, Goes, goes_nowhere, goes_on}
 use Rattle.sp_unit_laws.proofs.After.{Gives, gives, gives_met, gives_given, After, done, after_none, carried, next, lead, taken, met, given, either}
-use Rattle.sp_unit_laws.proofs.Updates.{goes_list_entered}
+use Rattle.sp_unit_laws.proofs.Updates.{goes_list_entered, goes_set_aside}
 use Rattle.sp_unit_laws.proofs.Braces.{IsType}
 use Rattle.sp_unit_laws.proofs.Leaves.{AreTypes, type_kept, types_kept, parameters_told, reserved_formed, parameter_leads}
 use Rattle.sp_unit_laws.proofs.Expressions.{specifiers_formed, declared_formed, list_checked_formed, length_checked_formed, steps_kept}
 use Rattle.sp_unit_laws.proofs.Objects.{IsNumber, AreNumbers, Has, has_later, numbers_kept}
 use Rattle.sp_unit_laws.proofs.Declarations.{signature_in}
+
+-- what names stand for is formed in a larger table
+pub names_meant : (env later : Env) → Goes env later → (s : Scope) → AreMeant env.tables.structs s.names → AreMeant later.tables.structs s.names
+names_meant env later g s h = λ k n at. meant_longer env.tables.structs later.tables.structs g.keeps.longer n.1 (h k n at)
 
 -- ---- the list of the formals
 
@@ -76,21 +81,25 @@ module _ (names : List (List ℕ)) (from : ℕ) where
   -- ---- the parts of the declarator
 
   abbrev pub AreOwnSteps : Steps → Env → Type 0
-  AreOwnSteps x env = Each (IsFormedStep env.tables.structs) x.steps × AreNumbers from x.formals env
+  AreOwnSteps x env = Each (IsFormedStep env.tables.structs) x.steps × AreNumbers from x.formals env × AreMeant env.tables.structs x.scope.names
 
   own_list_formed : (env : Env) (p : Place) (ps : Params) (dots : Bool) → IsFormedEnv env → Has from env → After env AreOwnSteps (own_list names env p ps dots)
   own_list_formed env p ps dots h has =
       let g : Goes env (list_entered env) = goes_list_entered env h in
       carried g (next (formals_formed (list_entered env) (is_alone ps dots) no_parameters ps g.formed has (each_none (λ t. IsFormed env.tables.structs t), each_none (IsNumber from env))) (λ y k r.
-      done (goes_nowhere y.1 k.formed) (
+      done (goes_set_aside y.1 k.formed) (
         each_first (IsFormedStep y.1.tables.structs) (to_function (told_types ps y.0.types) dots p) [] (parameters_told y.1.tables.structs ps y.0.types r.0) (each_none (IsFormedStep y.1.tables.structs)),
         r.1,
+        k.formed.inner,
       )))
 
   -- a further derivation
   one_more : (x : Steps × Env) (later : Env) (d : Derivation) → Goes x.1 later → AreOwnSteps x.0 x.1 → IsFormedStep later.tables.structs d → AreOwnSteps (outwards x.0 d) later
-  one_more x later d g f s =
-      (each_pushed (IsFormedStep later.tables.structs) x.0.steps d (steps_kept x.1 later g x.0.steps f.0) s, numbers_kept from x.1 later g x.0.formals f.1)
+  one_more x later d g f s = (
+    each_pushed (IsFormedStep later.tables.structs) x.0.steps d (steps_kept x.1 later g x.0.steps f.0) s,
+    numbers_kept from x.1 later g x.0.formals f.1,
+    names_meant x.1 later g x.0.scope f.2,
+  )
 
   outer_list_formed : (p : Place) (f : DeclaratorForm) (dots : Bool) (x : Steps × Env) → IsFormedEnv x.1 → AreOwnSteps x.0 x.1 → After x.1 AreOwnSteps (outer_list names p f dots x)
   outer_list_formed p f dots x h q =
@@ -118,10 +127,14 @@ module _ (names : List (List ℕ)) (from : ℕ) where
 
   -- ---- the whole declarator
 
-  abbrev pub IsOwn : Own → Env → Type 0
-  IsOwn o env = IsFormedSignature env.tables.structs o.of × AreNumbers from o.formals env
+  abbrev IsToldOwn : Own → Env → Type 0
+  IsToldOwn o env = IsFormedSignature env.tables.structs o.of × AreNumbers from o.formals env
 
-  own_told_formed : (env : Env) (at : Place) (n : ℕ × Place) (ks : List ℕ) (t : CType) → AreNumbers from ks env → IsType t env → Gives (λ o. IsOwn o env) (own_told env.tables.structs at n ks t)
+  -- with the scope of its formals
+  abbrev pub IsOwn : Own × Scope → Env → Type 0
+  IsOwn o env = IsToldOwn o.0 env × AreMeant env.tables.structs o.1.names
+
+  own_told_formed : (env : Env) (at : Place) (n : ℕ × Place) (ks : List ℕ) (t : CType) → AreNumbers from ks env → IsType t env → Gives (λ o. IsToldOwn o env) (own_told env.tables.structs at n ks t)
   own_told_formed env at n ks t h f =
       gives_given {o = function_type t} _ _ (λ s e.
       gives_met {b = not (is_floating_array (result_of s))} _ _ (λ kind.
@@ -134,4 +147,4 @@ module _ (names : List (List ℕ)) (from : ℕ) where
       next (own_steps_formed env (declarator_place d) d h has) (λ x g q.
       taken (type_made x.1.tables.structs (declarator_place d) x.0.steps base q.0 (type_kept env x.1 g base t)) (λ u m.
       taken (own_told_formed x.1 (declarator_place d) n x.0.formals u q.1 m.0) (λ o f.
-      done (goes_nowhere x.1 g.formed) f))))
+      done (goes_nowhere x.1 g.formed) (f, q.2)))))

@@ -13,11 +13,11 @@ use Rattle.sp_scopes.specs.declared.meaning.Tag.{Tag}
 use Rattle.sp_scopes.specs.Meanings.{Meaning}
 use Rattle.sp_scopes.specs.declared.scope.ScopeKind.{ScopeKind}
 use Rattle.sp_scopes.specs.declared.scope.ScopeKind.TheVariants.{Block, Parameters}
-use Rattle.sp_scopes.specs.Scopes.{Scope, Scopes, entry, is_block, name_added, named_in_block, meaning_in_block}
+use Rattle.sp_scopes.specs.Scopes.{Scope, Scopes, file_scope, entry, is_block, name_added, named_in_block, meaning_in_block}
 use Rattle.sp_scopes.specs.Scopes as scopes
 use Rattle.sp_units.specs.Units.{Typing}
 use Rattle.sp_env.specs.declared.env.Entity.{Entity}
-use Rattle.sp_env.specs.Env.{Env, unit_start, entered, list_entered, as_block, left, with_tag, is_same_entity, declared_beside, declared, declared_in_block_beside, declared_in_block, with_link, with_object, set_object, with_function, set_function, typed_by, with_function_type, with_constant, with_typings, typings_with, with_typing}
+use Rattle.sp_env.specs.Env.{Env, unit_start, entered, list_entered, left, set_aside, resumed, with_tag, is_same_entity, declared_beside, declared, declared_in_block, with_link, with_object, set_object, with_function, set_function, typed_by, with_function_type, with_constant, with_typings, typings_with, with_typing}
 use Rattle.sp_unit_laws.proofs.Lists.{Each, each_none, each_first, each_behind, each_pushed, each_set, each_changed, each_inserted, pushed_length, set_length}
 use Rattle.sp_unit_laws.proofs.Envs.{IsMeant, AreMeant, IsFormedObject, IsFormedFunction, below_more, IsFormedEnv, Goes, goes_nowhere}
 use Rattle.sp_unit_laws.proofs.After.{Leads, leads, leads_none}
@@ -65,17 +65,12 @@ module _ (env : Env) (h : IsFormedEnv env) where
   pub goes_list_entered : Goes env (list_entered env)
   goes_list_entered = goes_inside Parameters
 
-  pub goes_as_block : Goes env (as_block env)
-  goes_as_block = record {
-    formed = record { table = h.table; objects = h.objects; functions = h.functions; typings = h.typings; inner = h.inner; around = h.around };
-    keeps = (goes_nowhere env h).keeps;
-  }
-
-  pub goes_left : Goes env (left env)
-  goes_left = by env.scopes.around h.around
+  -- the innermost scope goes; in the place of the file's come these
+  goes_out : (file : Scopes) → Goes env (record env { scopes = file }) → Goes env (record env { scopes = scopes.left_to file env.scopes.around })
+  goes_out file g = by env.scopes.around h.around
     where
-      by : (around : List Scope) → Each (λ s. AreMeant env.tables.structs s.names) around → Goes env (record env { scopes = scopes.left_to env.scopes around })
-      by [] f = goes_nowhere env h
+      by : (around : List Scope) → Each (λ s. AreMeant env.tables.structs s.names) around → Goes env (record env { scopes = scopes.left_to file around })
+      by [] f = g
       by (s ∷ ss) f = record {
         formed = record {
           table = h.table;
@@ -87,6 +82,35 @@ module _ (env : Env) (h : IsFormedEnv env) where
         };
         keeps = (goes_nowhere env h).keeps;
       }
+
+  pub goes_left : Goes env (left env)
+  goes_left = goes_out env.scopes (goes_nowhere env h)
+
+  pub goes_set_aside : Goes env (set_aside env)
+  goes_set_aside = goes_out file_scope record {
+    formed = record {
+      table = h.table;
+      objects = h.objects;
+      functions = h.functions;
+      typings = h.typings;
+      inner = each_none (λ n. IsMeant env.tables.structs n.1);
+      around = each_none (λ s. AreMeant env.tables.structs s.names);
+    };
+    keeps = (goes_nowhere env h).keeps;
+  }
+
+  pub goes_resumed : (s : Scope) → AreMeant env.tables.structs s.names → Goes env (resumed s env)
+  goes_resumed s meant = record {
+    formed = record {
+      table = h.table;
+      objects = h.objects;
+      functions = h.functions;
+      typings = h.typings;
+      inner = meant;
+      around = each_first (λ s. AreMeant env.tables.structs s.names) env.scopes.inner env.scopes.around h.inner h.around;
+    };
+    keeps = (goes_nowhere env h).keeps;
+  }
 
   pub goes_tagged : (n : ℕ) (t : Tag) → Goes env (with_tag env n t)
   goes_tagged n t = record {
@@ -107,16 +131,17 @@ module _ (env : Env) (h : IsFormedEnv env) where
     keeps = (goes_nowhere env h).keeps;
   }
 
-  pub leads_declared : (n : ℕ) (m : Meaning) (p : Place) → IsMeant env.tables.structs m → Leads env (declared env n m p)
-  leads_declared n m p meant = by (entry env.scopes.inner.names n)
+  -- the name goes to these scopes, or is there already
+  leads_beside : (named : Scopes) (m : Meaning) (p : Place) (o : Option Meaning) → Goes env (record env { scopes = named }) → Leads env (declared_beside env named m p o)
+  leads_beside named m p None g = leads g
+  leads_beside named m p (Some old) g = by (is_same_entity old m)
     where
-      same : (b : Bool) → Leads env (if b then accepted env else refused F9 p)
-      same true = leads (goes_nowhere env h)
-      same false = leads_none
+      by : (b : Bool) → Leads env (if b then accepted env else refused F9 p)
+      by true = leads (goes_nowhere env h)
+      by false = leads_none
 
-      by : (o : Option Meaning) → Leads env (declared_beside env n m p o)
-      by None = leads (goes_named n m meant)
-      by (Some old) = same (is_same_entity old m)
+  pub leads_declared : (n : ℕ) (m : Meaning) (p : Place) → IsMeant env.tables.structs m → Leads env (declared env n m p)
+  leads_declared n m p meant = leads_beside (scopes.with_name env.scopes n m) m p (entry env.scopes.inner.names n) (goes_named n m meant)
 
   goes_named_around : (n : ℕ) (m : Meaning) → IsMeant env.tables.structs m
       → Goes env (record env { scopes = record env.scopes { around = named_in_block env.scopes.around n m } })
@@ -140,15 +165,7 @@ module _ (env : Env) (h : IsFormedEnv env) where
       by false = goes_named_around n m p
 
   pub leads_declared_in_block : (n : ℕ) (m : Meaning) (p : Place) → IsMeant env.tables.structs m → Leads env (declared_in_block env n m p)
-  leads_declared_in_block n m p meant = by (meaning_in_block env.scopes n)
-    where
-      same : (b : Bool) → Leads env (if b then accepted env else refused F9 p)
-      same true = leads (goes_nowhere env h)
-      same false = leads_none
-
-      by : (o : Option Meaning) → Leads env (declared_in_block_beside env n m p o)
-      by None = leads (goes_named_in_block n m meant)
-      by (Some old) = same (is_same_entity old m)
+  leads_declared_in_block n m p meant = leads_beside (scopes.with_block_name env.scopes n m) m p (meaning_in_block env.scopes n) (goes_named_in_block n m meant)
 
   -- ---- tables
 
