@@ -161,7 +161,8 @@ pub fn read_more_items<'a>(
     ensures { Answers (context_of context.entry) (grammar.more_items (item_part first)) depth tokens.now
         items_part result }
 {
-    let mut all = Vec::new(context.alloc);
+    // Most declarations have one declarator; a list that grew has room for more.
+    let mut all = Vec::with_capacity(context.alloc, 1)?;
     let mut names = Vec::new(context.alloc);
     let mut behind = first.behind;
     add_name(&mut names, first.declares)?;
@@ -180,6 +181,7 @@ pub fn read_more_items<'a>(
         add_name(&mut names, next.tree.declares)?;
         all.push(next.tree.tree)?;
     }
+    all.shrink_to_fit();
     Ok(Part {
         tree: ItemList { all, names, behind },
         depth: reached,
@@ -268,6 +270,7 @@ pub fn read_declarations<'a>(
         reached = reached.max(next.depth);
         rest = next.rest;
     }
+    all.shrink_to_fit();
     Ok(Part {
         tree: all,
         depth: reached,

@@ -14,18 +14,20 @@ ghost use Rattle.sp_grammar.specs.CTokens.{view};
 
 use crate::expressions::read_level;
 use crate::specifiers::read_specifiers;
+use sp_c_closings::{
+    absent_function, arrayed, enclosed, given_length, parameter_named, parametered, pointing,
+    type_named,
+};
 use sp_c_steps::{
-    CONDITIONAL, absent, array_of, begins_array, begins_deeper, begins_inner, begins_parameters,
-    begins_part, function_of, group_fault, grouped, head_name, length_purpose, named, pointed,
-    read_head, read_qualifiers,
+    CONDITIONAL, absent, begins_array, begins_deeper, begins_inner, begins_parameters, begins_part,
+    group_fault, head_name, list_of_one, named, read_head, read_qualifiers,
 };
 use sp_c_tokens::{
     AlsoAllowed, Context, DeclaratorKind, Declared, Mark, ParameterPart, Parameters, Part,
-    ReadError, TypeNamePart, begins_expression, begins_specifiers, expect, is_mark, next_token,
-    sort_at,
+    ReadError, TypeNamePart, begins_expression, begins_specifiers, is_mark, next_token, sort_at,
 };
 use sp_kept::{keeping, pushed};
-use sp_syntax::{Declarator, Expr, Param, TypeName};
+use sp_syntax::Expr;
 use sp_tree::Token;
 
 /// A type name.
@@ -44,24 +46,8 @@ pub fn read_type_name<'a>(
 {
     let specifiers = read_specifiers(context, tokens, false, depth)?;
     let behind = specifiers.rest;
-    let next = read_declarator(context, behind, DeclaratorKind::Abstract, depth);
-    let (part, all) = keeping(next, specifiers.tree.all)?;
-    let Part {
-        tree: declared,
-        depth: reached,
-        rest,
-    } = part;
-    Ok(Part {
-        tree: TypeNamePart {
-            tree: TypeName {
-                specifiers: all,
-                declarator: declared.tree,
-            },
-            behind: declared.behind,
-        },
-        depth: specifiers.depth.max(reached),
-        rest,
-    })
+    let declared = read_declarator(context, behind, DeclaratorKind::Abstract, depth);
+    type_named(context, tokens, specifiers, depth, declared)
 }
 
 /// A declarator.
@@ -112,19 +98,11 @@ fn read_pointer<'a>(
         part.tree part.depth part.rest.now)
         (IsPointedStop (context_of context.entry) (form_seen form) depth tokens.now) }
 {
-    let (qualifiers, rest) = read_qualifiers(context, tokens)?;
-    let next = read_declarator(context, rest, form, depth - 1);
-    let (inner, qualifiers) = keeping(next, qualifiers)?;
-    let Part {
-        tree,
-        depth: reached,
-        rest,
-    } = inner;
-    Ok(Part {
-        tree: pointed(context.alloc, star.place, qualifiers, tree)?,
-        depth: 1 + reached,
-        rest,
-    })
+    let (qualifiers, behind) = read_qualifiers(context, tokens)?;
+    let inner = read_declarator(context, behind, form, depth - 1);
+    pointing(
+        context, tokens, star, qualifiers, behind, form, depth, inner,
+    )
 }
 
 /// Behind a `(` in a declarator: parameters and `)` behind an absent declarator, or a declarator
@@ -149,23 +127,11 @@ fn read_declarator_after_paren<'a>(
 {
     let (token, _) = next_token(tokens);
     if begins_parameters(form, sort_at(context.types, token.kind)) {
-        let head = absent(form, opening.place);
-        let (parameters, head) = keeping(read_parameters(context, tokens, depth - 1), head)?;
-        let purpose = parameters.tree.behind;
-        let next = expect(context, purpose, Mark::CloseParen, parameters.rest);
-        let (rest, (head, given)) = keeping(next, (head, parameters.tree))?;
-        return Ok(Part {
-            tree: function_of(context.alloc, head, given)?,
-            depth: 1 + parameters.depth.max(1),
-            rest,
-        });
+        let parameters = read_parameters(context, tokens, depth - 1);
+        return absent_function(context, tokens, opening, form, depth, parameters);
     }
-    let inner = read_group(context, tokens, form, depth - 1)?;
-    let next = expect(context, inner.tree.behind, Mark::CloseParen, inner.rest);
-    let depth = 1 + inner.depth;
-    let (rest, declared) = keeping(next, inner.tree)?;
-    let tree = grouped(context.alloc, opening.place, declared)?;
-    Ok(Part { tree, depth, rest })
+    let inner = read_group(context, tokens, form, depth - 1);
+    enclosed(context, tokens, opening, form, depth, inner)
 }
 
 /// A declarator that isn't absent.
@@ -277,15 +243,8 @@ fn read_part<'a>(
     if is_mark(Mark::OpenBracket, sort_at(context.types, opening.kind)) {
         return read_array(context, tokens, head, reached, depth);
     }
-    let (parameters, head) = keeping(read_parameters(context, tokens, depth - 1), head)?;
-    let purpose = parameters.tree.behind;
-    let next = expect(context, purpose, Mark::CloseParen, parameters.rest);
-    let (rest, (head, given)) = keeping(next, (head, parameters.tree))?;
-    Ok(Part {
-        tree: function_of(context.alloc, head, given)?,
-        depth: 1 + reached.max(parameters.depth),
-        rest,
-    })
+    let parameters = read_parameters(context, tokens, depth - 1);
+    parametered(context, tokens, opening, head, reached, depth, parameters)
 }
 
 /// Behind a `[` in a declarator: a length or none, and `]`.
@@ -305,15 +264,8 @@ fn read_array<'a>(
         part.rest.now)
         (IsArrayStop (context_of context.entry) context.entry.scope depth tokens.now) }
 {
-    let (length, head) = keeping(read_length(context, tokens, depth - 1), head)?;
-    let purpose = length_purpose(&length.tree);
-    let next = expect(context, purpose, Mark::CloseBracket, length.rest);
-    let (rest, (head, many)) = keeping(next, (head, length.tree))?;
-    Ok(Part {
-        tree: array_of(context.alloc, head, many)?,
-        depth: 1 + reached.max(length.depth),
-        rest,
-    })
+    let length = read_length(context, tokens, depth - 1);
+    arrayed(context, tokens, head, reached, depth, length)
 }
 
 /// The length of an array, where there is one. The depth of none is 0.
@@ -335,12 +287,8 @@ fn read_length<'a>(
             rest: tokens,
         });
     }
-    let length = read_level(context, tokens, CONDITIONAL, depth)?;
-    Ok(Part {
-        tree: Some(length.tree.tree),
-        depth: length.depth,
-        rest: length.rest,
-    })
+    let length = read_level(context, tokens, CONDITIONAL, depth);
+    given_length(context, tokens, depth, length)
 }
 
 /// Parameters, with `...` behind them or without. The depth of none is 0.
@@ -376,7 +324,7 @@ fn read_parameters<'a>(
     let mut behind = first.tree.behind;
     let mut reached = first.depth;
     let mut rest = first.rest;
-    let mut all = pushed(Vec::new(context.alloc), first.tree.tree)?;
+    let mut all = list_of_one(context.alloc, first.tree.tree)?;
     'parameters: loop {
         let (comma, more) = next_token(rest);
         if !is_mark(Mark::Comma, sort_at(context.types, comma.kind)) {
@@ -422,22 +370,6 @@ fn read_parameter<'a>(
 {
     let specifiers = read_specifiers(context, tokens, true, depth)?;
     let behind = specifiers.rest;
-    let next = read_declarator(context, behind, DeclaratorKind::Either, depth);
-    let (part, all) = keeping(next, specifiers.tree.all)?;
-    let Part {
-        tree: declared,
-        depth: reached,
-        rest,
-    } = part;
-    Ok(Part {
-        tree: ParameterPart {
-            tree: Param {
-                specifiers: all,
-                declarator: declared.tree,
-            },
-            behind: declared.behind,
-        },
-        depth: specifiers.depth.max(reached),
-        rest,
-    })
+    let declared = read_declarator(context, behind, DeclaratorKind::Either, depth);
+    parameter_named(context, tokens, specifiers, depth, declared)
 }

@@ -10,13 +10,18 @@ ghost use Rattle.sp_c_tokens.specs.Scopes.{context_of};
 ghost use Rattle.sp_c_steps.specs.Reading.{Answers, IsStop, IsSuffixed, IsGrouped, IsGroupedStop, operand_seen, is_suffix};
 
 use crate::declarators::read_type_name;
+use sp_c_closings::{
+    assigned, called, chosen, closed_group, converted, grouped_operand, indexed, measured,
+    measured_group, measured_type, prefixed, prefixed_unary, unary_operand, until_colon,
+    until_target,
+};
 use sp_c_steps::{
-    ASSIGNMENT, COMMA, CONDITIONAL, as_operand, begins_nested, call_purpose, is_prefix, is_suffix,
-    joined, punct_of, read_member_or_step, read_operand,
+    ASSIGNMENT, COMMA, CONDITIONAL, begins_nested, is_prefix, is_suffix, joined, list_of_one,
+    next_level, read_member_or_step, read_operand,
 };
 use sp_c_tokens::{
-    AlsoAllowed, Context, Mark, Operand, Part, ReadError, begins_expression, continues_level,
-    expect, is_mark, is_specifier, next_token, sort_at,
+    Context, Mark, Operand, Part, ReadError, begins_expression, continues_level, is_mark,
+    is_specifier, next_token, sort_at,
 };
 use sp_kept::{keeping, pushed};
 use sp_syntax::Expr;
@@ -39,12 +44,12 @@ pub fn read_level<'a>(
     let mut part = read_cast(context, tokens, depth)?;
     let mut reached = 0;
     'levels: while reached < level {
-        reached += 1;
         let Part {
             tree,
             depth: inner,
             rest,
         } = part;
+        reached = next_level(context, rest, reached, level);
         part = read_operators(context, rest, reached, tree, inner, depth)?;
     }
     Ok(part)
@@ -73,12 +78,12 @@ pub fn read_tail<'a>(
     };
     let mut reached = 0;
     'levels: while reached < COMMA {
-        reached += 1;
         let Part {
             tree,
             depth: inner,
             rest,
         } = part;
+        reached = next_level(context, rest, reached, COMMA);
         part = read_operators(context, rest, reached, tree, inner, depth)?;
     }
     Ok(part)
@@ -165,21 +170,8 @@ fn read_assignment<'a>(
         drop(left);
         return Err(ReadError::TooDeep(tokens));
     }
-    let next = read_level(context, behind, ASSIGNMENT, depth - 1);
-    let (assigned, target) = keeping(next, left.tree)?;
-    let punct = punct_of(token.kind);
-    let tree = Expr::assign(
-        context.alloc,
-        target,
-        token.place,
-        punct,
-        assigned.tree.tree,
-    )?;
-    Ok(Part {
-        tree: Operand { tree, unary: false },
-        depth: 1 + inner.max(assigned.depth),
-        rest: assigned.rest,
-    })
+    let value = read_level(context, behind, ASSIGNMENT, depth - 1);
+    assigned(context, behind, token, left, inner, depth, value)
 }
 
 /// Behind a left part: the `?` of a conditional expression.
@@ -209,20 +201,10 @@ fn read_conditional<'a>(
         drop(left);
         return Err(ReadError::TooDeep(tokens));
     }
-    let next = read_level(context, behind, COMMA, depth - 1);
-    let (first, condition) = keeping(next, left.tree)?;
-    let next = expect(context, AlsoAllowed::Nothing, Mark::Colon, first.rest);
-    let (rest, read) = keeping(next, (condition, first.tree.tree))?;
-    let next = read_level(context, rest, CONDITIONAL, depth - 1);
-    let (second, (condition, when_true)) = keeping(next, read)?;
-    let place = token.place;
-    let when_false = second.tree.tree;
-    let tree = Expr::choice(context.alloc, condition, place, when_true, when_false)?;
-    Ok(Part {
-        tree: Operand { tree, unary: false },
-        depth: 1 + inner.max(first.depth.max(second.depth)),
-        rest: second.rest,
-    })
+    let first = read_level(context, behind, COMMA, depth - 1);
+    let (first, left) = until_colon(context, behind, token, left, depth, first)?;
+    let second = read_level(context, first.rest, CONDITIONAL, depth - 1);
+    chosen(context, behind, token, left, first, inner, depth, second)
 }
 
 /// A cast, or a unary expression.
@@ -237,27 +219,21 @@ pub fn read_cast<'a>(
 {
     let (opening, behind) = next_token(tokens);
     if !is_mark(Mark::OpenParen, sort_at(context.types, opening.kind)) {
-        let part = read_unary(context, tokens, depth)?;
-        return Ok(as_operand(part));
+        let part = read_unary(context, tokens, depth);
+        return unary_operand(context, tokens, depth, part);
     }
     if depth < 2 {
         return Err(ReadError::TooDeep(tokens));
     }
     let (token, _) = next_token(behind);
     if !is_specifier(sort_at(context.types, token.kind)) {
-        let part = read_grouped(context, behind, opening, depth)?;
-        return Ok(as_operand(part));
+        let part = read_grouped(context, behind, opening, depth);
+        return grouped_operand(context, behind, opening, depth, part);
     }
-    let name = read_type_name(context, behind, depth - 1)?;
-    let next = expect(context, name.tree.behind, Mark::CloseParen, name.rest);
-    let (rest, target) = keeping(next, name.tree.tree)?;
-    let (operand, target) = keeping(read_cast(context, rest, depth - 1), target)?;
-    let tree = Expr::cast(context.alloc, opening.place, target, operand.tree.tree)?;
-    Ok(Part {
-        tree: Operand { tree, unary: false },
-        depth: 1 + name.depth.max(operand.depth),
-        rest: operand.rest,
-    })
+    let name = read_type_name(context, behind, depth - 1);
+    let target = until_target(context, behind, opening, depth, name)?;
+    let operand = read_cast(context, target.rest, depth - 1);
+    converted(context, behind, opening, target, depth, operand)
 }
 
 /// Behind a `(`: an expression, `)` and suffixes.
@@ -275,11 +251,9 @@ fn read_grouped<'a>(
         (tree_of part.tree) part.depth part.rest.now)
         (IsGroupedStop (context_of context.entry) context.entry.scope opening depth tokens.now) }
 {
-    let inner = read_level(context, tokens, COMMA, depth - 1)?;
-    let next = expect(context, AlsoAllowed::Nothing, Mark::CloseParen, inner.rest);
-    let (rest, tree) = keeping(next, inner.tree.tree)?;
-    let group = Expr::paren(context.alloc, opening.place, tree)?;
-    read_suffixes(context, rest, group, 1 + inner.depth, depth)
+    let inner = read_level(context, tokens, COMMA, depth - 1);
+    let group = closed_group(context, tokens, opening, depth, inner)?;
+    read_suffixes(context, group.rest, group.tree, group.depth, depth)
 }
 
 /// A unary expression.
@@ -304,24 +278,12 @@ fn read_unary<'a>(
         return read_after_sizeof(context, rest, token, depth);
     }
     if is_mark(Mark::Step, sort) {
-        let operand = read_unary(context, rest, depth - 1)?;
-        let punct = punct_of(token.kind);
-        let tree = Expr::unary(context.alloc, token.place, punct, operand.tree)?;
-        return Ok(Part {
-            tree,
-            depth: 1 + operand.depth,
-            rest: operand.rest,
-        });
+        let operand = read_unary(context, rest, depth - 1);
+        return prefixed_unary(context, rest, token, depth, operand);
     }
     if is_prefix(sort) {
-        let operand = read_cast(context, rest, depth - 1)?;
-        let punct = punct_of(token.kind);
-        let tree = Expr::unary(context.alloc, token.place, punct, operand.tree.tree)?;
-        return Ok(Part {
-            tree,
-            depth: 1 + operand.depth,
-            rest: operand.rest,
-        });
+        let operand = read_cast(context, rest, depth - 1);
+        return prefixed(context, rest, token, depth, operand);
     }
     let part = read_operand(context, tokens, depth)?;
     read_suffixes(context, part.rest, part.tree, part.depth, depth)
@@ -342,33 +304,16 @@ fn read_after_sizeof<'a>(
 {
     let (opening, inside) = next_token(tokens);
     if !is_mark(Mark::OpenParen, sort_at(context.types, opening.kind)) {
-        let operand = read_unary(context, tokens, depth - 1)?;
-        let tree = Expr::sizeof_expr(context.alloc, word.place, operand.tree)?;
-        return Ok(Part {
-            tree,
-            depth: 1 + operand.depth,
-            rest: operand.rest,
-        });
+        let operand = read_unary(context, tokens, depth - 1);
+        return measured(context, tokens, word, depth, operand);
     }
     let (token, _) = next_token(inside);
     if !is_specifier(sort_at(context.types, token.kind)) {
-        let operand = read_grouped(context, inside, opening, depth - 1)?;
-        let tree = Expr::sizeof_expr(context.alloc, word.place, operand.tree)?;
-        return Ok(Part {
-            tree,
-            depth: 1 + operand.depth,
-            rest: operand.rest,
-        });
+        let operand = read_grouped(context, inside, opening, depth - 1);
+        return measured_group(context, inside, word, opening, depth, operand);
     }
-    let name = read_type_name(context, inside, depth - 1)?;
-    let next = expect(context, name.tree.behind, Mark::CloseParen, name.rest);
-    let (rest, measured) = keeping(next, name.tree.tree)?;
-    let tree = Expr::sizeof_type(context.alloc, word.place, measured)?;
-    Ok(Part {
-        tree,
-        depth: 1 + name.depth,
-        rest,
-    })
+    let name = read_type_name(context, inside, depth - 1);
+    measured_type(context, inside, word, opening, depth, name)
 }
 
 /// What stands behind a postfix expression, whose depth is given.
@@ -428,32 +373,12 @@ fn read_suffix<'a>(
 {
     let sort = sort_at(context.types, token.kind);
     if is_mark(Mark::OpenBracket, sort) {
-        let (index, inner) = keeping(read_level(context, tokens, COMMA, depth - 1), inner)?;
-        let next = expect(
-            context,
-            AlsoAllowed::Nothing,
-            Mark::CloseBracket,
-            index.rest,
-        );
-        let (rest, (inner, at)) = keeping(next, (inner, index.tree.tree))?;
-        let tree = Expr::index(context.alloc, inner, token.place, at)?;
-        return Ok(Part {
-            tree,
-            depth: 1 + reached.max(index.depth),
-            rest,
-        });
+        let index = read_level(context, tokens, COMMA, depth - 1);
+        return indexed(context, tokens, token, inner, reached, depth, index);
     }
     if is_mark(Mark::OpenParen, sort) {
-        let (arguments, called) = keeping(read_arguments(context, tokens, depth - 1), inner)?;
-        let purpose = call_purpose(&arguments.tree);
-        let next = expect(context, purpose, Mark::CloseParen, arguments.rest);
-        let (rest, (called, given)) = keeping(next, (called, arguments.tree))?;
-        let tree = Expr::call(context.alloc, called, token.place, given)?;
-        return Ok(Part {
-            tree,
-            depth: 1 + reached.max(arguments.depth),
-            rest,
-        });
+        let arguments = read_arguments(context, tokens, depth - 1);
+        return called(context, tokens, token, inner, reached, depth, arguments);
     }
     read_member_or_step(context, tokens, token, inner, reached)
 }
@@ -478,7 +403,7 @@ fn read_arguments<'a>(
         });
     }
     let first = read_level(context, tokens, ASSIGNMENT, depth)?;
-    let mut all = pushed(Vec::new(context.alloc), first.tree.tree)?;
+    let mut all = list_of_one(context.alloc, first.tree.tree)?;
     let mut reached = first.depth;
     let mut rest = first.rest;
     'arguments: loop {

@@ -15,7 +15,7 @@ ghost use Rattle.sp_syntax.specs.Depth.{declarator_depth, declaration_depth};
 use crate::declarators::read_declarator;
 use crate::expressions::read_level;
 use sp_c_steps::{
-    CONDITIONAL, closed, enumeration, is_either, is_too_deep, item_of, structure,
+    CONDITIONAL, closed, enumeration, is_either, is_too_deep, item_of, list_of_one, structure,
     tagged_enumeration, tagged_structure, type_purpose, word_specifier,
 };
 use sp_c_tokens::{
@@ -197,7 +197,7 @@ fn read_members<'a>(
     ensures { Answers (context_of context.entry) (grammar.members (declaration_of first ∷ [])) depth
         tokens.now (λ all. map declaration_of all.items) result }
 {
-    let mut all = pushed(Vec::new(context.alloc), first)?;
+    let mut all = list_of_one(context.alloc, first)?;
     let mut reached = inner;
     let mut rest = tokens;
     'members: loop {
@@ -272,7 +272,7 @@ fn read_items<'a>(
         tokens.now) }
 {
     let mut purpose = closed(first.behind);
-    let mut all = pushed(Vec::new(context.alloc), item_of(first.tree))?;
+    let mut all = list_of_one(context.alloc, item_of(first.tree))?;
     let mut reached = inner;
     let mut rest = tokens;
     'items: loop {
@@ -373,7 +373,7 @@ fn read_enumerators<'a>(
     ensures { Answers (context_of context.entry) (grammar.enumerators (constant_seen first ∷ [])) depth
         tokens.now (λ all. map constant_seen all.items) result }
 {
-    let mut all = pushed(Vec::new(context.alloc), first)?;
+    let mut all = list_of_one(context.alloc, first)?;
     let mut reached = inner;
     let mut rest = tokens;
     'enumerators: loop {

@@ -1,8 +1,10 @@
 -- The steps of the readers of what stands before a body, over plain variables.
 use Rattle.std.proofs.Common.{◌≡◌, ℕ, ◌+◌, ◌-◌, ◌≤◌, true, List, ◌∷◌, length, Some, refl, sym, ap, ◌∙◌, subst, arith}
-use Rattle.std.specs.Prelude.{max, Option, option_map, if◌then◌else◌}
+use Rattle.std.specs.Prelude.{max, Option, option_map, if◌then◌else◌, Box}
+use Rattle.std.specs.declared.alloc.Global.{Global}
 use Rattle.sp_tree.specs.declared.fault.Place.{Place}
 use Rattle.sp_tree.specs.declared.token.Token.{Token}
+use Rattle.sp_syntax.specs.declared.statement.ForClauses.{ForClauses}
 use Rattle.sp_syntax.specs.declared.tree.Expr.{Expr}
 use Rattle.sp_syntax.specs.Syntax.{Statement, Expression}
 use Rattle.sp_syntax.specs.View.{tree_of}
@@ -208,9 +210,18 @@ module _ (types : List ℕ) (scope : Scope) (d : ℕ) (text xs : List Token) (x 
         pub for_step : (s : ReadError) → IsClauseStop g tokens.closing (d - 1) third s → IsStop g grammar.statement d text s
         for_step s h = for_stop room s (h (λ w z. for_body (option_map tree_of u) (option_map tree_of v) w) (x ∷ xs) for_tested)
 
-        pub for_read : (k n : ℕ) (w : Option Expr) (rest : List Token) (t : Place) → IsClause g tokens.closing (d - 1) third (option_map tree_of w) t k rest → n ≡ max (max l m) k → IsPrefix g d text (For u v w) n rest
-        for_read k n w rest t c deepest = prefix_of g d n text xs rest x (For u v w) e (record {
-          body = has_body g grammar.statement (λ a. a) (λ b. syntax_trees.for (terminal x) (option_map tree_of u) (option_map tree_of v) (option_map tree_of w) b) (x ∷ xs) rest refl (c.leads (λ w z. for_body (option_map tree_of u) (option_map tree_of v) w) (x ∷ xs) for_tested);
+    pub for_read : (f : Box ForClauses Global) (l m k n : ℕ) (second third rest : List Token) (q r t : Place)
+        → IsClause g tokens.semicolon (d - 1) inner (option_map tree_of f.value.start) q l second
+        → IsClause g tokens.semicolon (d - 1) second (option_map tree_of f.value.test) r m third
+        → IsClause g tokens.closing (d - 1) third (option_map tree_of f.value.step) t k rest
+        → n ≡ max (max l m) k → IsPrefix g d text (For f) n rest
+    for_read f l m k n second third rest q r t a b c deepest =
+        let u = option_map tree_of f.value.start in
+        let v = option_map tree_of f.value.test in
+        let w = option_map tree_of f.value.step in
+        let on = for_tested l f.value.start second q a m f.value.test third r b in
+        prefix_of g d n text xs rest x (For f) e (record {
+          body = has_body g grammar.statement (λ a. a) (λ b. syntax_trees.for (terminal x) u v w b) (x ∷ xs) rest refl (c.leads (λ w z. for_body u v w) (x ∷ xs) on);
           deep = λ s. omega (arith, a.deep, b.deep, c.deep, deepest);
           shallow = omega (arith, a.shallow, b.shallow, c.shallow, deepest, room);
           ended = c.ended;

@@ -98,7 +98,7 @@ prefixed (Case e) p b = statement (syntax.case_label (tree_of e) b) p (end_of b)
 prefixed Default p b = statement (syntax.default_label b) p (end_of b)
 prefixed (Switch e) p b = statement (syntax.switch_on (tree_of e) b) p (end_of b)
 prefixed (While e) p b = statement (syntax.while_loop (tree_of e) b) p (end_of b)
-prefixed (For u v w) p b = statement (syntax.for_loop (maybe_expression (option_map tree_of u)) (maybe_expression (option_map tree_of v)) (maybe_expression (option_map tree_of w)) b) p (end_of b)
+prefixed (For f) p b = statement (syntax.for_loop (maybe_expression (option_map tree_of f.value.start)) (maybe_expression (option_map tree_of f.value.test)) (maybe_expression (option_map tree_of f.value.step)) b) p (end_of b)
 
 -- A statement that begins with the first tokens has its body at the last, and this is made of that.
 pub record HasBody (g : Context) (make : Statement → Statement) (text rest : List Token) : Type 0 where

@@ -9,7 +9,7 @@ ghost use Rattle.sp_c_tokens.specs.Makers.{end_of, end_of_branches, all_statemen
 ghost use Rattle.sp_c_statements.specs.Parts.{prefixed};
 
 use crate::prefixes::Prefix;
-use sp_syntax::{Declaration, Expr, Statement, StatementForm};
+use sp_syntax::{Declaration, Expr, ForClauses, Statement, StatementForm};
 use sp_tree::{Keyword, Kind, Place};
 use std::alloc::{AllocError, Global};
 
@@ -89,6 +89,21 @@ pub(crate) fn block(
     }
 }
 
+/// `start; test; step`, each of the three where it is given.
+pub(crate) fn for_clauses(
+    alloc: Global,
+    start: Option<Expr>,
+    test: Option<Expr>,
+    step: Option<Expr>,
+) -> Result<Box<ForClauses>, AllocError>
+    ensures start { IfOk result (λ made. made.value.start ≡ start) }
+    ensures test { IfOk result (λ made. made.value.test ≡ test) }
+    ensures step { IfOk result (λ made. made.value.step ≡ step) }
+{
+    let clauses = ForClauses { start, test, step };
+    Ok(Box::new(alloc, clauses)?)
+}
+
 /// The statement of what was read before its body, and the body.
 pub(crate) fn prefixed(
     alloc: Global,
@@ -112,7 +127,7 @@ pub(crate) fn prefixed(
         Prefix::Default => StatementForm::Default(body),
         Prefix::Switch(value) => StatementForm::Switch(value, body),
         Prefix::While(value) => StatementForm::While(value, body),
-        Prefix::For(start, test, step) => StatementForm::For(start, test, step, body),
+        Prefix::For(clauses) => StatementForm::For(clauses, body),
     };
     Ok(Statement { form, place, end })
 }

@@ -10,13 +10,14 @@ ghost use Rattle.sp_c_statements.specs.declared.heads.Head.TheVariants.{Prefix a
 ghost use Rattle.sp_c_statements.specs.declared.heads.PrefixKind.TheVariants as kinds;
 
 use crate::heads::PrefixKind;
+use crate::makers::for_clauses;
 use crate::parts::{read_clause, read_condition};
 use crate::simple::number_of;
 use sp_c_reader::read_level;
 use sp_c_steps::CONDITIONAL;
 use sp_c_tokens::{AlsoAllowed, Context, Mark, Part, ReadError, expect, next_token};
 use sp_kept::keeping;
-use sp_syntax::Expr;
+use sp_syntax::{Expr, ForClauses};
 use sp_tree::Token;
 
 /// What was read before a body.
@@ -32,8 +33,8 @@ pub(crate) enum Prefix {
     Switch(Expr),
     /// `while (condition)`
     While(Expr),
-    /// `for (start; test; step)`, each of the three where it is given.
-    For(Option<Expr>, Option<Expr>, Option<Expr>),
+    /// `for (start; test; step)`
+    For(Box<ForClauses>),
 }
 
 /// What stands before the body of a statement.
@@ -199,9 +200,12 @@ fn read_for<'a>(
     let (test, first) = keeping(next, start.tree.value)?;
     let next = read_clause(context, Mark::CloseParen, test.rest, depth - 1);
     let (step, (first, second)) = keeping(next, (first, test.tree.value))?;
+    let reached = start.depth.max(test.depth).max(step.depth);
+    let rest = step.rest;
+    let clauses = for_clauses(context.alloc, first, second, step.tree.value)?;
     Ok(Part {
-        tree: Prefix::For(first, second, step.tree.value),
-        depth: start.depth.max(test.depth).max(step.depth),
-        rest: step.rest,
+        tree: Prefix::For(clauses),
+        depth: reached,
+        rest,
     })
 }

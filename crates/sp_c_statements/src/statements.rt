@@ -232,6 +232,8 @@ fn read_statements<'a>(
         reached = reached.max(next.depth);
         rest = next.rest;
     }
+    // A list that grew has room for more, and most blocks have few statements.
+    all.shrink_to_fit();
     Ok(Part {
         tree: all,
         depth: reached,

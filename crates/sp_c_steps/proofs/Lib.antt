@@ -24,3 +24,4 @@ pub mod StructureSteps
 pub mod MemberSteps
 pub mod Concrete
 pub mod Tails
+pub mod LevelSteps

@@ -139,7 +139,3 @@ step_left _ e a b d = absurd cc
 pub none_at_first : (es : List Expr) → (length es == 0) ≡ true → grammar.for_name ≡ at_first (map tree_of es)
 none_at_first [] e = refl
 none_at_first (f ∷ es) e = absurd (grind (arith, e))
-
-pub some_at_first : (es : List Expr) → (length es == 0) ≡ false → grammar.plainly ≡ at_first (map tree_of es)
-some_at_first [] e = absurd cc
-some_at_first (f ∷ es) e = refl

@@ -1,3 +1,4 @@
 pub mod States
 pub mod Reading
 pub mod Declaring
+pub mod Levels

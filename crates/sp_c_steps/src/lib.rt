@@ -19,7 +19,9 @@
 
 mod declarators;
 mod expressions;
+mod levels;
 mod primaries;
+mod singles;
 mod specifiers;
 
 pub use declarators::{
@@ -31,7 +33,9 @@ pub use expressions::{
     ASSIGNMENT, COMMA, CONDITIONAL, as_operand, begins_nested, call_purpose, is_prefix, is_suffix,
     joined, punct_of, read_member_or_step,
 };
+pub use levels::next_level;
 pub use primaries::read_operand;
+pub use singles::list_of_one;
 pub use specifiers::{
     enumeration, is_either, is_too_deep, item_of, structure, tagged_enumeration, tagged_structure,
     type_purpose, word_specifier,

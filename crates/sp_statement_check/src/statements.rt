@@ -101,7 +101,7 @@ pub(crate) fn form(
         | StatementForm::Switch(_, _)
         | StatementForm::While(_, _)
         | StatementForm::Do(_, _)
-        | StatementForm::For(_, _, _, _) => control(alloc, form, env, names, around, place),
+        | StatementForm::For(_, _) => control(alloc, form, env, names, around, place),
     }
 }
 
@@ -148,10 +148,10 @@ fn control(
             let e = condition_checked(alloc, env, names, e)?;
             Ok(TypedStatementForm::do_loop(alloc, s, e)?)
         }
-        StatementForm::For(a, b, c, s) => {
-            let a = maybe_checked(alloc, env, names, a)?;
-            let b = maybe_condition(alloc, env, names, b)?;
-            let c = maybe_checked(alloc, env, names, c)?;
+        StatementForm::For(clauses, s) => {
+            let a = maybe_checked(alloc, env, names, &clauses.start)?;
+            let b = maybe_condition(alloc, env, names, &clauses.test)?;
+            let c = maybe_checked(alloc, env, names, &clauses.step)?;
             let s = statement(alloc, s, env, names, &around.in_loop())?;
             Ok(TypedStatementForm::for_loop(alloc, a, b, c, s)?)
         }

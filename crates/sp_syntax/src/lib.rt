@@ -19,7 +19,7 @@ mod statement;
 mod tree;
 mod words;
 
-pub use statement::{External, Statement, StatementForm, Unit};
+pub use statement::{External, ForClauses, Statement, StatementForm, Unit};
 pub use tree::{
     Declaration, Declarator, DeclaratorForm, EnumSpec, Expr, ExprForm, Init, InitDeclarator, Param,
     Specifier, StructSpec, TypeName,

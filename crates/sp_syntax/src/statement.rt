@@ -14,6 +14,17 @@ pub struct Statement {
     pub end: Place,
 }
 
+/// What stands between the parentheses of a `for` (C90 6.6.5.3), each of the three where it is given.
+#[derive(Drop)]
+pub struct ForClauses {
+    /// What is evaluated before the first turn.
+    pub start: Option<Expr>,
+    /// What is tested before each turn.
+    pub test: Option<Expr>,
+    /// What is evaluated behind each turn.
+    pub step: Option<Expr>,
+}
+
 /// The forms of statements (C90 6.6.1 to 6.6.6).
 #[derive(Drop)]
 #[cycle(statement)]
@@ -38,8 +49,8 @@ pub enum StatementForm {
     While(Expr, Box<Statement>),
     /// `do s while (e);`
     Do(Box<Statement>, Expr),
-    /// `for (e; e; e) s`, each of the three where it is given.
-    For(Option<Expr>, Option<Expr>, Option<Expr>, Box<Statement>),
+    /// `for (e; e; e) s`
+    For(Box<ForClauses>, Box<Statement>),
     /// `goto name;`
     Goto(u32),
     /// `continue;`

@@ -40,65 +40,14 @@ expressions::read_assignment-returns-then-not-continues_level = read_operators.e
 pub expressions::read_assignment-returns-then-inner-depth : goal.expressions::read_assignment-returns-then-inner-depth
 expressions::read_assignment-returns-then-inner-depth = read_operators.expressions::read_assignment-returns-then-inner-depth
 
-pub expressions::read_assignment-returns-in_err-assigned : goal.expressions::read_assignment-returns-in_err-assigned
-expressions::read_assignment-returns-in_err-assigned = read_operators.expressions::read_assignment-returns-in_err-assigned
-
-pub expressions::read_assignment-returns : goal.expressions::read_assignment-returns
-expressions::read_assignment-returns = read_operators.expressions::read_assignment-returns
-
 pub expressions::read_conditional-returns-then-not-continues_level : goal.expressions::read_conditional-returns-then-not-continues_level
 expressions::read_conditional-returns-then-not-continues_level = read_operators.expressions::read_conditional-returns-then-not-continues_level
 
 pub expressions::read_conditional-returns-then-inner-depth : goal.expressions::read_conditional-returns-then-inner-depth
 expressions::read_conditional-returns-then-inner-depth = read_operators.expressions::read_conditional-returns-then-inner-depth
 
-pub expressions::read_conditional-returns-in_err-first : goal.expressions::read_conditional-returns-in_err-first
-expressions::read_conditional-returns-in_err-first = read_operators.expressions::read_conditional-returns-in_err-first
-
-pub expressions::read_conditional-returns-in_err-rest : goal.expressions::read_conditional-returns-in_err-rest
-expressions::read_conditional-returns-in_err-rest = read_operators.expressions::read_conditional-returns-in_err-rest
-
-pub expressions::read_conditional-returns-in_err-second : goal.expressions::read_conditional-returns-in_err-second
-expressions::read_conditional-returns-in_err-second = read_operators.expressions::read_conditional-returns-in_err-second
-
-pub expressions::read_conditional-returns : goal.expressions::read_conditional-returns
-expressions::read_conditional-returns = read_operators.expressions::read_conditional-returns
-
-pub expressions::read_cast-returns-in_err-part : goal.expressions::read_cast-returns-in_err-part
-expressions::read_cast-returns-in_err-part = read_operators.expressions::read_cast-returns-in_err-part
-
-pub expressions::read_cast-returns-then-not-is_mark : goal.expressions::read_cast-returns-then-not-is_mark
-expressions::read_cast-returns-then-not-is_mark = read_operators.expressions::read_cast-returns-then-not-is_mark
-
 pub expressions::read_cast-returns-then-depth-lt2 : goal.expressions::read_cast-returns-then-depth-lt2
 expressions::read_cast-returns-then-depth-lt2 = read_operators.expressions::read_cast-returns-then-depth-lt2
-
-pub expressions::read_cast-returns-in_err-part-2 : goal.expressions::read_cast-returns-in_err-part-2
-expressions::read_cast-returns-in_err-part-2 = read_operators.expressions::read_cast-returns-in_err-part-2
-
-pub expressions::read_cast-returns-then-not-is_specifier : goal.expressions::read_cast-returns-then-not-is_specifier
-expressions::read_cast-returns-then-not-is_specifier = read_operators.expressions::read_cast-returns-then-not-is_specifier
-
-pub expressions::read_cast-returns-in_err-name : goal.expressions::read_cast-returns-in_err-name
-expressions::read_cast-returns-in_err-name = read_operators.expressions::read_cast-returns-in_err-name
-
-pub expressions::read_cast-returns-in_err-rest : goal.expressions::read_cast-returns-in_err-rest
-expressions::read_cast-returns-in_err-rest = read_operators.expressions::read_cast-returns-in_err-rest
-
-pub expressions::read_cast-returns-in_err-operand : goal.expressions::read_cast-returns-in_err-operand
-expressions::read_cast-returns-in_err-operand = read_operators.expressions::read_cast-returns-in_err-operand
-
-pub expressions::read_cast-returns : goal.expressions::read_cast-returns
-expressions::read_cast-returns = read_operators.expressions::read_cast-returns
-
-pub expressions::read_grouped-returns-in_err-rest : goal.expressions::read_grouped-returns-in_err-rest
-expressions::read_grouped-returns-in_err-rest = read_operators.expressions::read_grouped-returns-in_err-rest
-
-pub expressions::read_grouped-returns-in_err-inner : goal.expressions::read_grouped-returns-in_err-inner
-expressions::read_grouped-returns-in_err-inner = read_operators.expressions::read_grouped-returns-in_err-inner
-
-pub expressions::read_grouped-returns : goal.expressions::read_grouped-returns
-expressions::read_grouped-returns = read_operators.expressions::read_grouped-returns
 
 pub expressions::read_suffixes-returns-then-part-depth : goal.expressions::read_suffixes-returns-then-part-depth
 expressions::read_suffixes-returns-then-part-depth = read_operands.expressions::read_suffixes-returns-then-part-depth
@@ -124,24 +73,6 @@ expressions::read_arguments-arguments-preserved = read_operands.expressions::rea
 pub expressions::read_arguments-returns : goal.expressions::read_arguments-returns
 expressions::read_arguments-returns = read_operands.expressions::read_arguments-returns
 
-pub expressions::read_suffix-returns-in_err-index : goal.expressions::read_suffix-returns-in_err-index
-expressions::read_suffix-returns-in_err-index = read_operands.expressions::read_suffix-returns-in_err-index
-
-pub expressions::read_suffix-returns-in_err-rest : goal.expressions::read_suffix-returns-in_err-rest
-expressions::read_suffix-returns-in_err-rest = read_operands.expressions::read_suffix-returns-in_err-rest
-
-pub expressions::read_suffix-returns-then-is_mark : goal.expressions::read_suffix-returns-then-is_mark
-expressions::read_suffix-returns-then-is_mark = read_operands.expressions::read_suffix-returns-then-is_mark
-
-pub expressions::read_suffix-returns-in_err-arguments : goal.expressions::read_suffix-returns-in_err-arguments
-expressions::read_suffix-returns-in_err-arguments = read_operands.expressions::read_suffix-returns-in_err-arguments
-
-pub expressions::read_suffix-returns-in_err-rest-2 : goal.expressions::read_suffix-returns-in_err-rest-2
-expressions::read_suffix-returns-in_err-rest-2 = read_operands.expressions::read_suffix-returns-in_err-rest-2
-
-pub expressions::read_suffix-returns-then-is_mark-2 : goal.expressions::read_suffix-returns-then-is_mark-2
-expressions::read_suffix-returns-then-is_mark-2 = read_operands.expressions::read_suffix-returns-then-is_mark-2
-
 pub expressions::read_suffix-returns : goal.expressions::read_suffix-returns
 expressions::read_suffix-returns = read_operands.expressions::read_suffix-returns
 
@@ -154,77 +85,14 @@ expressions::read_unary-returns-then-is_mark = read_operands.expressions::read_u
 pub expressions::read_unary-returns-then-is_mark-2 : goal.expressions::read_unary-returns-then-is_mark-2
 expressions::read_unary-returns-then-is_mark-2 = read_operands.expressions::read_unary-returns-then-is_mark-2
 
-pub expressions::read_unary-returns-in_err-operand : goal.expressions::read_unary-returns-in_err-operand
-expressions::read_unary-returns-in_err-operand = read_operands.expressions::read_unary-returns-in_err-operand
-
-pub expressions::read_unary-returns-then-is_mark-3 : goal.expressions::read_unary-returns-then-is_mark-3
-expressions::read_unary-returns-then-is_mark-3 = read_operands.expressions::read_unary-returns-then-is_mark-3
-
-pub expressions::read_unary-returns-in_err-operand-2 : goal.expressions::read_unary-returns-in_err-operand-2
-expressions::read_unary-returns-in_err-operand-2 = read_operands.expressions::read_unary-returns-in_err-operand-2
-
-pub expressions::read_unary-returns-then-is_prefix : goal.expressions::read_unary-returns-then-is_prefix
-expressions::read_unary-returns-then-is_prefix = read_operands.expressions::read_unary-returns-then-is_prefix
-
 pub expressions::read_unary-returns-in_err-part : goal.expressions::read_unary-returns-in_err-part
 expressions::read_unary-returns-in_err-part = read_operands.expressions::read_unary-returns-in_err-part
 
 pub expressions::read_unary-returns : goal.expressions::read_unary-returns
 expressions::read_unary-returns = read_operands.expressions::read_unary-returns
 
-pub expressions::read_after_sizeof-returns-in_err-operand : goal.expressions::read_after_sizeof-returns-in_err-operand
-expressions::read_after_sizeof-returns-in_err-operand = read_operands.expressions::read_after_sizeof-returns-in_err-operand
-
-pub expressions::read_after_sizeof-returns-then-not-is_mark : goal.expressions::read_after_sizeof-returns-then-not-is_mark
-expressions::read_after_sizeof-returns-then-not-is_mark = read_operands.expressions::read_after_sizeof-returns-then-not-is_mark
-
-pub expressions::read_after_sizeof-returns-in_err-operand-2 : goal.expressions::read_after_sizeof-returns-in_err-operand-2
-expressions::read_after_sizeof-returns-in_err-operand-2 = read_operands.expressions::read_after_sizeof-returns-in_err-operand-2
-
-pub expressions::read_after_sizeof-returns-then-not-is_specifier : goal.expressions::read_after_sizeof-returns-then-not-is_specifier
-expressions::read_after_sizeof-returns-then-not-is_specifier = read_operands.expressions::read_after_sizeof-returns-then-not-is_specifier
-
-pub expressions::read_after_sizeof-returns-in_err-name : goal.expressions::read_after_sizeof-returns-in_err-name
-expressions::read_after_sizeof-returns-in_err-name = read_operands.expressions::read_after_sizeof-returns-in_err-name
-
-pub expressions::read_after_sizeof-returns-in_err-rest : goal.expressions::read_after_sizeof-returns-in_err-rest
-expressions::read_after_sizeof-returns-in_err-rest = read_operands.expressions::read_after_sizeof-returns-in_err-rest
-
-pub expressions::read_after_sizeof-returns : goal.expressions::read_after_sizeof-returns
-expressions::read_after_sizeof-returns = read_operands.expressions::read_after_sizeof-returns
-
 pub declarators::read_type_name-returns-in_err-specifiers : goal.declarators::read_type_name-returns-in_err-specifiers
 declarators::read_type_name-returns-in_err-specifiers = read_declarators.declarators::read_type_name-returns-in_err-specifiers
-
-pub declarators::read_type_name-returns-in_err-part : goal.declarators::read_type_name-returns-in_err-part
-declarators::read_type_name-returns-in_err-part = read_declarators.declarators::read_type_name-returns-in_err-part
-
-pub declarators::read_type_name-returns : goal.declarators::read_type_name-returns
-declarators::read_type_name-returns = read_declarators.declarators::read_type_name-returns
-
-pub declarators::read_pointer-returns-in_err-inner : goal.declarators::read_pointer-returns-in_err-inner
-declarators::read_pointer-returns-in_err-inner = read_declarators.declarators::read_pointer-returns-in_err-inner
-
-pub declarators::read_pointer-returns : goal.declarators::read_pointer-returns
-declarators::read_pointer-returns = read_declarators.declarators::read_pointer-returns
-
-pub declarators::read_declarator_after_paren-returns-in_err-parameters : goal.declarators::read_declarator_after_paren-returns-in_err-parameters
-declarators::read_declarator_after_paren-returns-in_err-parameters = read_declarators.declarators::read_declarator_after_paren-returns-in_err-parameters
-
-pub declarators::read_declarator_after_paren-returns-in_err-rest : goal.declarators::read_declarator_after_paren-returns-in_err-rest
-declarators::read_declarator_after_paren-returns-in_err-rest = read_declarators.declarators::read_declarator_after_paren-returns-in_err-rest
-
-pub declarators::read_declarator_after_paren-returns-then-begins_parameters : goal.declarators::read_declarator_after_paren-returns-then-begins_parameters
-declarators::read_declarator_after_paren-returns-then-begins_parameters = read_declarators.declarators::read_declarator_after_paren-returns-then-begins_parameters
-
-pub declarators::read_declarator_after_paren-returns-in_err-inner : goal.declarators::read_declarator_after_paren-returns-in_err-inner
-declarators::read_declarator_after_paren-returns-in_err-inner = read_declarators.declarators::read_declarator_after_paren-returns-in_err-inner
-
-pub declarators::read_declarator_after_paren-returns-in_err-rest-2 : goal.declarators::read_declarator_after_paren-returns-in_err-rest-2
-declarators::read_declarator_after_paren-returns-in_err-rest-2 = read_declarators.declarators::read_declarator_after_paren-returns-in_err-rest-2
-
-pub declarators::read_declarator_after_paren-returns : goal.declarators::read_declarator_after_paren-returns
-declarators::read_declarator_after_paren-returns = read_declarators.declarators::read_declarator_after_paren-returns
 
 pub declarators::read_group-returns-then-begins_deeper : goal.declarators::read_group-returns-then-begins_deeper
 declarators::read_group-returns-then-begins_deeper = read_declarators.declarators::read_group-returns-then-begins_deeper
@@ -301,38 +169,11 @@ declarators::read_declarator-read_declarator_suffixes-requires-2 = read_declarat
 pub declarators::read_parameter-returns-in_err-specifiers : goal.declarators::read_parameter-returns-in_err-specifiers
 declarators::read_parameter-returns-in_err-specifiers = read_parameters.declarators::read_parameter-returns-in_err-specifiers
 
-pub declarators::read_parameter-returns-in_err-part : goal.declarators::read_parameter-returns-in_err-part
-declarators::read_parameter-returns-in_err-part = read_parameters.declarators::read_parameter-returns-in_err-part
-
-pub declarators::read_parameter-returns : goal.declarators::read_parameter-returns
-declarators::read_parameter-returns = read_parameters.declarators::read_parameter-returns
-
 pub declarators::read_length-returns-then-not-begins_expression : goal.declarators::read_length-returns-then-not-begins_expression
 declarators::read_length-returns-then-not-begins_expression = read_parameters.declarators::read_length-returns-then-not-begins_expression
 
-pub declarators::read_length-returns-in_err-length : goal.declarators::read_length-returns-in_err-length
-declarators::read_length-returns-in_err-length = read_parameters.declarators::read_length-returns-in_err-length
-
-pub declarators::read_length-returns : goal.declarators::read_length-returns
-declarators::read_length-returns = read_parameters.declarators::read_length-returns
-
 pub declarators::read_part-returns-then-is_mark : goal.declarators::read_part-returns-then-is_mark
 declarators::read_part-returns-then-is_mark = read_parameters.declarators::read_part-returns-then-is_mark
-
-pub declarators::read_array-returns-in_err-rest : goal.declarators::read_array-returns-in_err-rest
-declarators::read_array-returns-in_err-rest = read_parameters.declarators::read_array-returns-in_err-rest
-
-pub declarators::read_array-returns : goal.declarators::read_array-returns
-declarators::read_array-returns = read_parameters.declarators::read_array-returns
-
-pub declarators::read_part-returns-in_err-parameters : goal.declarators::read_part-returns-in_err-parameters
-declarators::read_part-returns-in_err-parameters = read_parameters.declarators::read_part-returns-in_err-parameters
-
-pub declarators::read_part-returns-in_err-rest : goal.declarators::read_part-returns-in_err-rest
-declarators::read_part-returns-in_err-rest = read_parameters.declarators::read_part-returns-in_err-rest
-
-pub declarators::read_part-returns : goal.declarators::read_part-returns
-declarators::read_part-returns = read_parameters.declarators::read_part-returns
 
 pub declarators::read_parameters-returns-then-not-begins_specifiers : goal.declarators::read_parameters-returns-then-not-begins_specifiers
 declarators::read_parameters-returns-then-not-begins_specifiers = read_parameters.declarators::read_parameters-returns-then-not-begins_specifiers
@@ -474,3 +315,111 @@ specifiers::read_enumeration-returns = read_enumerations.specifiers::read_enumer
 
 pub specifiers::read_constants-returns : goal.specifiers::read_constants-returns
 specifiers::read_constants-returns = read_enumerations.specifiers::read_constants-returns
+
+pub expressions::read_assignment-assigned-requires : goal.expressions::read_assignment-assigned-requires
+expressions::read_assignment-assigned-requires = read_operators.expressions::read_assignment-assigned-requires
+
+pub expressions::read_assignment-returns : goal.expressions::read_assignment-returns
+expressions::read_assignment-returns = read_operators.expressions::read_assignment-returns
+
+pub expressions::read_conditional-until_colon-requires : goal.expressions::read_conditional-until_colon-requires
+expressions::read_conditional-until_colon-requires = read_operators.expressions::read_conditional-until_colon-requires
+
+pub expressions::read_conditional-returns-in_err-first : goal.expressions::read_conditional-returns-in_err-first
+expressions::read_conditional-returns-in_err-first = read_operators.expressions::read_conditional-returns-in_err-first
+
+pub expressions::read_conditional-chosen-requires : goal.expressions::read_conditional-chosen-requires
+expressions::read_conditional-chosen-requires = read_operators.expressions::read_conditional-chosen-requires
+
+pub expressions::read_conditional-returns : goal.expressions::read_conditional-returns
+expressions::read_conditional-returns = read_operators.expressions::read_conditional-returns
+
+pub expressions::read_cast-unary_operand-requires : goal.expressions::read_cast-unary_operand-requires
+expressions::read_cast-unary_operand-requires = read_operators.expressions::read_cast-unary_operand-requires
+
+pub expressions::read_cast-grouped_operand-requires : goal.expressions::read_cast-grouped_operand-requires
+expressions::read_cast-grouped_operand-requires = read_operators.expressions::read_cast-grouped_operand-requires
+
+pub expressions::read_cast-returns-then-not-is_specifier : goal.expressions::read_cast-returns-then-not-is_specifier
+expressions::read_cast-returns-then-not-is_specifier = read_operators.expressions::read_cast-returns-then-not-is_specifier
+
+pub expressions::read_cast-until_target-requires : goal.expressions::read_cast-until_target-requires
+expressions::read_cast-until_target-requires = read_operators.expressions::read_cast-until_target-requires
+
+pub expressions::read_cast-returns-in_err-target : goal.expressions::read_cast-returns-in_err-target
+expressions::read_cast-returns-in_err-target = read_operators.expressions::read_cast-returns-in_err-target
+
+pub expressions::read_cast-converted-requires : goal.expressions::read_cast-converted-requires
+expressions::read_cast-converted-requires = read_operators.expressions::read_cast-converted-requires
+
+pub expressions::read_cast-returns : goal.expressions::read_cast-returns
+expressions::read_cast-returns = read_operators.expressions::read_cast-returns
+
+pub expressions::read_suffix-indexed-requires : goal.expressions::read_suffix-indexed-requires
+expressions::read_suffix-indexed-requires = read_operands.expressions::read_suffix-indexed-requires
+
+pub expressions::read_suffix-called-requires : goal.expressions::read_suffix-called-requires
+expressions::read_suffix-called-requires = read_operands.expressions::read_suffix-called-requires
+
+pub expressions::read_unary-prefixed_unary-requires : goal.expressions::read_unary-prefixed_unary-requires
+expressions::read_unary-prefixed_unary-requires = read_operands.expressions::read_unary-prefixed_unary-requires
+
+pub expressions::read_unary-returns-then-is_mark-3 : goal.expressions::read_unary-returns-then-is_mark-3
+expressions::read_unary-returns-then-is_mark-3 = read_operands.expressions::read_unary-returns-then-is_mark-3
+
+pub expressions::read_unary-prefixed-requires : goal.expressions::read_unary-prefixed-requires
+expressions::read_unary-prefixed-requires = read_operands.expressions::read_unary-prefixed-requires
+
+pub expressions::read_unary-returns-then-is_prefix : goal.expressions::read_unary-returns-then-is_prefix
+expressions::read_unary-returns-then-is_prefix = read_operands.expressions::read_unary-returns-then-is_prefix
+
+pub expressions::read_after_sizeof-measured-requires : goal.expressions::read_after_sizeof-measured-requires
+expressions::read_after_sizeof-measured-requires = read_operands.expressions::read_after_sizeof-measured-requires
+
+pub expressions::read_after_sizeof-measured_group-requires : goal.expressions::read_after_sizeof-measured_group-requires
+expressions::read_after_sizeof-measured_group-requires = read_operands.expressions::read_after_sizeof-measured_group-requires
+
+pub expressions::read_after_sizeof-returns-then-not-is_specifier : goal.expressions::read_after_sizeof-returns-then-not-is_specifier
+expressions::read_after_sizeof-returns-then-not-is_specifier = read_operands.expressions::read_after_sizeof-returns-then-not-is_specifier
+
+pub expressions::read_after_sizeof-measured_type-requires : goal.expressions::read_after_sizeof-measured_type-requires
+expressions::read_after_sizeof-measured_type-requires = read_operands.expressions::read_after_sizeof-measured_type-requires
+
+pub expressions::read_after_sizeof-returns : goal.expressions::read_after_sizeof-returns
+expressions::read_after_sizeof-returns = read_operands.expressions::read_after_sizeof-returns
+
+pub declarators::read_declarator_after_paren-absent_function-requires : goal.declarators::read_declarator_after_paren-absent_function-requires
+declarators::read_declarator_after_paren-absent_function-requires = read_declarators.declarators::read_declarator_after_paren-absent_function-requires
+
+pub declarators::read_declarator_after_paren-enclosed-requires : goal.declarators::read_declarator_after_paren-enclosed-requires
+declarators::read_declarator_after_paren-enclosed-requires = read_declarators.declarators::read_declarator_after_paren-enclosed-requires
+
+pub declarators::read_length-given_length-requires : goal.declarators::read_length-given_length-requires
+declarators::read_length-given_length-requires = read_parameters.declarators::read_length-given_length-requires
+
+pub declarators::read_part-parametered-requires : goal.declarators::read_part-parametered-requires
+declarators::read_part-parametered-requires = read_parameters.declarators::read_part-parametered-requires
+
+pub expressions::read_grouped-closed_group-requires : goal.expressions::read_grouped-closed_group-requires
+expressions::read_grouped-closed_group-requires = read_operators.expressions::read_grouped-closed_group-requires
+
+pub expressions::read_grouped-returns-in_err-group : goal.expressions::read_grouped-returns-in_err-group
+expressions::read_grouped-returns-in_err-group = read_operators.expressions::read_grouped-returns-in_err-group
+
+pub expressions::read_grouped-read_suffixes-requires : goal.expressions::read_grouped-read_suffixes-requires
+expressions::read_grouped-read_suffixes-requires = read_operators.expressions::read_grouped-read_suffixes-requires
+
+pub expressions::read_grouped-returns : goal.expressions::read_grouped-returns
+expressions::read_grouped-returns = read_operators.expressions::read_grouped-returns
+
+pub declarators::read_type_name-type_named-requires : goal.declarators::read_type_name-type_named-requires
+declarators::read_type_name-type_named-requires = read_declarators.declarators::read_type_name-type_named-requires
+
+pub declarators::read_pointer-pointing-requires : goal.declarators::read_pointer-pointing-requires
+declarators::read_pointer-pointing-requires = read_declarators.declarators::read_pointer-pointing-requires
+
+pub declarators::read_parameter-parameter_named-requires : goal.declarators::read_parameter-parameter_named-requires
+declarators::read_parameter-parameter_named-requires = read_parameters.declarators::read_parameter-parameter_named-requires
+
+pub declarators::read_array-arrayed-requires : goal.declarators::read_array-arrayed-requires
+declarators::read_array-arrayed-requires = read_parameters.declarators::read_array-arrayed-requires

@@ -59,4 +59,4 @@ returns c =
     let g = there c.args.context.types.now c.args.context.scope in
     let i = c.declarations.invariant in
     let other = sym (c.begins_specifiers.ensures ∙ ap (λ s. begins_specifiers true c.args.context.scope.in_function s) c.sort_at-sort.ensures) ∙ c.if-not-begins_specifiers.true in
-    steps.declarations_end g [] (map declaration_of c.declarations.all.items) c.args.tokens.now c.declarations.rest.now c.next_token.result.1.now c.next_token.result.0 i.step c.next_token.ensures c.args.depth c.declarations.reached other i.deep i.shallow i.ended i.fewer
+    rw c.shrink_to_fit.ensures.items (steps.declarations_end g [] (map declaration_of c.declarations.all.items) c.args.tokens.now c.declarations.rest.now c.next_token.result.1.now c.next_token.result.0 i.step c.next_token.ensures c.args.depth c.declarations.reached other i.deep i.shallow i.ended i.fewer)

@@ -23,7 +23,7 @@ pub items-init : goal.items-init
 items-init c =
     let g = there c.args.context.types.now c.args.context.scope in
     let first = item_part c.args.first in
-    let all : map item_seen c.push.new.self.items ≡ first.all = ap (λ v. map item_seen v) (c.in_ok-push.ensures.items ∙ ap (λ v. v ++ c.args.first.tree ∷ []) c.new-all.ensures.items) in
+    let all : map item_seen c.push.new.self.items ≡ first.all = ap (λ v. map item_seen v) (c.in_ok-push.ensures.items ∙ ap (λ v. v ++ c.args.first.tree ∷ []) c.in_ok-all.ensures.items) in
     let names : c.add_name.new.names.items ≡ first.names = c.in_ok-add_name.ensures.ok ∙ ap (λ v. v ++ grammar.with_name c.args.first.declares []) c.new-names.ensures.items in
     let same : several (map item_seen c.push.new.self.items) c.add_name.new.names.items (purpose_seen c.args.first.behind) ≡ first = several_same all names refl in
     record {
@@ -73,4 +73,4 @@ returns c =
     let i = c.items.invariant in
     let is = several (map item_seen c.items.all.items) c.items.names.items (purpose_seen c.items.behind) in
     let other = sym (c.is_mark.ensures ∙ ap (λ s. is_mark sorts_there.comma s) c.sort_at.ensures) ∙ c.if-not-is_mark.true in
-    steps.items_end g (item_part c.args.first) is c.args.tokens.now c.items.rest.now c.next_token.result.1.now c.next_token.result.0 i.step c.next_token.ensures c.args.depth c.items.reached other i.deep i.shallow i.ended i.fewer
+    rw c.shrink_to_fit.ensures.items (steps.items_end g (item_part c.args.first) is c.args.tokens.now c.items.rest.now c.next_token.result.1.now c.next_token.result.0 i.step c.next_token.ensures c.args.depth c.items.reached other i.deep i.shallow i.ended i.fewer)

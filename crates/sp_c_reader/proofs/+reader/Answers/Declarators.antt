@@ -1,154 +1,34 @@
 -- The goals of the readers of declarators and type names.
-use Rattle.std.proofs.Common.{◌≡◌, ◌∷◌, false, ◌-◌, length, refl, sym, ap, ◌∙◌, subst, arith, rules}
-use Rattle.std.proofs.lemmas.Result.{err_from_is_err_and, MatchResult-at_ok, MatchResult-at_err}
-use Rattle.sp_syntax.specs.Syntax.{declarator, pointer}
+use Rattle.std.proofs.Common.{◌≡◌, ◌∷◌, false, length, refl, sym, ap, ◌∙◌, subst, arith, rules}
+use Rattle.std.proofs.lemmas.Result.{err_from_is_err_and}
 use Rattle.sp_syntax.specs.View.{declarator_of}
 use Rattle.sp_grammar.specs.CTokens.{is_mark, view}
 use Rattle.sp_grammar.specs.CTokens as sorts_there
 use Rattle.sp_grammar.specs.CTable as grammar
-use Rattle.sp_grammar.specs.CTable.{get}
+use Rattle.sp_grammar.specs.CTable.{get, is_concrete, is_parameters}
 use Rattle.sp_grammar.specs.Table.{done}
 use Rattle.sp_c_tokens.specs.Sorts.{terminal, sort_of, c_tokens}
 use Rattle.sp_c_tokens.specs.Ended.{IsEnded}
-use Rattle.std.specs.Prelude.{is_some}
-use Rattle.sp_c_steps.proofs.Qualifiers.{words_of}
-use Rattle.sp_c_tokens.specs.Scopes.{there, purpose_seen}
+use Rattle.std.specs.Prelude.{not, ◌&&◌, ◌||◌}
+use Rattle.sp_c_tokens.specs.Scopes.{there}
 use Rattle.sp_c_steps.specs.Reading.{IsStop, IsStep}
-use Rattle.sp_c_steps.proofs.Steps.{got, last}
-use Rattle.sp_c_steps.proofs.Parts.{stop_before, stop_part, stop_mark}
+use Rattle.sp_c_steps.proofs.Steps.{got, last, joined, before_at}
+use Rattle.sp_c_steps.proofs.Parts.{stop_before, stop_part, IsOn}
 use Rattle.sp_c_steps.proofs.Marks.{opening_is, star_is}
 use Rattle.sp_c_steps.proofs.ExpressionSteps.{built, first_deep}
-use Rattle.sp_c_steps.specs.Declaring.{form_seen, declared_seen, IsFunction}
-use Rattle.sp_c_steps.proofs.DeclaratorSteps.{type_on, type_made, type_name_read, star_on, direct_on, pointer_result, declared_before, behind_qualifiers, declared_same}
-use Rattle.std.specs.Prelude.{not, ◌&&◌, ◌||◌}
-use Rattle.sp_syntax.specs.declared.tree.DeclaratorForm.TheFolds.{fold-roll-TypeName}
-use Rattle.sp_syntax.specs.Syntax.{type_name}
-use Rattle.sp_syntax.specs.View.{specifiers_of}
-use Rattle.sp_grammar.specs.CTable.{is_concrete, is_parameters}
+use Rattle.sp_c_steps.specs.Declaring.{form_seen, declared_seen, head_name, begins_array, begins_deeper, begins_part}
+use Rattle.sp_c_steps.proofs.DeclaratorSteps.{type_on, type_made, star_on, direct_on, pointer_result, declared_before}
 use Rattle.sp_c_tokens.specs.Makers.{settle, first_place, make_absent}
-use Rattle.sp_c_steps.specs.Declaring.{head_name, begins_array, begins_deeper, begins_part}
-use Rattle.sp_c_steps.proofs.Steps.{joined, before_at}
-use Rattle.sp_c_steps.proofs.Parts.{IsOn}
-use Rattle.sp_c_steps.proofs.DeclaratorParts.{parts_read, part_deep, settled_deep, declared_deep, array_plan, array_deep, array_settled, array_step, array_stop, parameters_seen}
-use Rattle.sp_c_steps.proofs.GroupSteps.{inner_deep, open_stop, open_suffixes, none_named, absent_seen, absent_tree, named_seen, named_settled, named_deep, named_ended, pending_of, absent_more, absent_closing, inner_more, inner_closing, absent_on, inner_on, absent_function, grouped_declarator, group_deeper, group_star_on, group_open_on, group_named_on, group_array_on, group_refused}
+use Rattle.sp_c_steps.proofs.DeclaratorParts.{parts_read, part_deep, settled_deep, declared_deep, array_plan, array_deep, array_settled, array_step, array_stop}
+use Rattle.sp_c_steps.proofs.GroupSteps.{inner_deep, open_stop, open_suffixes, none_named, absent_seen, absent_tree, named_seen, named_settled, named_deep, named_ended, pending_of, group_deeper, group_star_on, group_open_on, group_named_on, group_array_on, group_refused}
 use Rattle.sp_c_reader.proofs.+reader.Goals as goal
+use Rattle.sp_c_closings.specs.Closing.{first_sort}
 
 pub declarators::read_type_name-returns-in_err-specifiers : goal.declarators::read_type_name-returns-in_err-specifiers
 declarators::read_type_name-returns-in_err-specifiers t c =
     let p = err_from_is_err_and c.from_residual.result c.from_residual.ensures.1 in
     let g = there c.args.context.types.now c.args.context.scope in
     rw (p.1, p.2) (stop_part g g g grammar.type_name grammar.type_name (grammar.specifiers false sorts_there.nothing_seen grammar.no_specifiers) (λ a. a) (λ sp. get g (grammar.declarator grammar.abstract) (λ d. done (type_made sp.all d))) c.args.depth c.args.depth c.args.tokens.now c.args.tokens.now (type_on g c.args.tokens.now c.requires.ended) (omega arith) c.in_err-specifiers.field-0.0 c.in_err-specifiers.ensures)
-
-pub declarators::read_type_name-returns-in_err-part : goal.declarators::read_type_name-returns-in_err-part
-declarators::read_type_name-returns-in_err-part t c =
-    let p = err_from_is_err_and c.from_residual-in_err-part.result c.from_residual-in_err-part.ensures.1 in
-    let g = there c.args.context.types.now c.args.context.scope in
-    let h = c.in_ok-specifiers.ensures in
-    rw (p.1, p.2) (stop_part g g g grammar.type_name grammar.type_name (grammar.declarator grammar.abstract) (λ a. a) (λ d. done (type_made h.all d)) c.args.depth c.args.depth c.args.tokens.now c.in_ok-specifiers.specifiers.rest.now (got (type_on g c.args.tokens.now c.requires.ended) h.read.reads) (omega arith) c.in_err-part.field-0.0 (MatchResult-at_err _ _ _ c.in_err-part.ensures c.read_declarator-next.ensures))
-
-pub declarators::read_type_name-returns : goal.declarators::read_type_name-returns
-declarators::read_type_name-returns t c =
-    let g = there c.args.context.types.now c.args.context.scope in
-    let ss = c.in_ok-specifiers.specifiers.tree in
-    let d = c.in_ok-part.part.tree in
-    rw (fold-roll-TypeName, c.in_ok-part.ensures.1) (type_name_read g c.args.depth c.in_ok-specifiers.specifiers.depth c.in_ok-part.part.depth c.max.result c.args.tokens.now c.in_ok-specifiers.specifiers.rest.now c.in_ok-part.part.rest.now ss d c.requires.ended (type_name (specifiers_of ss.all.items) (declarator_of d.tree)) c.in_ok-specifiers.ensures (MatchResult-at_ok _ _ _ c.in_ok-part.ensures.0 c.read_declarator-next.ensures) c.max.ensures refl)
-
-pub declarators::read_pointer-returns-in_err-inner : goal.declarators::read_pointer-returns-in_err-inner
-declarators::read_pointer-returns-in_err-inner t c =
-    let p = err_from_is_err_and c.from_residual-in_err-inner.result c.from_residual-in_err-inner.ensures.1 in
-    let g = there c.args.context.types.now c.args.context.scope in
-    let q = c.in_ok-qualifiers.ensures in
-    rw (p.1, p.2) (behind_qualifiers g (form_seen c.args.form) c.args.depth c.args.tokens.now c.in_ok-qualifiers.rest.now q.all q.reads c.in_err-inner.field-0.0 (MatchResult-at_err _ _ _ c.in_err-inner.ensures c.read_declarator-next.ensures))
-
-pub declarators::read_pointer-returns : goal.declarators::read_pointer-returns
-declarators::read_pointer-returns t c =
-    let q = c.in_ok-qualifiers.ensures in
-    let h = (MatchResult-at_ok _ _ _ c.in_ok-inner.ensures.0 c.read_declarator-next.ensures) in
-    let p = c.in_ok-pointed.ensures in
-    let d = c.in_ok-pointed.field-0 in
-    let star = c.args.star in
-    let behind = c.in_ok-inner.inner.tree in
-    let inner = declared_seen behind h.pending in
-    let made = grammar.pointed (terminal star) q.all inner in
-    let ks = words_of q.all in
-    let words = ap (λ v. declarator (pointer v.items (declarator_of behind.tree)) star.place) c.in_ok-inner.ensures.1 ∙ ap (λ v. declarator (pointer v (declarator_of behind.tree)) star.place) (sym q.same) in
-    record {
-      all = q.all;
-      mid = c.in_ok-qualifiers.rest.now;
-      qualifiers = q.reads;
-      inner = inner;
-      inner_depth = c.in_ok-inner.inner.depth;
-      read = h.read;
-      seen = declared_same (declared_seen d made.tree) made refl p.1 p.2 (ap purpose_seen p.3);
-      settled = p.0 ∙ (words ∙ ap (λ v. declarator (pointer ks v) star.place) h.settled);
-      named = λ e. sym (p.0 ∙ (words ∙ ap (λ v. declarator (pointer ks v) star.place) (sym (h.named (ap is_some (sym p.1) ∙ e)))));
-      deeper = refl;
-      fewer = q.fewer;
-    }
-
-pub declarators::read_declarator_after_paren-returns-in_err-parameters : goal.declarators::read_declarator_after_paren-returns-in_err-parameters
-declarators::read_declarator_after_paren-returns-in_err-parameters t c =
-    let p = err_from_is_err_and c.from_residual.result c.from_residual.ensures.1 in
-    let g = there c.args.context.types.now c.args.context.scope in
-    let f = form_seen c.args.form in
-    let y = terminal c.args.opening in
-    let stands = sym (c.begins_parameters.ensures ∙ ap (λ s. not (is_concrete f) && is_parameters s) c.sort_at.ensures) ∙ c.if-begins_parameters.true in
-    rw (p.1, p.2) (stop_part g g g (grammar.behind_group f y) (grammar.behind_group f y) grammar.parameters (λ a. a) (absent_closing g f y) c.args.depth (c.args.depth - 1) c.args.tokens.now c.args.tokens.now (absent_on g f y c.args.tokens.now c.next_token.result.1.now c.next_token.result.0 c.next_token.ensures stands) (omega arith) c.in_err-parameters.field-0.0 (MatchResult-at_err _ _ _ c.in_err-parameters.ensures c.read_parameters.ensures))
-
-pub declarators::read_declarator_after_paren-returns-in_err-rest : goal.declarators::read_declarator_after_paren-returns-in_err-rest
-declarators::read_declarator_after_paren-returns-in_err-rest t c =
-    let p = err_from_is_err_and c.from_residual-in_err-rest.result c.from_residual-in_err-rest.ensures.1 in
-    let types = c.args.context.types.now in
-    let g = there types c.args.context.scope in
-    let f = form_seen c.args.form in
-    let y = terminal c.args.opening in
-    let h = (MatchResult-at_ok _ _ _ c.in_ok-parameters.ensures.0 c.read_parameters.ensures) in
-    let ps = c.in_ok-parameters.parameters.tree in
-    let stands = sym (c.begins_parameters.ensures ∙ ap (λ s. not (is_concrete f) && is_parameters s) c.sort_at.ensures) ∙ c.if-begins_parameters.true in
-    let on = absent_on g f y c.args.tokens.now c.next_token.result.1.now c.next_token.result.0 c.next_token.ensures stands in
-    rw (p.1, p.2) (stop_mark types c.args.context.scope g (grammar.behind_group f y) (grammar.behind_group f y) (λ a. a) sorts_there.closing ps.behind (absent_more g f y (parameters_seen ps h.pending)) g c.args.depth c.args.tokens.now c.in_ok-parameters.parameters.rest.now (got on h.read.reads) h.read.ended c.in_err-rest.field-0.0 (MatchResult-at_err _ _ _ c.in_err-rest.ensures c.expect-next.ensures))
-
-pub declarators::read_declarator_after_paren-returns-then-begins_parameters : goal.declarators::read_declarator_after_paren-returns-then-begins_parameters
-declarators::read_declarator_after_paren-returns-then-begins_parameters t c =
-    let types = c.args.context.types.now in
-    let g = there types c.args.context.scope in
-    let f = form_seen c.args.form in
-    let y = terminal c.args.opening in
-    let stands = sym (c.begins_parameters.ensures ∙ ap (λ s. not (is_concrete f) && is_parameters s) c.sort_at.ensures) ∙ c.if-begins_parameters.true in
-    let on = absent_on g f y c.args.tokens.now c.next_token.result.1.now c.next_token.result.0 c.next_token.ensures stands in
-    absent_function types c.args.context.scope f c.args.opening c.absent-head.result c.in_ok-function_of.field-0 c.in_ok-parameters.parameters.tree c.args.depth c.in_ok-parameters.parameters.depth c.max.result c.args.tokens.now c.in_ok-parameters.parameters.rest.now c.in_ok-rest.rest.now on c.absent-head.ensures (MatchResult-at_ok _ _ _ c.in_ok-parameters.ensures.0 c.read_parameters.ensures) (MatchResult-at_ok _ _ _ c.in_ok-rest.ensures.0 c.expect-next.ensures) (subst (λ v. IsFunction v c.in_ok-parameters.parameters.tree c.in_ok-function_of.field-0) c.in_ok-parameters.ensures.1 (subst (λ v. IsFunction v.0 v.1 c.in_ok-function_of.field-0) c.in_ok-rest.ensures.1 c.in_ok-function_of.ensures)) c.requires.room c.max.ensures
-
-pub declarators::read_declarator_after_paren-returns-in_err-inner : goal.declarators::read_declarator_after_paren-returns-in_err-inner
-declarators::read_declarator_after_paren-returns-in_err-inner t c =
-    let p = err_from_is_err_and c.from_residual-in_err-inner.result c.from_residual-in_err-inner.ensures.1 in
-    let g = there c.args.context.types.now c.args.context.scope in
-    let f = form_seen c.args.form in
-    let y = terminal c.args.opening in
-    let other = sym (c.begins_parameters.ensures ∙ ap (λ s. not (is_concrete f) && is_parameters s) c.sort_at.ensures) ∙ c.if-begins_parameters.false in
-    rw (p.1, p.2) (stop_part g g g (grammar.behind_group f y) (grammar.behind_group f y) (grammar.group f) (λ a. a) (inner_closing g f y) c.args.depth (c.args.depth - 1) c.args.tokens.now c.args.tokens.now (inner_on g f y c.args.tokens.now c.next_token.result.1.now c.next_token.result.0 c.next_token.ensures other) (omega arith) c.in_err-inner.field-0.0 c.in_err-inner.ensures)
-
-pub declarators::read_declarator_after_paren-returns-in_err-rest-2 : goal.declarators::read_declarator_after_paren-returns-in_err-rest-2
-declarators::read_declarator_after_paren-returns-in_err-rest-2 t c =
-    let p = err_from_is_err_and c.from_residual-in_err-rest-2.result c.from_residual-in_err-rest-2.ensures.1 in
-    let types = c.args.context.types.now in
-    let g = there types c.args.context.scope in
-    let f = form_seen c.args.form in
-    let y = terminal c.args.opening in
-    let h = c.in_ok-inner.ensures in
-    let inner = c.in_ok-inner.inner.tree in
-    let other = sym (c.begins_parameters.ensures ∙ ap (λ s. not (is_concrete f) && is_parameters s) c.sort_at.ensures) ∙ c.if-begins_parameters.false in
-    let on = inner_on g f y c.args.tokens.now c.next_token.result.1.now c.next_token.result.0 c.next_token.ensures other in
-    rw (p.1, p.2) (stop_mark types c.args.context.scope g (grammar.behind_group f y) (grammar.behind_group f y) (λ a. a) sorts_there.closing inner.behind (inner_more g f y (declared_seen inner h.pending)) g c.args.depth c.args.tokens.now c.in_ok-inner.inner.rest.now (got on h.read.reads) h.read.ended c.in_err-rest-2.field-0.0 (MatchResult-at_err _ _ _ c.in_err-rest-2.ensures c.expect-next-2.ensures))
-
-pub declarators::read_declarator_after_paren-returns : goal.declarators::read_declarator_after_paren-returns
-declarators::read_declarator_after_paren-returns t c =
-    let types = c.args.context.types.now in
-    let g = there types c.args.context.scope in
-    let f = form_seen c.args.form in
-    let y = terminal c.args.opening in
-    let other = sym (c.begins_parameters.ensures ∙ ap (λ s. not (is_concrete f) && is_parameters s) c.sort_at.ensures) ∙ c.if-begins_parameters.false in
-    let on = inner_on g f y c.args.tokens.now c.next_token.result.1.now c.next_token.result.0 c.next_token.ensures other in
-    grouped_declarator types c.args.context.scope f c.args.opening c.in_ok-inner.inner.tree c.in_ok-tree.tree c.args.depth c.in_ok-inner.inner.depth c.args.tokens.now c.in_ok-inner.inner.rest.now c.in_ok-rest-2.rest.now on c.in_ok-inner.ensures (MatchResult-at_ok _ _ _ c.in_ok-rest-2.ensures.0 c.expect-next-2.ensures) (rw c.in_ok-rest-2.ensures.1 at c.in_ok-tree.ensures) c.requires.room
 
 pub declarators::read_group-returns-then-begins_deeper : goal.declarators::read_group-returns-then-begins_deeper
 declarators::read_group-returns-then-begins_deeper t c =
@@ -433,3 +313,41 @@ declarators::read_declarator-read_declarator_suffixes-requires-2 t c =
     let part = c.in_ok-head-2.head in
     let deep = declared_deep (first_place part.rest.now) (declarator_of part.tree.tree) h.pending part.depth h.settled h.read.deep in
     (first_of (omega (arith, h.read.fewer), search rules, grind (arith, h.read.fewer)), (h.read.ended, (deep, (h.read.shallow, record { pending = h.pending; settled = h.settled; named = h.named }))))
+
+pub declarators::read_declarator_after_paren-absent_function-requires : goal.declarators::read_declarator_after_paren-absent_function-requires
+declarators::read_declarator_after_paren-absent_function-requires t c =
+    let types = c.args.context.types.now in
+    let f = form_seen c.args.form in
+    record {
+      ended = c.requires.ended;
+      room = c.requires.room;
+      begun = ap (λ v. not (is_concrete f) && is_parameters (first_sort types v)) c.next_token.ensures ∙ sym (c.begins_parameters.ensures ∙ ap (λ s. not (is_concrete f) && is_parameters s) c.sort_at.ensures) ∙ c.if-begins_parameters.true;
+      read = c.read_parameters-parameters.ensures;
+    }
+
+pub declarators::read_declarator_after_paren-enclosed-requires : goal.declarators::read_declarator_after_paren-enclosed-requires
+declarators::read_declarator_after_paren-enclosed-requires t c =
+    let types = c.args.context.types.now in
+    let f = form_seen c.args.form in
+    record {
+      ended = c.requires.ended;
+      room = c.requires.room;
+      begun = ap (λ v. not (is_concrete f) && is_parameters (first_sort types v)) c.next_token.ensures ∙ sym (c.begins_parameters.ensures ∙ ap (λ s. not (is_concrete f) && is_parameters s) c.sort_at.ensures) ∙ c.if-begins_parameters.false;
+      read = c.read_group-inner.ensures;
+    }
+
+pub declarators::read_type_name-type_named-requires : goal.declarators::read_type_name-type_named-requires
+declarators::read_type_name-type_named-requires t c =
+    record {
+      ended = c.requires.ended;
+      specified = c.in_ok-specifiers.ensures;
+      read = c.read_declarator-declared.ensures;
+    }
+
+pub declarators::read_pointer-pointing-requires : goal.declarators::read_pointer-pointing-requires
+declarators::read_pointer-pointing-requires t c =
+    record {
+      room = c.requires.room;
+      qualified = c.in_ok-qualifiers.ensures;
+      read = c.read_declarator-inner.ensures;
+    }

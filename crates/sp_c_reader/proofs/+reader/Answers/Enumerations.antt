@@ -9,7 +9,7 @@ use Rattle.sp_grammar.specs.CTable as grammar
 use Rattle.sp_grammar.specs.Table.{done}
 use Rattle.sp_c_tokens.specs.Sorts.{terminal, sort_of, c_tokens}
 use Rattle.sp_c_tokens.specs.SyntaxTrees.{syntax_trees}
-use Rattle.sp_c_tokens.specs.Makers.{all_enumerators}
+use Rattle.sp_c_tokens.specs.Makers.{all_enumerators, number_of, some_constants}
 use Rattle.sp_c_tokens.specs.Ended.{IsEnded}
 use Rattle.sp_c_tokens.proofs.Settled.{enumerators_snoc}
 use Rattle.sp_c_tokens.specs.declared.scope.AlsoAllowed.TheVariants as purposes
@@ -22,14 +22,11 @@ use Rattle.sp_c_steps.proofs.Parts.{stop_part}
 use Rattle.sp_c_steps.proofs.ExpressionSteps.{built, read_before}
 use Rattle.sp_c_steps.proofs.Suffixes.{ended_name}
 use Rattle.sp_c_steps.proofs.Faulting.{stop_unread, result_before}
-use Rattle.sp_c_steps.specs.Declaring.{constant_seen}
+use Rattle.sp_c_steps.specs.Declaring.{constant_seen, placed}
 use Rattle.sp_c_steps.proofs.EnumeratorSteps.{enumerator_none, enumerator_of, name_no_end, value_step, value_plan, value_deep, name_number}
-use Rattle.sp_c_steps.proofs.ListSteps.{choice_ends, enumerators_on, enumerators_end, enumerators_more, map_more}
+use Rattle.sp_c_steps.proofs.ListSteps.{choice_ends, enumerators_on, enumerators_end, enumerators_more, map_more, choice_taken}
 use Rattle.sp_syntax.specs.Syntax.{enum_specifier, enum_spec}
-use Rattle.sp_c_tokens.specs.Makers.{number_of, some_constants}
-use Rattle.sp_c_steps.specs.Declaring.{placed}
 use Rattle.sp_c_steps.proofs.Marks.{brace_is}
-use Rattle.sp_c_steps.proofs.ListSteps.{choice_taken}
 use Rattle.sp_c_steps.proofs.StructureSteps.{spec_at, constants_result, enum_none, enum_tag_step, enum_brace_on, named_brace_on, named_alone}
 use Rattle.sp_c_reader.proofs.+reader.Goals as goal
 
@@ -37,7 +34,7 @@ pub specifiers::read_enumerators-enumerators-init : goal.specifiers::read_enumer
 specifiers::read_enumerators-enumerators-init t c =
     let g = there c.args.context.types.now c.args.context.scope in
     let first = constant_seen c.args.first ∷ [] in
-    let items = c.in_ok-all.ensures ∙ ap (λ v. v ++ c.args.first ∷ []) c.new.ensures.items in
+    let items = c.in_ok-all.ensures in
     let same : map constant_seen c.in_ok-all.all.items ≡ first = ap (λ v. map constant_seen v) items in
     record {
       step = subst (λ v. IsStep g (grammar.enumerators first) (grammar.enumerators v) (λ a. a) c.args.tokens.now c.args.tokens.now) (sym same) (begun (grammar.at g (grammar.enumerators first)) (c_tokens c.args.tokens.now));

@@ -1,9 +1,9 @@
 -- The goals of the readers of specifiers, structures and members.
 use Rattle.std.proofs.Common.{◌≡◌, ◌==◌, ◌+◌, ◌≤◌, ◌∷◌, ◌++◌, [], map, false, length, Some, None, refl, sym, ap, ◌∙◌, subst, arith, rules}
 use Rattle.std.proofs.lemmas.Result.{err_from_is_err_and, MatchResult-at_ok, MatchResult-at_err}
-use Rattle.sp_syntax.specs.View.{declaration_of, declarations, declarator_of}
+use Rattle.sp_syntax.specs.View.{declaration_of, declarations, declarator_of, specifiers_of, init_declarators}
 use Rattle.sp_syntax.specs.Depth.{declarations_depth}
-use Rattle.sp_grammar.specs.CTokens.{is_mark, is_name, view}
+use Rattle.sp_grammar.specs.CTokens.{is_mark, is_name, view, add}
 use Rattle.sp_grammar.specs.CTokens as sorts_there
 use Rattle.sp_grammar.specs.CTable as grammar
 use Rattle.sp_grammar.specs.CTable.{begins_specifiers}
@@ -23,9 +23,7 @@ use Rattle.sp_c_steps.proofs.ListSteps.{members_on, members_end, members_more, m
 use Rattle.std.specs.Prelude.{max, ◌&&◌, ◌||◌}
 use Rattle.sp_syntax.specs.declared.tree.DeclaratorForm.TheFolds.{fold-roll-Declaration}
 use Rattle.sp_syntax.specs.Syntax.{declaration, struct_specifier, struct_spec}
-use Rattle.sp_syntax.specs.View.{specifiers_of, init_declarators}
 use Rattle.sp_syntax.specs.declared.tree.Specifier.{Named}
-use Rattle.sp_grammar.specs.CTokens.{add}
 use Rattle.sp_c_tokens.specs.Makers.{first_place, number_of, is_union, some_members}
 use Rattle.sp_c_tokens.specs.Codes.{seen_by}
 use Rattle.sp_c_tokens.specs.Expecting.{IsFaultFor}
@@ -43,7 +41,7 @@ pub specifiers::read_members-members-init : goal.specifiers::read_members-member
 specifiers::read_members-members-init t c =
     let g = there c.args.context.types.now c.args.context.scope in
     let first = declaration_of c.args.first ∷ [] in
-    let items = c.in_ok-all.ensures ∙ ap (λ v. v ++ c.args.first ∷ []) c.new.ensures.items in
+    let items = c.in_ok-all.ensures in
     let same : map declaration_of c.in_ok-all.all.items ≡ first = ap (λ v. map declaration_of v) items in
     record {
       step = subst (λ v. IsStep g (grammar.members first) (grammar.members v) (λ a. a) c.args.tokens.now c.args.tokens.now) (sym same) (begun (grammar.at g (grammar.members first)) (c_tokens c.args.tokens.now));
@@ -251,7 +249,7 @@ specifiers::read_member-returns t c =
 pub specifiers::read_items-items-init : goal.specifiers::read_items-items-init
 specifiers::read_items-items-init t c =
     let g = there c.args.context.types.now c.args.context.scope in
-    let items = c.in_ok-all.ensures ∙ ap (λ v. v ++ c.item_of.result ∷ []) c.new.ensures.items in
+    let items = c.in_ok-all.ensures in
     record {
       so_far = first_item g c.args.first c.args.tokens.now c.in_ok-all.all.items c.item_of.result c.closed-purpose.result items c.item_of.ensures c.closed-purpose.ensures;
       deep = first_item_deep c.args.first c.in_ok-all.all.items c.item_of.result c.args.inner items c.item_of.ensures c.requires.deep;

@@ -1,9 +1,9 @@
-use Rattle.std.proofs.Common.{◌≡◌, ◌+◌, ◌-◌, subst, arith}
+use Rattle.std.proofs.Common.{◌-◌, arith}
 use Rattle.std.proofs.lemmas.Result.{err_from_is_err_and}
-use Rattle.sp_grammar.specs.CTable.{tail}
 use Rattle.sp_c_tokens.specs.Scopes.{there}
-use Rattle.sp_c_steps.specs.Reading.{IsStep, operand_seen}
-use Rattle.sp_c_steps.proofs.Tails.{tail_next, tail_stop, tail_done}
+use Rattle.sp_c_steps.specs.Reading.{operand_seen}
+use Rattle.sp_c_steps.proofs.LevelSteps.{tail_reached, tail_stopped}
+use Rattle.sp_c_steps.proofs.Tails.{tail_done}
 use Rattle.sp_c_reader.proofs.expressions.read_tail.Goals as goal
 
 pub returns-in_err-part : goal.returns-in_err-part
@@ -11,21 +11,19 @@ returns-in_err-part c =
     let p = err_from_is_err_and c.from_residual.result c.from_residual.ensures.1 in
     let g = there c.args.context.types.now c.args.context.scope in
     let i = c.levels.invariant in
-    let r = c.levels.reached in
-    rw (p.1, p.2) (tail_stop g (operand_seen c.args.left) (operand_seen c.levels.part.tree) c.args.tokens.now c.levels.part.rest.now (13 - r) (12 - r) (r + 1) (omega (arith, c.levels-test.true)) (omega (arith, c.levels-test.true)) i.step i.ended c.args.depth c.in_err-part.field-0.0 c.in_err-part.ensures)
+    let next = c.next_level-reached in
+    rw (p.1, p.2) (tail_stopped g (operand_seen c.args.left) (operand_seen c.levels.part.tree) c.args.tokens.now c.levels.part.rest.now c.levels.reached next.result i.ended next.ensures.looser next.ensures.within next.ensures.between i.step c.args.depth c.in_err-part.field-0.0 c.in_err-part.ensures)
 
 pub levels-preserved : goal.levels-preserved
 levels-preserved c =
     let g = there c.args.context.types.now c.args.context.scope in
     let i = c.levels.invariant in
-    let r = c.levels.reached in
+    let next = c.next_level-reached in
     let h = c.in_ok-part.ensures in
     let now = c.in_ok-part.part in
-    let left : 12 - r ≡ 13 - (r + 1) = omega (arith, c.levels-test.true) in
-    let next = tail_next g (operand_seen c.args.left) (operand_seen c.levels.part.tree) c.args.tokens.now c.levels.part.rest.now (13 - r) (12 - r) (r + 1) (omega (arith, c.levels-test.true)) (omega (arith, c.levels-test.true)) i.step i.ended (operand_seen now.tree) now.rest.now h.reads in
     record {
-      step = subst (λ v. IsStep g (tail 13 (operand_seen c.args.left)) (tail v (operand_seen now.tree)) (λ a. a) c.args.tokens.now now.rest.now) left next;
-      below = omega (arith, c.levels-test.true);
+      step = tail_reached g (operand_seen c.args.left) (operand_seen c.levels.part.tree) c.args.tokens.now c.levels.part.rest.now c.levels.reached next.result i.ended next.ensures.looser next.ensures.within next.ensures.between i.step (operand_seen now.tree) now.rest.now h.reads;
+      below = next.ensures.within;
       deep = h.deep;
       shallow = h.shallow;
       ended = h.ended;

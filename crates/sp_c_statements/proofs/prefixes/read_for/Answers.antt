@@ -1,4 +1,4 @@
-use Rattle.std.proofs.Common.{refl, ap, ◌∙◌}
+use Rattle.std.proofs.Common.{◌≡◌, refl, ap, ◌∙◌}
 use Rattle.std.specs.Prelude.{max}
 use Rattle.sp_c_statements.proofs.HeadLaws.{ended_behind_head}
 use Rattle.sp_c_statements.specs.declared.heads.Head.TheVariants as heads
@@ -32,7 +32,15 @@ returns-in_err-step c =
 
 pub returns : goal.returns
 returns c =
+    let made = c.in_ok-clauses.clauses in
+    let kept = c.in_ok-step.ensures.1 in
+    let start : made.value.start ≡ c.in_ok-start.start.tree.value = c.in_ok-clauses.ensures.start ∙ ap (λ b. b.0) kept ∙ c.in_ok-test.ensures.1 in
+    let test : made.value.test ≡ c.in_ok-test.test.tree.value = c.in_ok-clauses.ensures.test ∙ ap (λ b. b.1) kept in
     let a = c.in_ok-start.start in
     let b = c.in_ok-test.test in
     let w = c.in_ok-step.step in
-    rw (ap (λ b. b.0) c.in_ok-step.ensures.1, ap (λ b. b.1) c.in_ok-step.ensures.1, c.in_ok-test.ensures.1) (steps.for_read c.args.context.types.now c.args.context.scope c.args.depth c.args.tokens.now c.next_token.result.1.now c.next_token.result.0 c.next_token.ensures c.requires.room c.requires.head c.in_ok-inner.inner.now c.in_ok-inner.ensures a.depth a.tree.value a.rest.now a.tree.end c.in_ok-start.ensures b.depth b.tree.value b.rest.now b.tree.end (MatchResult-at_ok _ _ _ c.in_ok-test.ensures.0 c.read_clause-next.ensures) w.depth c.max-2.result w.tree.value w.rest.now w.tree.end (MatchResult-at_ok _ _ _ c.in_ok-step.ensures.0 c.read_clause-next-2.ensures) (c.max-2.ensures ∙ ap (λ v. max v w.depth) c.max.ensures))
+    steps.for_read c.args.context.types.now c.args.context.scope c.args.depth c.args.tokens.now c.next_token.result.1.now c.next_token.result.0 c.next_token.ensures c.requires.room c.requires.head c.in_ok-inner.inner.now c.in_ok-inner.ensures made a.depth b.depth w.depth c.max-reached.result a.rest.now b.rest.now w.rest.now a.tree.end b.tree.end w.tree.end
+    (rw start c.in_ok-start.ensures)
+    (rw test (MatchResult-at_ok _ _ _ c.in_ok-test.ensures.0 c.read_clause-next.ensures))
+    (rw c.in_ok-clauses.ensures.step (MatchResult-at_ok _ _ _ c.in_ok-step.ensures.0 c.read_clause-next-2.ensures))
+    (c.max-reached.ensures ∙ ap (λ v. max v w.depth) c.max.ensures)

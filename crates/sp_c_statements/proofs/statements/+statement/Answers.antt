@@ -148,4 +148,4 @@ read_statements-statements-preserved t c =
 pub read_statements-returns : goal.read_statements-returns
 read_statements-returns t c =
     let i = c.statements.invariant in
-    steps.statements_end (there c.args.context.types.now c.args.context.scope) [] (map statement_of c.statements.all.items) c.args.tokens.now c.statements.rest.now c.next_token.result.1.now c.next_token.result.0 c.statements.invariant.step c.next_token.ensures c.args.depth c.statements.reached (sym (c.begins_statement.ensures ∙ ap (λ s. begins_expression s || begins_other s) c.sort_at.ensures) ∙ c.if-not-begins_statement.true) i.deep i.shallow i.ended i.fewer
+    rw c.shrink_to_fit.ensures.items (steps.statements_end (there c.args.context.types.now c.args.context.scope) [] (map statement_of c.statements.all.items) c.args.tokens.now c.statements.rest.now c.next_token.result.1.now c.next_token.result.0 c.statements.invariant.step c.next_token.ensures c.args.depth c.statements.reached (sym (c.begins_statement.ensures ∙ ap (λ s. begins_expression s || begins_other s) c.sort_at.ensures) ∙ c.if-not-begins_statement.true) i.deep i.shallow i.ended i.fewer)

@@ -1,4 +1,4 @@
-use Rattle.std.proofs.Common.{◌≡◌, ◌∷◌, refl, sym, ap, ◌∙◌, arith}
+use Rattle.std.proofs.Common.{refl, sym, ap, ◌∙◌, arith}
 use Rattle.sp_grammar.specs.CTokens as sorts_there
 use Rattle.sp_grammar.specs.CTokens.{view}
 use Rattle.sp_grammar.specs.CTable as grammar
