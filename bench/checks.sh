@@ -5,7 +5,7 @@
 set -eu
 top=$(cd "$(dirname "$0")/.." && pwd)
 . "$top/bench/room.sh"
-make_room checks sp_tree sp_syntax sp_grammar sp_c_tokens sp_c_spelling sp_kept sp_c_steps sp_c_closings sp_c_reader sp_c_declarations sp_c_statements \
+make_room checks sp_tree sp_syntax sp_grammar sp_c_tokens sp_c_spelling sp_kept sp_c_steps sp_c_closings sp_c_lists sp_c_reader sp_c_declarations sp_c_statements \
     sp_lexer sp_c_grammar sp_c_units sp_expr_parser sp_decl_parser sp_types sp_operands sp_constants sp_rules sp_unary_rules sp_scopes sp_env sp_member_rules sp_type_rules \
     sp_names sp_expr_steps sp_expr_check sp_initialisers sp_objects sp_declarations sp_formals sp_heads sp_renaming sp_labels sp_mentions sp_statement_rules \
     sp_statement_check sp_units sp_tentative sp_decl_check sp_matching sp_struct_agree sp_struct_match sp_conflicts sp_joining sp_link sp_program

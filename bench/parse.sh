@@ -4,7 +4,7 @@
 set -eu
 top=$(cd "$(dirname "$0")/.." && pwd)
 . "$top/bench/room.sh"
-make_room parse sp_tree sp_syntax sp_grammar sp_c_tokens sp_c_spelling sp_c_grammar sp_kept sp_c_steps sp_c_closings sp_c_reader sp_c_declarations sp_c_statements \
+make_room parse sp_tree sp_syntax sp_grammar sp_c_tokens sp_c_spelling sp_c_grammar sp_kept sp_c_steps sp_c_closings sp_c_lists sp_c_reader sp_c_declarations sp_c_statements \
     sp_lexer sp_expr_parser sp_c_units sp_decl_parser
 mkdir -p "$room/texts"
 python3 "$top/bench/parse_texts.py" "$room/texts"

@@ -9,7 +9,7 @@ ghost use Rattle.sp_c_tokens.specs.Makers.{settle, first_place};
 ghost use Rattle.sp_c_tokens.specs.Ended.{IsEnded};
 ghost use Rattle.sp_c_tokens.specs.Scopes.{context_of};
 ghost use Rattle.sp_c_steps.specs.Reading.{Answers, IsStop, IsTypeName};
-ghost use Rattle.sp_c_steps.specs.Declaring.{form_seen, declared_seen, IsDeclared, IsPointed, IsPointedStop, IsLengthened, IsGiven, AreGiven, IsArrayed, IsArrayStop, IsPending, begins_part};
+ghost use Rattle.sp_c_steps.specs.Declaring.{form_seen, declared_seen, IsDeclared, IsPointed, IsPointedStop, IsLengthened, AreGiven, IsPending, begins_part};
 ghost use Rattle.sp_grammar.specs.CTokens.{view};
 
 use crate::expressions::read_level;
@@ -18,15 +18,16 @@ use sp_c_closings::{
     absent_function, arrayed, enclosed, given_length, parameter_named, parametered, pointing,
     type_named,
 };
+use sp_c_lists::{no_parameters, with_parameter};
 use sp_c_steps::{
     CONDITIONAL, absent, begins_array, begins_deeper, begins_inner, begins_parameters, begins_part,
-    group_fault, head_name, list_of_one, named, read_head, read_qualifiers,
+    group_fault, head_name, named, read_head, read_qualifiers,
 };
 use sp_c_tokens::{
-    AlsoAllowed, Context, DeclaratorKind, Declared, Mark, ParameterPart, Parameters, Part,
-    ReadError, TypeNamePart, begins_expression, begins_specifiers, is_mark, next_token, sort_at,
+    Context, DeclaratorKind, Declared, Mark, Parameters, Part, ReadError, TypeNamePart,
+    begins_expression, is_mark, next_token, sort_at,
 };
-use sp_kept::{keeping, pushed};
+use sp_kept::keeping;
 use sp_syntax::Expr;
 use sp_tree::Token;
 
@@ -168,7 +169,8 @@ fn read_group<'a>(
     }
     if begins_array(form, sort) {
         let head = absent(form, token.place);
-        let part = read_array(context, behind, head, 1, depth)?;
+        let length = read_length(context, behind, depth - 1);
+        let part = arrayed(context, behind, head, 1, depth, length)?;
         let reached = part.depth;
         return read_declarator_suffixes(context, part.rest, part.tree, reached, depth);
     }
@@ -241,31 +243,11 @@ fn read_part<'a>(
         (declared_seen head pending)) depth (opening ∷ tokens.now)) }
 {
     if is_mark(Mark::OpenBracket, sort_at(context.types, opening.kind)) {
-        return read_array(context, tokens, head, reached, depth);
+        let length = read_length(context, tokens, depth - 1);
+        return arrayed(context, tokens, head, reached, depth, length);
     }
     let parameters = read_parameters(context, tokens, depth - 1);
     parametered(context, tokens, opening, head, reached, depth, parameters)
-}
-
-/// Behind a `[` in a declarator: a length or none, and `]`.
-#[cycle(reader)]
-fn read_array<'a>(
-    context: Context<'_>,
-    tokens: &'a [Token],
-    head: Declared,
-    reached: u32,
-    depth: u32,
-) -> Result<Part<'a, Declared>, ReadError<'a>>
-    requires ended { IsEnded tokens.now }
-    requires deep { reached ≡ declarator_depth (declarator_of head.tree) }
-    requires shallow { reached < depth }
-    ensures { MatchResult result
-        (λ part. IsArrayed (context_of context.entry) head depth tokens.now part.tree part.depth
-        part.rest.now)
-        (IsArrayStop (context_of context.entry) context.entry.scope depth tokens.now) }
-{
-    let length = read_length(context, tokens, depth - 1);
-    arrayed(context, tokens, head, reached, depth, length)
 }
 
 /// The length of an array, where there is one. The depth of none is 0.
@@ -305,71 +287,19 @@ fn read_parameters<'a>(
         part.rest.now)
         (IsStop (context_of context.entry) grammar.parameters depth tokens.now) }
 {
-    let (token, _) = next_token(tokens);
-    if !begins_specifiers(
-        true,
-        context.scope.in_function,
-        sort_at(context.types, token.kind),
-    ) {
-        let all = Vec::new(context.alloc);
-        let behind = AlsoAllowed::Parameter;
-        let dots = false;
-        return Ok(Part {
-            tree: Parameters { all, dots, behind },
-            depth: 0,
-            rest: tokens,
-        });
+    let mut parameters = no_parameters(context, tokens, depth);
+    'parameters: while parameters.more {
+        let rest = parameters.rest;
+        let specifiers = read_specifiers(context, rest, true, depth);
+        let (specifiers, read) = keeping(specifiers, parameters)?;
+        let behind = specifiers.rest;
+        let declared = read_declarator(context, behind, DeclaratorKind::Either, depth);
+        let next = parameter_named(context, rest, specifiers, depth, declared);
+        parameters = with_parameter(context, tokens, read, depth, next)?;
     }
-    let first = read_parameter(context, tokens, depth)?;
-    let mut behind = first.tree.behind;
-    let mut reached = first.depth;
-    let mut rest = first.rest;
-    let mut all = list_of_one(context.alloc, first.tree.tree)?;
-    'parameters: loop {
-        let (comma, more) = next_token(rest);
-        if !is_mark(Mark::Comma, sort_at(context.types, comma.kind)) {
-            break;
-        }
-        let (ellipsis, last) = next_token(more);
-        if is_mark(Mark::Ellipsis, sort_at(context.types, ellipsis.kind)) {
-            let behind = AlsoAllowed::Nothing;
-            let dots = true;
-            return Ok(Part {
-                tree: Parameters { all, dots, behind },
-                depth: reached,
-                rest: last,
-            });
-        }
-        let (next, read) = keeping(read_parameter(context, more, depth), all)?;
-        behind = next.tree.behind;
-        reached = reached.max(next.depth);
-        rest = next.rest;
-        all = pushed(read, next.tree.tree)?;
-    }
-    let dots = false;
     Ok(Part {
-        tree: Parameters { all, dots, behind },
-        depth: reached,
-        rest,
+        tree: parameters.given,
+        depth: parameters.depth,
+        rest: parameters.rest,
     })
-}
-
-/// A parameter.
-#[cycle(reader)]
-fn read_parameter<'a>(
-    context: Context<'_>,
-    tokens: &'a [Token],
-    depth: u32,
-) -> Result<Part<'a, ParameterPart>, ReadError<'a>>
-    requires ended { IsEnded tokens.now }
-    requires room { 1 ≤ depth }
-    ensures { MatchResult result
-        (λ part. IsGiven (context_of context.entry) depth tokens.now part.tree.tree
-        part.tree.behind part.depth part.rest.now)
-        (IsStop (context_of context.entry) grammar.parameter depth tokens.now) }
-{
-    let specifiers = read_specifiers(context, tokens, true, depth)?;
-    let behind = specifiers.rest;
-    let declared = read_declarator(context, behind, DeclaratorKind::Either, depth);
-    parameter_named(context, tokens, specifiers, depth, declared)
 }

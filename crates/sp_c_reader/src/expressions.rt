@@ -15,15 +15,16 @@ use sp_c_closings::{
     measured_group, measured_type, prefixed, prefixed_unary, unary_operand, until_colon,
     until_target,
 };
+use sp_c_lists::{no_arguments, with_argument};
 use sp_c_steps::{
-    ASSIGNMENT, COMMA, CONDITIONAL, begins_nested, is_prefix, is_suffix, joined, list_of_one,
-    next_level, read_member_or_step, read_operand,
+    ASSIGNMENT, COMMA, CONDITIONAL, begins_nested, is_prefix, is_suffix, joined, next_level,
+    read_member_or_step, read_operand,
 };
 use sp_c_tokens::{
-    Context, Mark, Operand, Part, ReadError, begins_expression, continues_level, is_mark,
-    is_specifier, next_token, sort_at,
+    Context, Mark, Operand, Part, ReadError, continues_level, is_mark, is_specifier, next_token,
+    sort_at,
 };
-use sp_kept::{keeping, pushed};
+use sp_kept::keeping;
 use sp_syntax::Expr;
 use sp_tree::Token;
 
@@ -108,11 +109,8 @@ fn read_operators<'a>(
     ensures { Answers (context_of context.entry) (grammar.after level (operand_seen left)) depth
         tokens.now operand_seen result }
 {
-    if level == ASSIGNMENT {
-        return read_assignment(context, tokens, left, inner, depth);
-    }
-    if level == CONDITIONAL {
-        return read_conditional(context, tokens, left, inner, depth);
+    if level == ASSIGNMENT || level == CONDITIONAL {
+        return read_right_operand(context, tokens, level, left, inner, depth);
     }
     let Operand {
         mut tree,
@@ -143,23 +141,27 @@ fn read_operators<'a>(
     })
 }
 
-/// Behind a left part: an assignment, where the left part is a unary expression.
+/// Behind a left part: an assignment, where the left part is a unary expression, or the `?` of a
+/// conditional expression.
 #[cycle(reader)]
-fn read_assignment<'a>(
+fn read_right_operand<'a>(
     context: Context<'_>,
     tokens: &'a [Token],
+    level: u32,
     left: Operand,
     inner: u32,
     depth: u32,
 ) -> Result<Part<'a, Operand>, ReadError<'a>>
     requires ended { IsEnded tokens.now }
+    requires tightest { 11 ≤ level }
+    requires loosest { level ≤ 12 }
     requires deep { inner ≡ depth_of (tree_of left.tree) }
     requires shallow { inner ≤ depth }
-    ensures { Answers (context_of context.entry) (grammar.after 12 (operand_seen left)) depth tokens.now
-        operand_seen result }
+    ensures { Answers (context_of context.entry) (grammar.after level (operand_seen left)) depth
+        tokens.now operand_seen result }
 {
     let (token, behind) = next_token(tokens);
-    if !continues_level(ASSIGNMENT, left.unary, sort_at(context.types, token.kind)) {
+    if !continues_level(level, left.unary, sort_at(context.types, token.kind)) {
         return Ok(Part {
             tree: left,
             depth: inner,
@@ -170,36 +172,9 @@ fn read_assignment<'a>(
         drop(left);
         return Err(ReadError::TooDeep(tokens));
     }
-    let value = read_level(context, behind, ASSIGNMENT, depth - 1);
-    assigned(context, behind, token, left, inner, depth, value)
-}
-
-/// Behind a left part: the `?` of a conditional expression.
-#[cycle(reader)]
-fn read_conditional<'a>(
-    context: Context<'_>,
-    tokens: &'a [Token],
-    left: Operand,
-    inner: u32,
-    depth: u32,
-) -> Result<Part<'a, Operand>, ReadError<'a>>
-    requires ended { IsEnded tokens.now }
-    requires deep { inner ≡ depth_of (tree_of left.tree) }
-    requires shallow { inner ≤ depth }
-    ensures { Answers (context_of context.entry) (grammar.after 11 (operand_seen left)) depth tokens.now
-        operand_seen result }
-{
-    let (token, behind) = next_token(tokens);
-    if !continues_level(CONDITIONAL, left.unary, sort_at(context.types, token.kind)) {
-        return Ok(Part {
-            tree: left,
-            depth: inner,
-            rest: tokens,
-        });
-    }
-    if inner >= depth {
-        drop(left);
-        return Err(ReadError::TooDeep(tokens));
+    if level == ASSIGNMENT {
+        let value = read_level(context, behind, ASSIGNMENT, depth - 1);
+        return assigned(context, behind, token, left, inner, depth, value);
     }
     let first = read_level(context, behind, COMMA, depth - 1);
     let (first, left) = until_colon(context, behind, token, left, depth, first)?;
@@ -394,31 +369,14 @@ fn read_arguments<'a>(
     ensures { Answers (context_of context.entry) grammar.arguments depth tokens.now
         (λ all. map tree_of all.items) result }
 {
-    let (token, _) = next_token(tokens);
-    if !begins_expression(sort_at(context.types, token.kind)) {
-        return Ok(Part {
-            tree: Vec::new(context.alloc),
-            depth: 0,
-            rest: tokens,
-        });
-    }
-    let first = read_level(context, tokens, ASSIGNMENT, depth)?;
-    let mut all = list_of_one(context.alloc, first.tree.tree)?;
-    let mut reached = first.depth;
-    let mut rest = first.rest;
-    'arguments: loop {
-        let (token, behind) = next_token(rest);
-        if !is_mark(Mark::Comma, sort_at(context.types, token.kind)) {
-            break;
-        }
-        let (next, read) = keeping(read_level(context, behind, ASSIGNMENT, depth), all)?;
-        all = pushed(read, next.tree.tree)?;
-        reached = reached.max(next.depth);
-        rest = next.rest;
+    let mut arguments = no_arguments(context, tokens, depth);
+    'arguments: while arguments.more {
+        let next = read_level(context, arguments.rest, ASSIGNMENT, depth);
+        arguments = with_argument(context, tokens, arguments, depth, next)?;
     }
     Ok(Part {
-        tree: all,
-        depth: reached,
-        rest,
+        tree: arguments.all,
+        depth: arguments.depth,
+        rest: arguments.rest,
     })
 }

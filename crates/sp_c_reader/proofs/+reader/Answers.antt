@@ -4,13 +4,13 @@ mod Operands
 mod Declarators
 mod Parameters
 mod Specifiers
-mod Enumerations
+mod Lists
 use Rattle.sp_c_reader.proofs.+reader.Answers.Operators as read_operators
 use Rattle.sp_c_reader.proofs.+reader.Answers.Operands as read_operands
 use Rattle.sp_c_reader.proofs.+reader.Answers.Declarators as read_declarators
 use Rattle.sp_c_reader.proofs.+reader.Answers.Parameters as read_parameters
 use Rattle.sp_c_reader.proofs.+reader.Answers.Specifiers as read_specifiers
-use Rattle.sp_c_reader.proofs.+reader.Answers.Enumerations as read_enumerations
+use Rattle.sp_c_reader.proofs.+reader.Answers.Lists as read_lists
 use Rattle.sp_c_reader.proofs.+reader.Goals as goal
 
 pub expressions::read_level-returns-in_err-part : goal.expressions::read_level-returns-in_err-part
@@ -34,44 +34,53 @@ expressions::read_operators-operators-preserved = read_operators.expressions::re
 pub expressions::read_operators-returns : goal.expressions::read_operators-returns
 expressions::read_operators-returns = read_operators.expressions::read_operators-returns
 
-pub expressions::read_assignment-returns-then-not-continues_level : goal.expressions::read_assignment-returns-then-not-continues_level
-expressions::read_assignment-returns-then-not-continues_level = read_operators.expressions::read_assignment-returns-then-not-continues_level
-
-pub expressions::read_assignment-returns-then-inner-depth : goal.expressions::read_assignment-returns-then-inner-depth
-expressions::read_assignment-returns-then-inner-depth = read_operators.expressions::read_assignment-returns-then-inner-depth
-
-pub expressions::read_conditional-returns-then-not-continues_level : goal.expressions::read_conditional-returns-then-not-continues_level
-expressions::read_conditional-returns-then-not-continues_level = read_operators.expressions::read_conditional-returns-then-not-continues_level
-
-pub expressions::read_conditional-returns-then-inner-depth : goal.expressions::read_conditional-returns-then-inner-depth
-expressions::read_conditional-returns-then-inner-depth = read_operators.expressions::read_conditional-returns-then-inner-depth
-
 pub expressions::read_cast-returns-then-depth-lt2 : goal.expressions::read_cast-returns-then-depth-lt2
 expressions::read_cast-returns-then-depth-lt2 = read_operators.expressions::read_cast-returns-then-depth-lt2
+
+pub expressions::read_cast-unary_operand-requires : goal.expressions::read_cast-unary_operand-requires
+expressions::read_cast-unary_operand-requires = read_operators.expressions::read_cast-unary_operand-requires
+
+pub expressions::read_cast-grouped_operand-requires : goal.expressions::read_cast-grouped_operand-requires
+expressions::read_cast-grouped_operand-requires = read_operators.expressions::read_cast-grouped_operand-requires
+
+pub expressions::read_cast-returns-then-not-is_specifier : goal.expressions::read_cast-returns-then-not-is_specifier
+expressions::read_cast-returns-then-not-is_specifier = read_operators.expressions::read_cast-returns-then-not-is_specifier
+
+pub expressions::read_cast-until_target-requires : goal.expressions::read_cast-until_target-requires
+expressions::read_cast-until_target-requires = read_operators.expressions::read_cast-until_target-requires
+
+pub expressions::read_cast-returns-in_err-target : goal.expressions::read_cast-returns-in_err-target
+expressions::read_cast-returns-in_err-target = read_operators.expressions::read_cast-returns-in_err-target
+
+pub expressions::read_cast-converted-requires : goal.expressions::read_cast-converted-requires
+expressions::read_cast-converted-requires = read_operators.expressions::read_cast-converted-requires
+
+pub expressions::read_cast-returns : goal.expressions::read_cast-returns
+expressions::read_cast-returns = read_operators.expressions::read_cast-returns
+
+pub expressions::read_grouped-closed_group-requires : goal.expressions::read_grouped-closed_group-requires
+expressions::read_grouped-closed_group-requires = read_operators.expressions::read_grouped-closed_group-requires
+
+pub expressions::read_grouped-returns-in_err-group : goal.expressions::read_grouped-returns-in_err-group
+expressions::read_grouped-returns-in_err-group = read_operators.expressions::read_grouped-returns-in_err-group
+
+pub expressions::read_grouped-read_suffixes-requires : goal.expressions::read_grouped-read_suffixes-requires
+expressions::read_grouped-read_suffixes-requires = read_operators.expressions::read_grouped-read_suffixes-requires
+
+pub expressions::read_grouped-returns : goal.expressions::read_grouped-returns
+expressions::read_grouped-returns = read_operators.expressions::read_grouped-returns
+
+pub expressions::read_right_operand-returns-then-not-continues_level : goal.expressions::read_right_operand-returns-then-not-continues_level
+expressions::read_right_operand-returns-then-not-continues_level = read_operators.expressions::read_right_operand-returns-then-not-continues_level
+
+pub expressions::read_right_operand-returns-then-inner-depth : goal.expressions::read_right_operand-returns-then-inner-depth
+expressions::read_right_operand-returns-then-inner-depth = read_operators.expressions::read_right_operand-returns-then-inner-depth
 
 pub expressions::read_suffixes-returns-then-part-depth : goal.expressions::read_suffixes-returns-then-part-depth
 expressions::read_suffixes-returns-then-part-depth = read_operands.expressions::read_suffixes-returns-then-part-depth
 
 pub expressions::read_suffixes-returns : goal.expressions::read_suffixes-returns
 expressions::read_suffixes-returns = read_operands.expressions::read_suffixes-returns
-
-pub expressions::read_arguments-returns-then-not-begins_expression : goal.expressions::read_arguments-returns-then-not-begins_expression
-expressions::read_arguments-returns-then-not-begins_expression = read_operands.expressions::read_arguments-returns-then-not-begins_expression
-
-pub expressions::read_arguments-returns-in_err-first : goal.expressions::read_arguments-returns-in_err-first
-expressions::read_arguments-returns-in_err-first = read_operands.expressions::read_arguments-returns-in_err-first
-
-pub expressions::read_arguments-arguments-init : goal.expressions::read_arguments-arguments-init
-expressions::read_arguments-arguments-init = read_operands.expressions::read_arguments-arguments-init
-
-pub expressions::read_arguments-returns-in_err-next : goal.expressions::read_arguments-returns-in_err-next
-expressions::read_arguments-returns-in_err-next = read_operands.expressions::read_arguments-returns-in_err-next
-
-pub expressions::read_arguments-arguments-preserved : goal.expressions::read_arguments-arguments-preserved
-expressions::read_arguments-arguments-preserved = read_operands.expressions::read_arguments-arguments-preserved
-
-pub expressions::read_arguments-returns : goal.expressions::read_arguments-returns
-expressions::read_arguments-returns = read_operands.expressions::read_arguments-returns
 
 pub expressions::read_suffix-returns : goal.expressions::read_suffix-returns
 expressions::read_suffix-returns = read_operands.expressions::read_suffix-returns
@@ -90,6 +99,39 @@ expressions::read_unary-returns-in_err-part = read_operands.expressions::read_un
 
 pub expressions::read_unary-returns : goal.expressions::read_unary-returns
 expressions::read_unary-returns = read_operands.expressions::read_unary-returns
+
+pub expressions::read_suffix-indexed-requires : goal.expressions::read_suffix-indexed-requires
+expressions::read_suffix-indexed-requires = read_operands.expressions::read_suffix-indexed-requires
+
+pub expressions::read_suffix-called-requires : goal.expressions::read_suffix-called-requires
+expressions::read_suffix-called-requires = read_operands.expressions::read_suffix-called-requires
+
+pub expressions::read_unary-prefixed_unary-requires : goal.expressions::read_unary-prefixed_unary-requires
+expressions::read_unary-prefixed_unary-requires = read_operands.expressions::read_unary-prefixed_unary-requires
+
+pub expressions::read_unary-returns-then-is_mark-3 : goal.expressions::read_unary-returns-then-is_mark-3
+expressions::read_unary-returns-then-is_mark-3 = read_operands.expressions::read_unary-returns-then-is_mark-3
+
+pub expressions::read_unary-prefixed-requires : goal.expressions::read_unary-prefixed-requires
+expressions::read_unary-prefixed-requires = read_operands.expressions::read_unary-prefixed-requires
+
+pub expressions::read_unary-returns-then-is_prefix : goal.expressions::read_unary-returns-then-is_prefix
+expressions::read_unary-returns-then-is_prefix = read_operands.expressions::read_unary-returns-then-is_prefix
+
+pub expressions::read_after_sizeof-measured-requires : goal.expressions::read_after_sizeof-measured-requires
+expressions::read_after_sizeof-measured-requires = read_operands.expressions::read_after_sizeof-measured-requires
+
+pub expressions::read_after_sizeof-measured_group-requires : goal.expressions::read_after_sizeof-measured_group-requires
+expressions::read_after_sizeof-measured_group-requires = read_operands.expressions::read_after_sizeof-measured_group-requires
+
+pub expressions::read_after_sizeof-returns-then-not-is_specifier : goal.expressions::read_after_sizeof-returns-then-not-is_specifier
+expressions::read_after_sizeof-returns-then-not-is_specifier = read_operands.expressions::read_after_sizeof-returns-then-not-is_specifier
+
+pub expressions::read_after_sizeof-measured_type-requires : goal.expressions::read_after_sizeof-measured_type-requires
+expressions::read_after_sizeof-measured_type-requires = read_operands.expressions::read_after_sizeof-measured_type-requires
+
+pub expressions::read_after_sizeof-returns : goal.expressions::read_after_sizeof-returns
+expressions::read_after_sizeof-returns = read_operands.expressions::read_after_sizeof-returns
 
 pub declarators::read_type_name-returns-in_err-specifiers : goal.declarators::read_type_name-returns-in_err-specifiers
 declarators::read_type_name-returns-in_err-specifiers = read_declarators.declarators::read_type_name-returns-in_err-specifiers
@@ -166,8 +208,17 @@ declarators::read_declarator-read_declarator_suffixes-requires = read_declarator
 pub declarators::read_declarator-read_declarator_suffixes-requires-2 : goal.declarators::read_declarator-read_declarator_suffixes-requires-2
 declarators::read_declarator-read_declarator_suffixes-requires-2 = read_declarators.declarators::read_declarator-read_declarator_suffixes-requires-2
 
-pub declarators::read_parameter-returns-in_err-specifiers : goal.declarators::read_parameter-returns-in_err-specifiers
-declarators::read_parameter-returns-in_err-specifiers = read_parameters.declarators::read_parameter-returns-in_err-specifiers
+pub declarators::read_declarator_after_paren-absent_function-requires : goal.declarators::read_declarator_after_paren-absent_function-requires
+declarators::read_declarator_after_paren-absent_function-requires = read_declarators.declarators::read_declarator_after_paren-absent_function-requires
+
+pub declarators::read_declarator_after_paren-enclosed-requires : goal.declarators::read_declarator_after_paren-enclosed-requires
+declarators::read_declarator_after_paren-enclosed-requires = read_declarators.declarators::read_declarator_after_paren-enclosed-requires
+
+pub declarators::read_type_name-type_named-requires : goal.declarators::read_type_name-type_named-requires
+declarators::read_type_name-type_named-requires = read_declarators.declarators::read_type_name-type_named-requires
+
+pub declarators::read_pointer-pointing-requires : goal.declarators::read_pointer-pointing-requires
+declarators::read_pointer-pointing-requires = read_declarators.declarators::read_pointer-pointing-requires
 
 pub declarators::read_length-returns-then-not-begins_expression : goal.declarators::read_length-returns-then-not-begins_expression
 declarators::read_length-returns-then-not-begins_expression = read_parameters.declarators::read_length-returns-then-not-begins_expression
@@ -175,38 +226,14 @@ declarators::read_length-returns-then-not-begins_expression = read_parameters.de
 pub declarators::read_part-returns-then-is_mark : goal.declarators::read_part-returns-then-is_mark
 declarators::read_part-returns-then-is_mark = read_parameters.declarators::read_part-returns-then-is_mark
 
-pub declarators::read_parameters-returns-then-not-begins_specifiers : goal.declarators::read_parameters-returns-then-not-begins_specifiers
-declarators::read_parameters-returns-then-not-begins_specifiers = read_parameters.declarators::read_parameters-returns-then-not-begins_specifiers
+pub declarators::read_length-given_length-requires : goal.declarators::read_length-given_length-requires
+declarators::read_length-given_length-requires = read_parameters.declarators::read_length-given_length-requires
 
-pub declarators::read_parameters-returns-in_err-first : goal.declarators::read_parameters-returns-in_err-first
-declarators::read_parameters-returns-in_err-first = read_parameters.declarators::read_parameters-returns-in_err-first
+pub declarators::read_part-parametered-requires : goal.declarators::read_part-parametered-requires
+declarators::read_part-parametered-requires = read_parameters.declarators::read_part-parametered-requires
 
-pub declarators::read_parameters-parameters-init : goal.declarators::read_parameters-parameters-init
-declarators::read_parameters-parameters-init = read_parameters.declarators::read_parameters-parameters-init
-
-pub declarators::read_parameters-returns-then-is_mark : goal.declarators::read_parameters-returns-then-is_mark
-declarators::read_parameters-returns-then-is_mark = read_parameters.declarators::read_parameters-returns-then-is_mark
-
-pub declarators::read_parameters-returns-in_err-next : goal.declarators::read_parameters-returns-in_err-next
-declarators::read_parameters-returns-in_err-next = read_parameters.declarators::read_parameters-returns-in_err-next
-
-pub declarators::read_parameters-parameters-preserved : goal.declarators::read_parameters-parameters-preserved
-declarators::read_parameters-parameters-preserved = read_parameters.declarators::read_parameters-parameters-preserved
-
-pub declarators::read_parameters-returns : goal.declarators::read_parameters-returns
-declarators::read_parameters-returns = read_parameters.declarators::read_parameters-returns
-
-pub specifiers::read_members-members-init : goal.specifiers::read_members-members-init
-specifiers::read_members-members-init = read_specifiers.specifiers::read_members-members-init
-
-pub specifiers::read_members-returns-in_err-next : goal.specifiers::read_members-returns-in_err-next
-specifiers::read_members-returns-in_err-next = read_specifiers.specifiers::read_members-returns-in_err-next
-
-pub specifiers::read_members-members-preserved : goal.specifiers::read_members-members-preserved
-specifiers::read_members-members-preserved = read_specifiers.specifiers::read_members-members-preserved
-
-pub specifiers::read_members-returns : goal.specifiers::read_members-returns
-specifiers::read_members-returns = read_specifiers.specifiers::read_members-returns
+pub declarators::read_part-arrayed-requires : goal.declarators::read_part-arrayed-requires
+declarators::read_part-arrayed-requires = read_parameters.declarators::read_part-arrayed-requires
 
 pub specifiers::read_specifiers-returns-then-is_too_deep : goal.specifiers::read_specifiers-returns-then-is_too_deep
 specifiers::read_specifiers-returns-then-is_too_deep = read_specifiers.specifiers::read_specifiers-returns-then-is_too_deep
@@ -223,203 +250,137 @@ specifiers::read_specifiers-returns-then-not-is_typed = read_specifiers.specifie
 pub specifiers::read_specifiers-returns : goal.specifiers::read_specifiers-returns
 specifiers::read_specifiers-returns = read_specifiers.specifiers::read_specifiers-returns
 
-pub specifiers::read_structure-returns-then-depth-lt2 : goal.specifiers::read_structure-returns-then-depth-lt2
-specifiers::read_structure-returns-then-depth-lt2 = read_specifiers.specifiers::read_structure-returns-then-depth-lt2
+pub expressions::read_arguments-read_level-next-requires : goal.expressions::read_arguments-read_level-next-requires
+expressions::read_arguments-read_level-next-requires = read_lists.expressions::read_arguments-read_level-next-requires
 
-pub specifiers::read_structure-returns-then-is_mark : goal.specifiers::read_structure-returns-then-is_mark
-specifiers::read_structure-returns-then-is_mark = read_specifiers.specifiers::read_structure-returns-then-is_mark
+pub expressions::read_arguments-with_argument-requires : goal.expressions::read_arguments-with_argument-requires
+expressions::read_arguments-with_argument-requires = read_lists.expressions::read_arguments-with_argument-requires
 
-pub specifiers::read_structure-returns-in_default : goal.specifiers::read_structure-returns-in_default
-specifiers::read_structure-returns-in_default = read_specifiers.specifiers::read_structure-returns-in_default
+pub expressions::read_arguments-returns-in_err-arguments : goal.expressions::read_arguments-returns-in_err-arguments
+expressions::read_arguments-returns-in_err-arguments = read_lists.expressions::read_arguments-returns-in_err-arguments
+
+pub expressions::read_arguments-arguments-smaller : goal.expressions::read_arguments-arguments-smaller
+expressions::read_arguments-arguments-smaller = read_lists.expressions::read_arguments-arguments-smaller
+
+pub expressions::read_arguments-arguments-preserved : goal.expressions::read_arguments-arguments-preserved
+expressions::read_arguments-arguments-preserved = read_lists.expressions::read_arguments-arguments-preserved
+
+pub expressions::read_arguments-returns : goal.expressions::read_arguments-returns
+expressions::read_arguments-returns = read_lists.expressions::read_arguments-returns
+
+pub declarators::read_parameters-read_specifiers-specifiers-requires : goal.declarators::read_parameters-read_specifiers-specifiers-requires
+declarators::read_parameters-read_specifiers-specifiers-requires = read_lists.declarators::read_parameters-read_specifiers-specifiers-requires
+
+pub declarators::read_parameters-returns-in_err-specifiers : goal.declarators::read_parameters-returns-in_err-specifiers
+declarators::read_parameters-returns-in_err-specifiers = read_lists.declarators::read_parameters-returns-in_err-specifiers
+
+pub declarators::read_parameters-read_declarator-declared-requires : goal.declarators::read_parameters-read_declarator-declared-requires
+declarators::read_parameters-read_declarator-declared-requires = read_lists.declarators::read_parameters-read_declarator-declared-requires
+
+pub declarators::read_parameters-parameter_named-next-requires : goal.declarators::read_parameters-parameter_named-next-requires
+declarators::read_parameters-parameter_named-next-requires = read_lists.declarators::read_parameters-parameter_named-next-requires
+
+pub declarators::read_parameters-with_parameter-requires : goal.declarators::read_parameters-with_parameter-requires
+declarators::read_parameters-with_parameter-requires = read_lists.declarators::read_parameters-with_parameter-requires
+
+pub declarators::read_parameters-returns-in_err-parameters : goal.declarators::read_parameters-returns-in_err-parameters
+declarators::read_parameters-returns-in_err-parameters = read_lists.declarators::read_parameters-returns-in_err-parameters
+
+pub declarators::read_parameters-parameters-smaller : goal.declarators::read_parameters-parameters-smaller
+declarators::read_parameters-parameters-smaller = read_lists.declarators::read_parameters-parameters-smaller
+
+pub declarators::read_parameters-parameters-preserved : goal.declarators::read_parameters-parameters-preserved
+declarators::read_parameters-parameters-preserved = read_lists.declarators::read_parameters-parameters-preserved
+
+pub declarators::read_parameters-returns : goal.declarators::read_parameters-returns
+declarators::read_parameters-returns = read_lists.declarators::read_parameters-returns
+
+pub specifiers::read_specifier-returns-in_err-head : goal.specifiers::read_specifier-returns-in_err-head
+specifiers::read_specifier-returns-in_err-head = read_lists.specifiers::read_specifier-returns-in_err-head
+
+pub specifiers::read_specifier-read_members-requires : goal.specifiers::read_specifier-read_members-requires
+specifiers::read_specifier-read_members-requires = read_lists.specifiers::read_specifier-read_members-requires
+
+pub specifiers::read_specifier-read_constants-requires : goal.specifiers::read_specifier-read_constants-requires
+specifiers::read_specifier-read_constants-requires = read_lists.specifiers::read_specifier-read_constants-requires
+
+pub specifiers::read_specifier-whole_specifier-requires : goal.specifiers::read_specifier-whole_specifier-requires
+specifiers::read_specifier-whole_specifier-requires = read_lists.specifiers::read_specifier-whole_specifier-requires
+
+pub specifiers::read_members-no_members-members-requires : goal.specifiers::read_members-no_members-members-requires
+specifiers::read_members-no_members-members-requires = read_lists.specifiers::read_members-no_members-members-requires
+
+pub specifiers::read_members-read_member-next-requires : goal.specifiers::read_members-read_member-next-requires
+specifiers::read_members-read_member-next-requires = read_lists.specifiers::read_members-read_member-next-requires
+
+pub specifiers::read_members-with_member-requires : goal.specifiers::read_members-with_member-requires
+specifiers::read_members-with_member-requires = read_lists.specifiers::read_members-with_member-requires
+
+pub specifiers::read_members-returns-in_err-members : goal.specifiers::read_members-returns-in_err-members
+specifiers::read_members-returns-in_err-members = read_lists.specifiers::read_members-returns-in_err-members
+
+pub specifiers::read_members-members-smaller : goal.specifiers::read_members-members-smaller
+specifiers::read_members-members-smaller = read_lists.specifiers::read_members-members-smaller
+
+pub specifiers::read_members-members-preserved : goal.specifiers::read_members-members-preserved
+specifiers::read_members-members-preserved = read_lists.specifiers::read_members-members-preserved
+
+pub specifiers::read_members-closed_structure-requires : goal.specifiers::read_members-closed_structure-requires
+specifiers::read_members-closed_structure-requires = read_lists.specifiers::read_members-closed_structure-requires
 
 pub specifiers::read_member-returns-in_err-specifiers : goal.specifiers::read_member-returns-in_err-specifiers
-specifiers::read_member-returns-in_err-specifiers = read_specifiers.specifiers::read_member-returns-in_err-specifiers
+specifiers::read_member-returns-in_err-specifiers = read_lists.specifiers::read_member-returns-in_err-specifiers
 
-pub specifiers::read_member-returns-in_err-first : goal.specifiers::read_member-returns-in_err-first
-specifiers::read_member-returns-in_err-first = read_specifiers.specifiers::read_member-returns-in_err-first
+pub specifiers::read_member-member_of-member-requires : goal.specifiers::read_member-member_of-member-requires
+specifiers::read_member-member_of-member-requires = read_lists.specifiers::read_member-member_of-member-requires
 
-pub specifiers::read_member-returns-in_err-items : goal.specifiers::read_member-returns-in_err-items
-specifiers::read_member-returns-in_err-items = read_specifiers.specifiers::read_member-returns-in_err-items
+pub specifiers::read_member-read_declarator-next-requires : goal.specifiers::read_member-read_declarator-next-requires
+specifiers::read_member-read_declarator-next-requires = read_lists.specifiers::read_member-read_declarator-next-requires
 
-pub specifiers::read_member-returns-in_err-rest : goal.specifiers::read_member-returns-in_err-rest
-specifiers::read_member-returns-in_err-rest = read_specifiers.specifiers::read_member-returns-in_err-rest
+pub specifiers::read_member-with_item-requires : goal.specifiers::read_member-with_item-requires
+specifiers::read_member-with_item-requires = read_lists.specifiers::read_member-with_item-requires
 
-pub specifiers::read_member-returns : goal.specifiers::read_member-returns
-specifiers::read_member-returns = read_specifiers.specifiers::read_member-returns
+pub specifiers::read_member-returns-in_err-member : goal.specifiers::read_member-returns-in_err-member
+specifiers::read_member-returns-in_err-member = read_lists.specifiers::read_member-returns-in_err-member
 
-pub specifiers::read_items-items-init : goal.specifiers::read_items-items-init
-specifiers::read_items-items-init = read_specifiers.specifiers::read_items-items-init
+pub specifiers::read_member-items-smaller : goal.specifiers::read_member-items-smaller
+specifiers::read_member-items-smaller = read_lists.specifiers::read_member-items-smaller
 
-pub specifiers::read_items-returns-in_err-next : goal.specifiers::read_items-returns-in_err-next
-specifiers::read_items-returns-in_err-next = read_specifiers.specifiers::read_items-returns-in_err-next
+pub specifiers::read_member-items-preserved : goal.specifiers::read_member-items-preserved
+specifiers::read_member-items-preserved = read_lists.specifiers::read_member-items-preserved
 
-pub specifiers::read_items-items-preserved : goal.specifiers::read_items-items-preserved
-specifiers::read_items-items-preserved = read_specifiers.specifiers::read_items-items-preserved
+pub specifiers::read_member-closed_member-requires : goal.specifiers::read_member-closed_member-requires
+specifiers::read_member-closed_member-requires = read_lists.specifiers::read_member-closed_member-requires
 
-pub specifiers::read_items-returns : goal.specifiers::read_items-returns
-specifiers::read_items-returns = read_specifiers.specifiers::read_items-returns
+pub specifiers::read_constants-no_constants-constants-requires : goal.specifiers::read_constants-no_constants-constants-requires
+specifiers::read_constants-no_constants-constants-requires = read_lists.specifiers::read_constants-no_constants-constants-requires
 
-pub specifiers::read_member-read_items-next-requires : goal.specifiers::read_member-read_items-next-requires
-specifiers::read_member-read_items-next-requires = read_specifiers.specifiers::read_member-read_items-next-requires
+pub specifiers::read_constants-read_constant-next-requires : goal.specifiers::read_constants-read_constant-next-requires
+specifiers::read_constants-read_constant-next-requires = read_lists.specifiers::read_constants-read_constant-next-requires
 
-pub specifiers::read_structure-returns-then-depth-lt2-2 : goal.specifiers::read_structure-returns-then-depth-lt2-2
-specifiers::read_structure-returns-then-depth-lt2-2 = read_specifiers.specifiers::read_structure-returns-then-depth-lt2-2
+pub specifiers::read_constants-with_constant-requires : goal.specifiers::read_constants-with_constant-requires
+specifiers::read_constants-with_constant-requires = read_lists.specifiers::read_constants-with_constant-requires
 
-pub specifiers::read_structure-returns-then-is_mark-2 : goal.specifiers::read_structure-returns-then-is_mark-2
-specifiers::read_structure-returns-then-is_mark-2 = read_specifiers.specifiers::read_structure-returns-then-is_mark-2
+pub specifiers::read_constants-returns-in_err-constants : goal.specifiers::read_constants-returns-in_err-constants
+specifiers::read_constants-returns-in_err-constants = read_lists.specifiers::read_constants-returns-in_err-constants
 
-pub specifiers::read_structure-returns : goal.specifiers::read_structure-returns
-specifiers::read_structure-returns = read_specifiers.specifiers::read_structure-returns
+pub specifiers::read_constants-constants-smaller : goal.specifiers::read_constants-constants-smaller
+specifiers::read_constants-constants-smaller = read_lists.specifiers::read_constants-constants-smaller
 
-pub specifiers::read_body-returns : goal.specifiers::read_body-returns
-specifiers::read_body-returns = read_specifiers.specifiers::read_body-returns
+pub specifiers::read_constants-constants-preserved : goal.specifiers::read_constants-constants-preserved
+specifiers::read_constants-constants-preserved = read_lists.specifiers::read_constants-constants-preserved
 
-pub specifiers::read_enumerators-enumerators-init : goal.specifiers::read_enumerators-enumerators-init
-specifiers::read_enumerators-enumerators-init = read_enumerations.specifiers::read_enumerators-enumerators-init
+pub specifiers::read_constants-closed_enumeration-requires : goal.specifiers::read_constants-closed_enumeration-requires
+specifiers::read_constants-closed_enumeration-requires = read_lists.specifiers::read_constants-closed_enumeration-requires
 
-pub specifiers::read_enumerators-returns-in_err-next : goal.specifiers::read_enumerators-returns-in_err-next
-specifiers::read_enumerators-returns-in_err-next = read_enumerations.specifiers::read_enumerators-returns-in_err-next
+pub specifiers::read_constant-returns-in_err-constant : goal.specifiers::read_constant-returns-in_err-constant
+specifiers::read_constant-returns-in_err-constant = read_lists.specifiers::read_constant-returns-in_err-constant
 
-pub specifiers::read_enumerators-enumerators-preserved : goal.specifiers::read_enumerators-enumerators-preserved
-specifiers::read_enumerators-enumerators-preserved = read_enumerations.specifiers::read_enumerators-enumerators-preserved
+pub specifiers::read_constant-returns-then-not-constant : goal.specifiers::read_constant-returns-then-not-constant
+specifiers::read_constant-returns-then-not-constant = read_lists.specifiers::read_constant-returns-then-not-constant
 
-pub specifiers::read_enumerators-returns : goal.specifiers::read_enumerators-returns
-specifiers::read_enumerators-returns = read_enumerations.specifiers::read_enumerators-returns
+pub specifiers::read_constant-read_level-value-requires : goal.specifiers::read_constant-read_level-value-requires
+specifiers::read_constant-read_level-value-requires = read_lists.specifiers::read_constant-read_level-value-requires
 
-pub specifiers::read_enumerator-returns-in_default : goal.specifiers::read_enumerator-returns-in_default
-specifiers::read_enumerator-returns-in_default = read_enumerations.specifiers::read_enumerator-returns-in_default
-
-pub specifiers::read_enumerator-returns-then-not-is_mark : goal.specifiers::read_enumerator-returns-then-not-is_mark
-specifiers::read_enumerator-returns-then-not-is_mark = read_enumerations.specifiers::read_enumerator-returns-then-not-is_mark
-
-pub specifiers::read_enumeration-returns-then-is_mark : goal.specifiers::read_enumeration-returns-then-is_mark
-specifiers::read_enumeration-returns-then-is_mark = read_enumerations.specifiers::read_enumeration-returns-then-is_mark
-
-pub specifiers::read_enumeration-returns-in_default : goal.specifiers::read_enumeration-returns-in_default
-specifiers::read_enumeration-returns-in_default = read_enumerations.specifiers::read_enumeration-returns-in_default
-
-pub specifiers::read_enumerator-returns-then-depth-lt1 : goal.specifiers::read_enumerator-returns-then-depth-lt1
-specifiers::read_enumerator-returns-then-depth-lt1 = read_enumerations.specifiers::read_enumerator-returns-then-depth-lt1
-
-pub specifiers::read_enumerator-returns-in_err-value : goal.specifiers::read_enumerator-returns-in_err-value
-specifiers::read_enumerator-returns-in_err-value = read_enumerations.specifiers::read_enumerator-returns-in_err-value
-
-pub specifiers::read_enumerator-returns : goal.specifiers::read_enumerator-returns
-specifiers::read_enumerator-returns = read_enumerations.specifiers::read_enumerator-returns
-
-pub specifiers::read_enumeration-returns-then-is_mark-2 : goal.specifiers::read_enumeration-returns-then-is_mark-2
-specifiers::read_enumeration-returns-then-is_mark-2 = read_enumerations.specifiers::read_enumeration-returns-then-is_mark-2
-
-pub specifiers::read_enumeration-returns : goal.specifiers::read_enumeration-returns
-specifiers::read_enumeration-returns = read_enumerations.specifiers::read_enumeration-returns
-
-pub specifiers::read_constants-returns : goal.specifiers::read_constants-returns
-specifiers::read_constants-returns = read_enumerations.specifiers::read_constants-returns
-
-pub expressions::read_assignment-assigned-requires : goal.expressions::read_assignment-assigned-requires
-expressions::read_assignment-assigned-requires = read_operators.expressions::read_assignment-assigned-requires
-
-pub expressions::read_assignment-returns : goal.expressions::read_assignment-returns
-expressions::read_assignment-returns = read_operators.expressions::read_assignment-returns
-
-pub expressions::read_conditional-until_colon-requires : goal.expressions::read_conditional-until_colon-requires
-expressions::read_conditional-until_colon-requires = read_operators.expressions::read_conditional-until_colon-requires
-
-pub expressions::read_conditional-returns-in_err-first : goal.expressions::read_conditional-returns-in_err-first
-expressions::read_conditional-returns-in_err-first = read_operators.expressions::read_conditional-returns-in_err-first
-
-pub expressions::read_conditional-chosen-requires : goal.expressions::read_conditional-chosen-requires
-expressions::read_conditional-chosen-requires = read_operators.expressions::read_conditional-chosen-requires
-
-pub expressions::read_conditional-returns : goal.expressions::read_conditional-returns
-expressions::read_conditional-returns = read_operators.expressions::read_conditional-returns
-
-pub expressions::read_cast-unary_operand-requires : goal.expressions::read_cast-unary_operand-requires
-expressions::read_cast-unary_operand-requires = read_operators.expressions::read_cast-unary_operand-requires
-
-pub expressions::read_cast-grouped_operand-requires : goal.expressions::read_cast-grouped_operand-requires
-expressions::read_cast-grouped_operand-requires = read_operators.expressions::read_cast-grouped_operand-requires
-
-pub expressions::read_cast-returns-then-not-is_specifier : goal.expressions::read_cast-returns-then-not-is_specifier
-expressions::read_cast-returns-then-not-is_specifier = read_operators.expressions::read_cast-returns-then-not-is_specifier
-
-pub expressions::read_cast-until_target-requires : goal.expressions::read_cast-until_target-requires
-expressions::read_cast-until_target-requires = read_operators.expressions::read_cast-until_target-requires
-
-pub expressions::read_cast-returns-in_err-target : goal.expressions::read_cast-returns-in_err-target
-expressions::read_cast-returns-in_err-target = read_operators.expressions::read_cast-returns-in_err-target
-
-pub expressions::read_cast-converted-requires : goal.expressions::read_cast-converted-requires
-expressions::read_cast-converted-requires = read_operators.expressions::read_cast-converted-requires
-
-pub expressions::read_cast-returns : goal.expressions::read_cast-returns
-expressions::read_cast-returns = read_operators.expressions::read_cast-returns
-
-pub expressions::read_suffix-indexed-requires : goal.expressions::read_suffix-indexed-requires
-expressions::read_suffix-indexed-requires = read_operands.expressions::read_suffix-indexed-requires
-
-pub expressions::read_suffix-called-requires : goal.expressions::read_suffix-called-requires
-expressions::read_suffix-called-requires = read_operands.expressions::read_suffix-called-requires
-
-pub expressions::read_unary-prefixed_unary-requires : goal.expressions::read_unary-prefixed_unary-requires
-expressions::read_unary-prefixed_unary-requires = read_operands.expressions::read_unary-prefixed_unary-requires
-
-pub expressions::read_unary-returns-then-is_mark-3 : goal.expressions::read_unary-returns-then-is_mark-3
-expressions::read_unary-returns-then-is_mark-3 = read_operands.expressions::read_unary-returns-then-is_mark-3
-
-pub expressions::read_unary-prefixed-requires : goal.expressions::read_unary-prefixed-requires
-expressions::read_unary-prefixed-requires = read_operands.expressions::read_unary-prefixed-requires
-
-pub expressions::read_unary-returns-then-is_prefix : goal.expressions::read_unary-returns-then-is_prefix
-expressions::read_unary-returns-then-is_prefix = read_operands.expressions::read_unary-returns-then-is_prefix
-
-pub expressions::read_after_sizeof-measured-requires : goal.expressions::read_after_sizeof-measured-requires
-expressions::read_after_sizeof-measured-requires = read_operands.expressions::read_after_sizeof-measured-requires
-
-pub expressions::read_after_sizeof-measured_group-requires : goal.expressions::read_after_sizeof-measured_group-requires
-expressions::read_after_sizeof-measured_group-requires = read_operands.expressions::read_after_sizeof-measured_group-requires
-
-pub expressions::read_after_sizeof-returns-then-not-is_specifier : goal.expressions::read_after_sizeof-returns-then-not-is_specifier
-expressions::read_after_sizeof-returns-then-not-is_specifier = read_operands.expressions::read_after_sizeof-returns-then-not-is_specifier
-
-pub expressions::read_after_sizeof-measured_type-requires : goal.expressions::read_after_sizeof-measured_type-requires
-expressions::read_after_sizeof-measured_type-requires = read_operands.expressions::read_after_sizeof-measured_type-requires
-
-pub expressions::read_after_sizeof-returns : goal.expressions::read_after_sizeof-returns
-expressions::read_after_sizeof-returns = read_operands.expressions::read_after_sizeof-returns
-
-pub declarators::read_declarator_after_paren-absent_function-requires : goal.declarators::read_declarator_after_paren-absent_function-requires
-declarators::read_declarator_after_paren-absent_function-requires = read_declarators.declarators::read_declarator_after_paren-absent_function-requires
-
-pub declarators::read_declarator_after_paren-enclosed-requires : goal.declarators::read_declarator_after_paren-enclosed-requires
-declarators::read_declarator_after_paren-enclosed-requires = read_declarators.declarators::read_declarator_after_paren-enclosed-requires
-
-pub declarators::read_length-given_length-requires : goal.declarators::read_length-given_length-requires
-declarators::read_length-given_length-requires = read_parameters.declarators::read_length-given_length-requires
-
-pub declarators::read_part-parametered-requires : goal.declarators::read_part-parametered-requires
-declarators::read_part-parametered-requires = read_parameters.declarators::read_part-parametered-requires
-
-pub expressions::read_grouped-closed_group-requires : goal.expressions::read_grouped-closed_group-requires
-expressions::read_grouped-closed_group-requires = read_operators.expressions::read_grouped-closed_group-requires
-
-pub expressions::read_grouped-returns-in_err-group : goal.expressions::read_grouped-returns-in_err-group
-expressions::read_grouped-returns-in_err-group = read_operators.expressions::read_grouped-returns-in_err-group
-
-pub expressions::read_grouped-read_suffixes-requires : goal.expressions::read_grouped-read_suffixes-requires
-expressions::read_grouped-read_suffixes-requires = read_operators.expressions::read_grouped-read_suffixes-requires
-
-pub expressions::read_grouped-returns : goal.expressions::read_grouped-returns
-expressions::read_grouped-returns = read_operators.expressions::read_grouped-returns
-
-pub declarators::read_type_name-type_named-requires : goal.declarators::read_type_name-type_named-requires
-declarators::read_type_name-type_named-requires = read_declarators.declarators::read_type_name-type_named-requires
-
-pub declarators::read_pointer-pointing-requires : goal.declarators::read_pointer-pointing-requires
-declarators::read_pointer-pointing-requires = read_declarators.declarators::read_pointer-pointing-requires
-
-pub declarators::read_parameter-parameter_named-requires : goal.declarators::read_parameter-parameter_named-requires
-declarators::read_parameter-parameter_named-requires = read_parameters.declarators::read_parameter-parameter_named-requires
-
-pub declarators::read_array-arrayed-requires : goal.declarators::read_array-arrayed-requires
-declarators::read_array-arrayed-requires = read_parameters.declarators::read_array-arrayed-requires
+pub specifiers::read_constant-valued-requires : goal.specifiers::read_constant-valued-requires
+specifiers::read_constant-valued-requires = read_lists.specifiers::read_constant-valued-requires

@@ -1,17 +1,21 @@
 -- The readers end since each takes a token before it comes back to a looser part. In a loop the part that was read so far stands
 -- for all that was read.
-use Rattle.std.proofs.Common.{◌≡◌, ◌==◌, ◌+◌, ◌-◌, ◌*◌, ◌≤◌, [], ◌∷◌, true, false, length, map}
-use Rattle.std.specs.Prelude.{is_some}
+use Rattle.std.proofs.Common.{◌≡◌, ◌==◌, ◌+◌, ◌-◌, ◌*◌, ◌≤◌, true, false, length, map}
+use Rattle.std.specs.Prelude.{is_some, if◌then◌else◌}
 use Rattle.sp_syntax.specs.Syntax.{Declarator}
-use Rattle.sp_syntax.specs.View.{tree_of, expressions, specifiers_of, declaration_of, declarations, param_of, params, declarator_of}
-use Rattle.sp_syntax.specs.Depth.{depth as depth_of, expressions_depth, specifiers_depth, declarations_depth, items_depth, enumerators_depth, params_depth, declarator_depth}
+use Rattle.sp_syntax.specs.View.{tree_of, specifiers_of, declaration_of, declarator_of}
+use Rattle.sp_syntax.specs.Depth.{depth as depth_of, specifiers_depth, declarator_depth}
 use Rattle.sp_grammar.specs.CTable as grammar
-use Rattle.sp_c_tokens.specs.Makers.{settle, first_place, all_items, all_enumerators}
+use Rattle.sp_c_tokens.specs.Makers.{settle, first_place}
 use Rattle.sp_c_tokens.specs.Ended.{IsEnded}
 use Rattle.sp_c_tokens.specs.Scopes.{there}
 use Rattle.sp_c_steps.specs.Reading.{IsRead, IsStep, operand_seen}
-use Rattle.sp_c_steps.specs.Declaring.{declared_seen, item_seen, constant_seen}
-use Rattle.sp_c_steps.proofs.Lists.{SpecifiersSoFar, ItemsSoFar, ParametersSoFar, SuffixedSoFar}
+use Rattle.sp_c_steps.specs.Declaring.{declared_seen, constant_seen}
+use Rattle.sp_c_steps.proofs.Lists.{SpecifiersSoFar, SuffixedSoFar}
+use Rattle.sp_c_steps.proofs.StructureSteps.{inner}
+use Rattle.sp_c_lists.specs.Bodies.{HasConstants, HasMembers}
+use Rattle.sp_c_lists.specs.Items.{HasItems}
+use Rattle.sp_c_lists.specs.Given.{HasArguments, HasParameters}
 use Rattle.sp_c_reader.proofs.+reader.Given as goal
 
 abbrev pub decreases-expressions::read_unary : goal.decreases-expressions::read_unary
@@ -25,12 +29,6 @@ decreases-expressions::read_level l = 8 * length l.tokens.now + 3
 
 abbrev pub decreases-expressions::read_operators : goal.decreases-expressions::read_operators
 decreases-expressions::read_operators l = 8 * length l.tokens.now + 1
-
-abbrev pub decreases-expressions::read_assignment : goal.decreases-expressions::read_assignment
-decreases-expressions::read_assignment l = 8 * length l.tokens.now
-
-abbrev pub decreases-expressions::read_conditional : goal.decreases-expressions::read_conditional
-decreases-expressions::read_conditional l = 8 * length l.tokens.now
 
 abbrev pub decreases-expressions::read_arguments : goal.decreases-expressions::read_arguments
 decreases-expressions::read_arguments l = 8 * length l.tokens.now + 4
@@ -68,17 +66,11 @@ decreases-declarators::read_declarator_suffixes l = 8 * length l.tokens.now
 abbrev pub decreases-declarators::read_part : goal.decreases-declarators::read_part
 decreases-declarators::read_part l = 8 * length l.tokens.now + 6
 
-abbrev pub decreases-declarators::read_array : goal.decreases-declarators::read_array
-decreases-declarators::read_array l = 8 * length l.tokens.now + 5
-
 abbrev pub decreases-declarators::read_length : goal.decreases-declarators::read_length
 decreases-declarators::read_length l = 8 * length l.tokens.now + 4
 
 abbrev pub decreases-declarators::read_parameters : goal.decreases-declarators::read_parameters
 decreases-declarators::read_parameters l = 8 * length l.tokens.now + 3
-
-abbrev pub decreases-declarators::read_parameter : goal.decreases-declarators::read_parameter
-decreases-declarators::read_parameter l = 8 * length l.tokens.now + 2
 
 abbrev pub decreases-specifiers::read_specifiers : goal.decreases-specifiers::read_specifiers
 decreases-specifiers::read_specifiers l = 8 * length l.tokens.now
@@ -86,32 +78,20 @@ decreases-specifiers::read_specifiers l = 8 * length l.tokens.now
 abbrev pub decreases-specifiers::read_specifier : goal.decreases-specifiers::read_specifier
 decreases-specifiers::read_specifier l = 8 * length l.tokens.now + 1
 
-abbrev pub decreases-specifiers::read_structure : goal.decreases-specifiers::read_structure
-decreases-specifiers::read_structure l = 8 * length l.tokens.now
-
-abbrev pub decreases-specifiers::read_body : goal.decreases-specifiers::read_body
-decreases-specifiers::read_body l = 8 * length l.tokens.now + 2
+abbrev pub decreases-expressions::read_right_operand : goal.decreases-expressions::read_right_operand
+decreases-expressions::read_right_operand l = 8 * length l.tokens.now
 
 abbrev pub decreases-specifiers::read_members : goal.decreases-specifiers::read_members
-decreases-specifiers::read_members l = 8 * length l.tokens.now + 2
+decreases-specifiers::read_members l = 8 * length l.tokens.now
 
 abbrev pub decreases-specifiers::read_member : goal.decreases-specifiers::read_member
-decreases-specifiers::read_member l = 8 * length l.tokens.now + 1
-
-abbrev pub decreases-specifiers::read_items : goal.decreases-specifiers::read_items
-decreases-specifiers::read_items l = 8 * length l.tokens.now
-
-abbrev pub decreases-specifiers::read_enumeration : goal.decreases-specifiers::read_enumeration
-decreases-specifiers::read_enumeration l = 8 * length l.tokens.now
+decreases-specifiers::read_member l = 8 * length l.tokens.now + 2
 
 abbrev pub decreases-specifiers::read_constants : goal.decreases-specifiers::read_constants
-decreases-specifiers::read_constants l = 8 * length l.tokens.now + 1
+decreases-specifiers::read_constants l = 8 * length l.tokens.now
 
-abbrev pub decreases-specifiers::read_enumerators : goal.decreases-specifiers::read_enumerators
-decreases-specifiers::read_enumerators l = 8 * length l.tokens.now
-
-abbrev pub decreases-specifiers::read_enumerator : goal.decreases-specifiers::read_enumerator
-decreases-specifiers::read_enumerator l = 8 * length l.tokens.now
+abbrev pub decreases-specifiers::read_constant : goal.decreases-specifiers::read_constant
+decreases-specifiers::read_constant l = 8 * length l.tokens.now
 
 -- ---- loops
 
@@ -161,21 +141,6 @@ invariant-expressions::read_suffixes-suffixes l = record {
 abbrev pub decreases-expressions::read_suffixes-suffixes : goal.decreases-expressions::read_suffixes-suffixes
 decreases-expressions::read_suffixes-suffixes l = length l.part.rest.now
 
-abbrev pub invariant-expressions::read_arguments-arguments : goal.invariant-expressions::read_arguments-arguments
-invariant-expressions::read_arguments-arguments l = record {
-  step : IsStep (there l.context.types.now l.context.scope) grammar.arguments (grammar.more_arguments (map tree_of l.all.items)) (λ a. a) l.fn.tokens l.rest;
-  deep : l.reached ≡ expressions_depth (expressions (map tree_of l.all.items));
-  shallow : l.reached ≤ l.depth;
-  ended : IsEnded l.rest;
-  fewer : length l.rest ≤ length l.fn.tokens;
-  same_depth : l.depth ≡ l.fn.depth;
-  same_types : l.context.types.now ≡ l.fn.context.types.now;
-  same_scope : l.context.scope ≡ l.fn.context.scope;
-}
-
-abbrev pub decreases-expressions::read_arguments-arguments : goal.decreases-expressions::read_arguments-arguments
-decreases-expressions::read_arguments-arguments l = length l.rest
-
 -- ---- loops of specifiers and declarators
 
 abbrev pub invariant-specifiers::read_specifiers-specifiers :
@@ -196,70 +161,6 @@ abbrev pub decreases-specifiers::read_specifiers-specifiers :
     goal.decreases-specifiers::read_specifiers-specifiers
 decreases-specifiers::read_specifiers-specifiers l = length l.rest
 
-abbrev pub invariant-specifiers::read_members-members : goal.invariant-specifiers::read_members-members
-invariant-specifiers::read_members-members l = record {
-  step : IsStep (there l.context.types.now l.context.scope) (grammar.members (declaration_of l.fn.first ∷ [])) (grammar.members (map declaration_of l.all.items)) (λ a. a) l.fn.tokens l.rest;
-  deep : l.reached ≡ declarations_depth (declarations (map declaration_of l.all.items));
-  shallow : l.reached ≤ l.depth;
-  ended : IsEnded l.rest;
-  fewer : length l.rest ≤ length l.fn.tokens;
-  same_depth : l.depth ≡ l.fn.depth;
-  same_types : l.context.types.now ≡ l.fn.context.types.now;
-  same_scope : l.context.scope ≡ l.fn.context.scope;
-}
-
-abbrev pub decreases-specifiers::read_members-members : goal.decreases-specifiers::read_members-members
-decreases-specifiers::read_members-members l = length l.rest
-
-abbrev pub invariant-specifiers::read_items-items : goal.invariant-specifiers::read_items-items
-invariant-specifiers::read_items-items l = record {
-  so_far : ItemsSoFar (there l.context.types.now l.context.scope) l.fn.first l.fn.tokens l.all.items l.purpose l.rest;
-  deep : l.reached ≡ items_depth (all_items (map item_seen l.all.items));
-  shallow : l.reached ≤ l.depth;
-  ended : IsEnded l.rest;
-  fewer : length l.rest ≤ length l.fn.tokens;
-  same_depth : l.depth ≡ l.fn.depth;
-  same_types : l.context.types.now ≡ l.fn.context.types.now;
-  same_scope : l.context.scope ≡ l.fn.context.scope;
-}
-
-abbrev pub decreases-specifiers::read_items-items : goal.decreases-specifiers::read_items-items
-decreases-specifiers::read_items-items l = length l.rest
-
-abbrev pub invariant-specifiers::read_enumerators-enumerators :
-    goal.invariant-specifiers::read_enumerators-enumerators
-invariant-specifiers::read_enumerators-enumerators l = record {
-  step : IsStep (there l.context.types.now l.context.scope) (grammar.enumerators (constant_seen l.fn.first ∷ [])) (grammar.enumerators (map constant_seen l.all.items)) (λ a. a) l.fn.tokens l.rest;
-  deep : l.reached ≡ enumerators_depth (all_enumerators (map constant_seen l.all.items));
-  shallow : l.reached ≤ l.depth;
-  ended : IsEnded l.rest;
-  fewer : length l.rest ≤ length l.fn.tokens;
-  same_depth : l.depth ≡ l.fn.depth;
-  same_types : l.context.types.now ≡ l.fn.context.types.now;
-  same_scope : l.context.scope ≡ l.fn.context.scope;
-}
-
-abbrev pub decreases-specifiers::read_enumerators-enumerators :
-    goal.decreases-specifiers::read_enumerators-enumerators
-decreases-specifiers::read_enumerators-enumerators l = length l.rest
-
-abbrev pub invariant-declarators::read_parameters-parameters :
-    goal.invariant-declarators::read_parameters-parameters
-invariant-declarators::read_parameters-parameters l = record {
-  so_far : ParametersSoFar (there l.context.types.now l.context.scope) l.fn.tokens l.all.items l.behind l.rest;
-  deep : l.reached ≡ params_depth (params (map param_of l.all.items));
-  shallow : l.reached ≤ l.depth;
-  ended : IsEnded l.rest;
-  fewer : length l.rest ≤ length l.fn.tokens;
-  same_depth : l.depth ≡ l.fn.depth;
-  same_types : l.context.types.now ≡ l.fn.context.types.now;
-  same_scope : l.context.scope ≡ l.fn.context.scope;
-}
-
-abbrev pub decreases-declarators::read_parameters-parameters :
-    goal.decreases-declarators::read_parameters-parameters
-decreases-declarators::read_parameters-parameters l = length l.rest
-
 abbrev pub invariant-declarators::read_declarator_suffixes-suffixes :
     goal.invariant-declarators::read_declarator_suffixes-suffixes
 invariant-declarators::read_declarator_suffixes-suffixes l = record {
@@ -276,3 +177,56 @@ invariant-declarators::read_declarator_suffixes-suffixes l = record {
 abbrev pub decreases-declarators::read_declarator_suffixes-suffixes :
     goal.decreases-declarators::read_declarator_suffixes-suffixes
 decreases-declarators::read_declarator_suffixes-suffixes l = length l.part.rest.now
+
+-- ---- lists
+
+abbrev pub invariant-expressions::read_arguments-arguments : goal.invariant-expressions::read_arguments-arguments
+invariant-expressions::read_arguments-arguments l = record {
+  so_far : HasArguments (there l.context.types.now l.context.scope) l.depth l.tokens l.arguments.more (map tree_of l.arguments.all.items) l.arguments.depth l.arguments.rest.now;
+  same_tokens : l.tokens ≡ l.fn.tokens;
+  same_depth : l.depth ≡ l.fn.depth;
+  same_types : l.context.types.now ≡ l.fn.context.types.now;
+  same_scope : l.context.scope ≡ l.fn.context.scope;
+}
+
+abbrev pub decreases-expressions::read_arguments-arguments : goal.decreases-expressions::read_arguments-arguments
+decreases-expressions::read_arguments-arguments l = length l.arguments.rest.now
+
+abbrev pub invariant-declarators::read_parameters-parameters :
+    goal.invariant-declarators::read_parameters-parameters
+invariant-declarators::read_parameters-parameters l = record {
+  so_far : HasParameters (there l.context.types.now l.context.scope) l.depth l.tokens l.parameters.given l.parameters.more l.parameters.depth l.parameters.rest.now;
+  same_tokens : l.tokens ≡ l.fn.tokens;
+  same_depth : l.depth ≡ l.fn.depth;
+  same_types : l.context.types.now ≡ l.fn.context.types.now;
+  same_scope : l.context.scope ≡ l.fn.context.scope;
+}
+
+abbrev pub decreases-declarators::read_parameters-parameters :
+    goal.decreases-declarators::read_parameters-parameters
+decreases-declarators::read_parameters-parameters l = length l.parameters.rest.now
+
+abbrev pub invariant-specifiers::read_members-members : goal.invariant-specifiers::read_members-members
+invariant-specifiers::read_members-members l = record {
+  so_far : HasMembers (there l.context.types.now l.context.scope) (inner l.context.scope) l.depth l.head.rest.now l.members.more (map declaration_of l.members.all.items) l.members.depth l.members.rest.now;
+}
+
+abbrev pub decreases-specifiers::read_members-members : goal.decreases-specifiers::read_members-members
+decreases-specifiers::read_members-members l = length l.members.rest.now
+
+abbrev pub invariant-specifiers::read_member-items : goal.invariant-specifiers::read_member-items
+invariant-specifiers::read_member-items l = record {
+  so_far : HasItems (there l.context.types.now l.context.scope) l.depth l.tokens l.member.specifiers.tree l.member.specifiers.depth l.member.specifiers.rest.now l.member.more l.member.declarators.all.items l.member.declarators.behind l.member.depth l.member.rest.now;
+}
+
+abbrev pub decreases-specifiers::read_member-items : goal.decreases-specifiers::read_member-items
+decreases-specifiers::read_member-items l = (if l.member.more then 1 else 0) + length l.member.rest.now
+
+abbrev pub invariant-specifiers::read_constants-constants : goal.invariant-specifiers::read_constants-constants
+invariant-specifiers::read_constants-constants l = record {
+  so_far : HasConstants (there l.context.types.now l.context.scope) l.context.scope l.depth l.head.rest.now l.constants.more (map constant_seen l.constants.all.items) l.constants.depth l.constants.rest.now;
+}
+
+abbrev pub decreases-specifiers::read_constants-constants :
+    goal.decreases-specifiers::read_constants-constants
+decreases-specifiers::read_constants-constants l = length l.constants.rest.now

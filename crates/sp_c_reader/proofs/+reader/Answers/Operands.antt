@@ -1,24 +1,22 @@
 -- The goals of the readers of unary and primary expressions, suffixes and arguments.
-use Rattle.std.proofs.Common.{◌≡◌, ◌∷◌, ◌++◌, [], map, length, refl, sym, ap, ◌∙◌, subst, arith}
+use Rattle.std.proofs.Common.{refl, sym, ap, ◌∙◌, subst, arith}
 use Rattle.std.specs.Prelude.{◌||◌}
-use Rattle.std.proofs.lemmas.Result.{err_from_is_err_and, MatchResult-at_ok, MatchResult-at_err}
-use Rattle.sp_syntax.specs.View.{tree_of, expressions}
-use Rattle.sp_syntax.specs.Depth.{expressions_depth}
+use Rattle.std.proofs.lemmas.Result.{err_from_is_err_and}
+use Rattle.sp_syntax.specs.View.{tree_of}
 use Rattle.sp_grammar.specs.CTokens.{is_mark, is_specifier, view}
 use Rattle.sp_grammar.specs.CTokens as sorts_there
 use Rattle.sp_grammar.specs.CTable as grammar
 use Rattle.sp_grammar.specs.CTable.{get, begins_expression}
 use Rattle.sp_grammar.specs.Table.{done}
 use Rattle.sp_c_tokens.specs.Sorts.{terminal, sort_of}
-use Rattle.sp_c_tokens.proofs.Settled.{args_snoc}
 use Rattle.sp_c_tokens.specs.Scopes.{there}
-use Rattle.sp_c_steps.specs.Reading.{IsRead, IsStep, is_suffix, is_prefix, Answers}
+use Rattle.sp_c_steps.specs.Reading.{is_suffix, is_prefix, Answers}
 use Rattle.sp_c_steps.proofs.Steps.{got, last}
 use Rattle.sp_c_steps.proofs.Parts.{stop_part}
 use Rattle.sp_c_steps.proofs.Marks.{opening_is}
 use Rattle.sp_c_steps.proofs.Prefixes.{sizeof_is}
 use Rattle.sp_c_steps.proofs.Unaries.{unary_sizeof}
-use Rattle.sp_c_steps.proofs.Suffixes.{suffixes_end, suffix_deep, no_arguments, arguments_on, arguments_end, more_on, trees_more}
+use Rattle.sp_c_steps.proofs.Suffixes.{suffixes_end, suffix_deep}
 use Rattle.sp_c_steps.proofs.Parentheses.{primary_on, nested_deep, unary_grouped}
 use Rattle.sp_c_steps.proofs.Faulting.{result_before}
 use Rattle.sp_c_reader.proofs.+reader.Goals as goal
@@ -39,83 +37,6 @@ expressions::read_suffixes-returns t c =
     let i = c.suffixes.invariant in
     let other = sym (c.is_suffix.ensures ∙ ap (λ s. is_suffix s) c.sort_at.ensures) ∙ c.if-not-is_suffix.true in
     suffixes_end g (tree_of c.args.inner) (tree_of c.suffixes.part.tree) c.args.tokens.now c.suffixes.part.rest.now c.next_token.result.1.now c.next_token.result.0 i.step c.next_token.ensures c.args.depth c.suffixes.part.depth other i.deep i.shallow i.ended i.fewer
-
-pub expressions::read_arguments-returns-then-not-begins_expression : goal.expressions::read_arguments-returns-then-not-begins_expression
-expressions::read_arguments-returns-then-not-begins_expression t c =
-    let g = there c.args.context.types.now c.args.context.scope in
-    let other = sym (c.begins_expression.ensures ∙ ap (λ s. begins_expression s) c.sort_at.ensures) ∙ c.if-not-begins_expression.true in
-    subst (λ v. IsRead g grammar.arguments c.args.depth c.args.tokens.now (map tree_of v) 0 c.args.tokens.now) (sym c.new.ensures.items) (no_arguments g c.args.tokens.now c.next_token.result.1.now c.next_token.result.0 c.next_token.ensures c.args.depth other c.requires)
-
-pub expressions::read_arguments-returns-in_err-first : goal.expressions::read_arguments-returns-in_err-first
-expressions::read_arguments-returns-in_err-first t c =
-    let p = err_from_is_err_and c.from_residual.result c.from_residual.ensures.1 in
-    let g = there c.args.context.types.now c.args.context.scope in
-    let stands = sym (c.begins_expression.ensures ∙ ap (λ s. begins_expression s) c.sort_at.ensures) ∙ c.if-not-begins_expression.false in
-    let on = arguments_on g c.args.tokens.now c.next_token.result.1.now c.next_token.result.0 c.next_token.ensures stands in
-    rw (p.1, p.2) (stop_part g g g grammar.arguments grammar.arguments (grammar.level 12) (λ a. a) (λ o. get g (grammar.more_arguments (o.tree ∷ [])) (λ es. done es)) c.args.depth c.args.depth c.args.tokens.now c.args.tokens.now on (omega arith) c.in_err-first.field-0.0 c.in_err-first.ensures)
-
-pub expressions::read_arguments-arguments-init : goal.expressions::read_arguments-arguments-init
-expressions::read_arguments-arguments-init t c =
-    let g = there c.args.context.types.now c.args.context.scope in
-    let h = c.in_ok-first.ensures in
-    let e = tree_of c.in_ok-first.first.tree.tree in
-    let stands = sym (c.begins_expression.ensures ∙ ap (λ s. begins_expression s) c.sort_at.ensures) ∙ c.if-not-begins_expression.false in
-    let on = arguments_on g c.args.tokens.now c.next_token.result.1.now c.next_token.result.0 c.next_token.ensures stands in
-    let items = c.in_ok-all.ensures in
-    let same : map tree_of c.in_ok-all.all.items ≡ e ∷ [] = ap (λ v. map tree_of v) items in
-    record {
-      step = subst (λ v. IsStep g grammar.arguments (grammar.more_arguments v) (λ a. a) c.args.tokens.now c.in_ok-first.first.rest.now) (sym same) (last (got on h.reads));
-      deep = subst (λ v. c.in_ok-first.first.depth ≡ expressions_depth (expressions v)) (sym same) (omega (arith, h.deep));
-      shallow = h.shallow;
-      ended = h.ended;
-      fewer = omega (arith, h.fewer);
-      same_depth = refl;
-      same_types = refl;
-      same_scope = refl;
-    }
-
-pub expressions::read_arguments-returns-in_err-next : goal.expressions::read_arguments-returns-in_err-next
-expressions::read_arguments-returns-in_err-next t c =
-    let p = err_from_is_err_and c.from_residual-in_err-next.result c.from_residual-in_err-next.ensures.1 in
-    let g = there c.args.context.types.now c.args.context.scope in
-    let i = c.arguments.invariant in
-    let es = map tree_of c.arguments.all.items in
-    let x = c.next_token-in-arguments.result.0 in
-    let xs = c.next_token-in-arguments.result.1.now in
-    let stands = sym (c.is_mark.ensures ∙ ap (λ s. is_mark sorts_there.comma s) c.sort_at-in-arguments.ensures) ∙ c.if-not-is_mark.false in
-    let on = more_on g es c.args.tokens.now c.arguments.rest.now xs x i.step c.next_token-in-arguments.ensures stands in
-    rw (p.1, p.2) (stop_part g g g grammar.arguments (grammar.more_arguments es) (grammar.level 12) (λ a. a) (λ o. get g (grammar.more_arguments (es ++ o.tree ∷ [])) (λ fs. done fs)) c.args.depth c.args.depth c.args.tokens.now xs on (omega arith) c.in_err-next.field-0.0 (MatchResult-at_err _ _ _ c.in_err-next.ensures c.read_level-in-arguments.ensures))
-
-pub expressions::read_arguments-arguments-preserved : goal.expressions::read_arguments-arguments-preserved
-expressions::read_arguments-arguments-preserved t c =
-    let g = there c.args.context.types.now c.args.context.scope in
-    let i = c.arguments.invariant in
-    let h = (MatchResult-at_ok _ _ _ c.in_ok-next.ensures.0 c.read_level-in-arguments.ensures) in
-    let es = map tree_of c.arguments.all.items in
-    let e = tree_of c.in_ok-next.next.tree.tree in
-    let x = c.next_token-in-arguments.result.0 in
-    let xs = c.next_token-in-arguments.result.1.now in
-    let stands = sym (c.is_mark.ensures ∙ ap (λ s. is_mark sorts_there.comma s) c.sort_at-in-arguments.ensures) ∙ c.if-not-is_mark.false in
-    let on = more_on g es c.args.tokens.now c.arguments.rest.now xs x i.step c.next_token-in-arguments.ensures stands in
-    let same : map tree_of c.in_ok-all-2.all.items ≡ es ++ e ∷ [] = ap (λ v. map tree_of v) (c.in_ok-all-2.ensures ∙ ap (λ v. v.items ++ c.in_ok-next.next.tree.tree ∷ []) c.in_ok-next.ensures.1) ∙ trees_more c.arguments.all.items c.in_ok-next.next.tree.tree in
-    let shorter : length c.arguments.rest.now ≡ length (x ∷ xs) = ap length c.next_token-in-arguments.ensures in
-    record {
-      step = subst (λ v. IsStep g grammar.arguments (grammar.more_arguments v) (λ a. a) c.args.tokens.now c.in_ok-next.next.rest.now) (sym same) (last (got on h.reads));
-      deep = subst (λ v. c.max-reached.result ≡ expressions_depth (expressions v)) (sym same) (omega (arith, c.max-reached.ensures, i.deep, h.deep, args_snoc es e));
-      shallow = omega (arith, c.max-reached.ensures, i.shallow, h.shallow);
-      ended = h.ended;
-      fewer = omega (arith, h.fewer, i.fewer, shorter);
-      same_depth = refl;
-      same_types = refl;
-      same_scope = refl;
-    }
-
-pub expressions::read_arguments-returns : goal.expressions::read_arguments-returns
-expressions::read_arguments-returns t c =
-    let g = there c.args.context.types.now c.args.context.scope in
-    let i = c.arguments.invariant in
-    let other = sym (c.is_mark.ensures ∙ ap (λ s. is_mark sorts_there.comma s) c.sort_at-in-arguments.ensures) ∙ c.if-not-is_mark.true in
-    arguments_end g (map tree_of c.arguments.all.items) c.args.tokens.now c.arguments.rest.now c.next_token-in-arguments.result.1.now c.next_token-in-arguments.result.0 i.step c.next_token-in-arguments.ensures c.args.depth c.arguments.reached other i.deep i.shallow i.ended i.fewer
 
 pub expressions::read_suffix-returns : goal.expressions::read_suffix-returns
 expressions::read_suffix-returns t c =

@@ -1,8 +1,7 @@
 -- The goals of the readers of levels of expressions: operators, casts and groups.
-use Rattle.std.proofs.Common.{◌≡◌, ◌∷◌, true, false, ◌-◌, length, refl, sym, ap, ◌∙◌, subst, arith, rules}
+use Rattle.std.proofs.Common.{◌≡◌, ◌∷◌, false, ◌-◌, length, refl, sym, ap, ◌∙◌, subst, arith, rules}
 use Rattle.std.proofs.lemmas.Result.{err_from_is_err_and, MatchResult-at_ok, MatchResult-at_err}
 use Rattle.sp_syntax.specs.View.{tree_of}
-use Rattle.sp_syntax.specs.Depth.{depth as depth_of}
 use Rattle.sp_grammar.specs.CTokens.{is_mark, is_specifier, view}
 use Rattle.sp_grammar.specs.CTokens as sorts_there
 use Rattle.sp_grammar.specs.CTable as grammar
@@ -114,96 +113,12 @@ expressions::read_operators-returns t c =
     let other = sym (c.continues_level.ensures ∙ ap (λ s. stands_behind c.args.level c.operators.unary s) c.sort_at.ensures) ∙ c.if-not-continues_level.true in
     after_ends g c.args.level (operand_seen c.args.left) now c.args.tokens.now c.operators.rest.now c.next_token.result.1.now x i.step c.next_token.ensures c.args.depth c.operators.reached other i.deep i.shallow i.ended i.fewer
 
-pub expressions::read_assignment-returns-then-not-continues_level : goal.expressions::read_assignment-returns-then-not-continues_level
-expressions::read_assignment-returns-then-not-continues_level t c =
-    let g = there c.args.context.types.now c.args.context.scope in
-    let l = operand_seen c.args.left in
-    let other = sym (c.continues_level.ensures ∙ ap (λ s. stands_behind 12 c.args.left.unary s) c.sort_at.ensures) ∙ c.if-not-continues_level.true in
-    after_ends g 12 l l c.args.tokens.now c.args.tokens.now c.next_token.result.1.now c.next_token.result.0 (begun (grammar.at g (grammar.after 12 l)) (c_tokens c.args.tokens.now)) c.next_token.ensures c.args.depth c.args.inner other c.requires.deep c.requires.shallow c.requires.ended (omega arith)
-
-pub expressions::read_assignment-returns-then-inner-depth : goal.expressions::read_assignment-returns-then-inner-depth
-expressions::read_assignment-returns-then-inner-depth t c =
-    let g = there c.args.context.types.now c.args.context.scope in
-    let l = operand_seen c.args.left in
-    let stands = sym (c.continues_level.ensures ∙ ap (λ s. stands_behind 12 c.args.left.unary s) c.sort_at.ensures) ∙ c.if-not-continues_level.false in
-    (after_deep g 12 l l c.args.tokens.now c.args.tokens.now c.next_token.result.1.now c.next_token.result.0 (begun (grammar.at g (grammar.after 12 l)) (c_tokens c.args.tokens.now)) c.next_token.ensures c.args.depth c.args.inner stands c.requires.deep c.if-inner-depth.true, c.requires.ended)
-
-pub expressions::read_conditional-returns-then-not-continues_level : goal.expressions::read_conditional-returns-then-not-continues_level
-expressions::read_conditional-returns-then-not-continues_level t c =
-    let g = there c.args.context.types.now c.args.context.scope in
-    let l = operand_seen c.args.left in
-    let other = sym (c.continues_level.ensures ∙ ap (λ s. stands_behind 11 c.args.left.unary s) c.sort_at.ensures) ∙ c.if-not-continues_level.true in
-    after_ends g 11 l l c.args.tokens.now c.args.tokens.now c.next_token.result.1.now c.next_token.result.0 (begun (grammar.at g (grammar.after 11 l)) (c_tokens c.args.tokens.now)) c.next_token.ensures c.args.depth c.args.inner other c.requires.deep c.requires.shallow c.requires.ended (omega arith)
-
-pub expressions::read_conditional-returns-then-inner-depth : goal.expressions::read_conditional-returns-then-inner-depth
-expressions::read_conditional-returns-then-inner-depth t c =
-    let g = there c.args.context.types.now c.args.context.scope in
-    let l = operand_seen c.args.left in
-    let stands = sym (c.continues_level.ensures ∙ ap (λ s. stands_behind 11 c.args.left.unary s) c.sort_at.ensures) ∙ c.if-not-continues_level.false in
-    (after_deep g 11 l l c.args.tokens.now c.args.tokens.now c.next_token.result.1.now c.next_token.result.0 (begun (grammar.at g (grammar.after 11 l)) (c_tokens c.args.tokens.now)) c.next_token.ensures c.args.depth c.args.inner stands c.requires.deep c.if-inner-depth.true, c.requires.ended)
-
 pub expressions::read_cast-returns-then-depth-lt2 : goal.expressions::read_cast-returns-then-depth-lt2
 expressions::read_cast-returns-then-depth-lt2 t c =
     let g = there c.args.context.types.now c.args.context.scope in
     let x = c.next_token.result.0 in
     let is = opening_is (view g.types (sort_of x.kind)) (sym (c.is_mark.ensures ∙ ap (λ s. is_mark sorts_there.opening s) c.sort_at.ensures) ∙ c.if-not-is_mark.false) in
     (first_deep g (grammar.level 0) c.args.tokens.now c.next_token.result.1.now x (sorts_there.mark sorts_there.opening) c.next_token.ensures (sym is) c.args.depth _ refl (omega arith), c.requires)
-
-pub expressions::read_assignment-assigned-requires : goal.expressions::read_assignment-assigned-requires
-expressions::read_assignment-assigned-requires t c =
-    let stands = sym (c.continues_level.ensures ∙ ap (λ s. stands_behind 12 c.args.left.unary s) c.sort_at.ensures) ∙ c.if-not-continues_level.false in
-    record {
-      operator = stands;
-      deep = c.requires.deep;
-      shallow = omega (arith, c.if-inner-depth.false);
-      read = c.read_level-value.ensures;
-    }
-
-pub expressions::read_assignment-returns : goal.expressions::read_assignment-returns
-expressions::read_assignment-returns t c =
-    let types = c.args.context.types.now in
-    let g = there types c.args.context.scope in
-    let l = operand_seen c.args.left in
-    subst (λ v. Answers g (grammar.after 12 l) c.args.depth v operand_seen c.assigned.result) (sym c.next_token.ensures) c.assigned.ensures
-
-pub expressions::read_conditional-until_colon-requires : goal.expressions::read_conditional-until_colon-requires
-expressions::read_conditional-until_colon-requires t c =
-    let stands = sym (c.continues_level.ensures ∙ ap (λ s. stands_behind 11 c.args.left.unary s) c.sort_at.ensures) ∙ c.if-not-continues_level.false in
-    record {
-      operator = stands;
-      room = omega (arith, c.if-inner-depth.false);
-      read = c.read_level-first.ensures;
-    }
-
-pub expressions::read_conditional-returns-in_err-first : goal.expressions::read_conditional-returns-in_err-first
-expressions::read_conditional-returns-in_err-first t c =
-    let p = err_from_is_err_and c.from_residual.result c.from_residual.ensures.1 in
-    let types = c.args.context.types.now in
-    let g = there types c.args.context.scope in
-    let l = operand_seen c.args.left in
-    rw (p.1, p.2) (subst (λ v. IsStop g (grammar.after 11 l) c.args.depth v c.in_err-first.field-0.0) (sym c.next_token.ensures) c.in_err-first.ensures)
-
-pub expressions::read_conditional-chosen-requires : goal.expressions::read_conditional-chosen-requires
-expressions::read_conditional-chosen-requires t c =
-    let stands = sym (c.continues_level.ensures ∙ ap (λ s. stands_behind 11 c.args.left.unary s) c.sort_at.ensures) ∙ c.if-not-continues_level.false in
-    let types = c.args.context.types.now in
-    let x = c.next_token.result.0 in
-    let kept = sym c.in_ok-first.ensures.1 in
-    record {
-      operator = subst (λ v. stands_behind 11 v.unary (view types (sort_of x.kind)) ≡ true) kept stands;
-      deep = subst (λ v. c.args.inner ≡ depth_of (tree_of v.tree)) kept c.requires.deep;
-      shallow = omega (arith, c.if-inner-depth.false);
-      first = c.in_ok-first.ensures.0;
-      read = c.read_level-second.ensures;
-    }
-
-pub expressions::read_conditional-returns : goal.expressions::read_conditional-returns
-expressions::read_conditional-returns t c =
-    let types = c.args.context.types.now in
-    let g = there types c.args.context.scope in
-    let kept = c.in_ok-first.ensures.1 in
-    subst (λ w. Answers g (grammar.after 11 (operand_seen w)) c.args.depth c.args.tokens.now operand_seen c.chosen.result) kept
-    (subst (λ v. Answers g (grammar.after 11 (operand_seen c.in_ok-first.left)) c.args.depth v operand_seen c.chosen.result) (sym c.next_token.ensures) c.chosen.ensures)
 
 pub expressions::read_cast-unary_operand-requires : goal.expressions::read_cast-unary_operand-requires
 expressions::read_cast-unary_operand-requires t c =
@@ -294,3 +209,19 @@ expressions::read_grouped-returns t c =
     let w = c.in_ok-group.ensures in
     let group = c.in_ok-group.group in
     grouped_result c.args.context.types.now c.args.context.scope c.args.opening c.args.depth c.args.tokens.now w.mid group.rest.now w.inner (tree_of group.tree) w.one w.closes w.makes (omega (arith, w.fewer)) c.read_suffixes.result c.read_suffixes.ensures
+
+pub expressions::read_right_operand-returns-then-not-continues_level : goal.expressions::read_right_operand-returns-then-not-continues_level
+expressions::read_right_operand-returns-then-not-continues_level t c =
+    let g = there c.args.context.types.now c.args.context.scope in
+    let k = c.args.level in
+    let l = operand_seen c.args.left in
+    let other = sym (c.continues_level.ensures ∙ ap (λ s. stands_behind k c.args.left.unary s) c.sort_at.ensures) ∙ c.if-not-continues_level.true in
+    after_ends g k l l c.args.tokens.now c.args.tokens.now c.next_token.result.1.now c.next_token.result.0 (begun (grammar.at g (grammar.after k l)) (c_tokens c.args.tokens.now)) c.next_token.ensures c.args.depth c.args.inner other c.requires.deep c.requires.shallow c.requires.ended (omega arith)
+
+pub expressions::read_right_operand-returns-then-inner-depth : goal.expressions::read_right_operand-returns-then-inner-depth
+expressions::read_right_operand-returns-then-inner-depth t c =
+    let g = there c.args.context.types.now c.args.context.scope in
+    let k = c.args.level in
+    let l = operand_seen c.args.left in
+    let stands = sym (c.continues_level.ensures ∙ ap (λ s. stands_behind k c.args.left.unary s) c.sort_at.ensures) ∙ c.if-not-continues_level.false in
+    (after_deep g k l l c.args.tokens.now c.args.tokens.now c.next_token.result.1.now c.next_token.result.0 (begun (grammar.at g (grammar.after k l)) (c_tokens c.args.tokens.now)) c.next_token.ensures c.args.depth c.args.inner stands c.requires.deep c.if-inner-depth.true, c.requires.ended)

@@ -1,0 +1,4 @@
+pub mod Heads
+pub mod Bodies
+pub mod Items
+pub mod Given
