@@ -1,5 +1,5 @@
 //! Declarations (C90 6.5).
-ghost use Rattle.std.specs.Prelude.{◌≡◌, [], map, option_map};
+ghost use Rattle.std.specs.Prelude.{◌≡◌, IfOk, [], map, option_map};
 ghost use Rattle.sp_syntax.specs.Syntax.{init_declarator};
 ghost use Rattle.sp_syntax.specs.View.{declarator_of, declaration_of, init_declarators};
 ghost use Rattle.sp_types.specs.View.{type_of, signature_of};
@@ -34,7 +34,8 @@ use sp_scopes::Meaning;
 use sp_syntax::{Declaration, Declarator, Init, InitDeclarator};
 use sp_tree::{FaultKind, Keyword, Names, Place};
 use sp_types::{CType, Linkage, Signature};
-use std::alloc::Global;
+use std::alloc::{AllocError, Global};
+use std::rc::Rc;
 
 /// The linkage that a declaration gives the name of a function here (C90 6.1.2.2).
 fn function_linkage(env: &Env, name: u32, class: Option<Keyword>) -> Linkage
@@ -58,12 +59,15 @@ fn may_declare(env: &Env, class: Option<Keyword>) -> bool
 }
 
 /// The type of a function, where the type is one.
-fn function_type(of: CType) -> Option<Signature>
-    ensures { option_map signature_of result ≡ function_type (type_of of) }
+fn function_type(alloc: Global, of: CType) -> Result<Option<Signature>, AllocError>
+    ensures { IfOk result (λ s. option_map signature_of s ≡ function_type (type_of of)) }
 {
     match of {
-        CType::Function(signature) => Some(Box::into_inner(signature)),
-        _ => None,
+        CType::Function(signature) => match Rc::try_unwrap(signature) {
+            Ok(signature) => Ok(Some(signature)),
+            Err(shared) => Ok(Some(shared.copy(alloc)?)),
+        },
+        _ => Ok(None),
     }
 }
 
@@ -89,7 +93,7 @@ fn function_told(
     if valued {
         return fault(FaultKind::F14, declarator);
     }
-    let Some(of) = function_type(of) else {
+    let Some(of) = function_type(alloc, of)? else {
         return fault(FaultKind::F14, declarator);
     };
     let linkage = function_linkage(env, name, class);

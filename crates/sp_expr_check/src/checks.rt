@@ -1,7 +1,7 @@
 //! The calls from above, each outside the cycle of the walk.
 ghost use Rattle.sp_syntax.specs.View.{tree_of, declarator_of, specifiers_of};
 ghost use Rattle.sp_types.specs.View.{type_of};
-ghost use Rattle.sp_types.specs.TypedView.{typed_of};
+ghost use Rattle.sp_types.specs.TypedView.{boxed_of};
 ghost use Rattle.sp_operands.specs.Answers.{AnswersIn};
 ghost use Rattle.sp_env.specs.Views.{env_of};
 ghost use Rattle.sp_expr_steps.specs.Expressions.{
@@ -33,8 +33,8 @@ pub fn check_expression(
     env: &mut Env,
     expr: &Expr,
     names: &Names,
-) -> Result<TypedExpr, CheckError>
-    ensures { AnswersIn typed_of
+) -> Result<Box<TypedExpr>, CheckError>
+    ensures { AnswersIn boxed_of
         (value_checked names.now (env_of env.old) (tree_of expr.now)) (env_of env.new) result }
 {
     value_checked(alloc, env, names, expr)

@@ -12,7 +12,7 @@ ghost use Rattle.sp_syntax.specs.View.{
 };
 ghost use Rattle.sp_types.specs.Types.{parameters_of};
 ghost use Rattle.sp_types.specs.View.{type_of, signature_of};
-ghost use Rattle.sp_types.specs.TypedView.{typed_of, typed_list};
+ghost use Rattle.sp_types.specs.TypedView.{boxed_of, typed_list, typed_of};
 ghost use Rattle.sp_operands.specs.Answers.{AnswersIn};
 ghost use Rattle.sp_rules.specs.Rules.{told};
 ghost use Rattle.sp_env.specs.Declaring.{LeadsTo};
@@ -88,8 +88,8 @@ fn checked(
     env: &mut Env,
     names: &Names,
     expr: &Expr,
-) -> Result<TypedExpr, CheckError>
-    ensures { AnswersIn typed_of
+) -> Result<Box<TypedExpr>, CheckError>
+    ensures { AnswersIn boxed_of
         (checked names.now (env_of env.old) (tree_of expr.now)) (env_of env.new) result }
 {
     let e = form(alloc, env, names, expr.place, expr.mark, &expr.form);
@@ -103,8 +103,8 @@ pub(crate) fn value_checked(
     env: &mut Env,
     names: &Names,
     expr: &Expr,
-) -> Result<TypedExpr, CheckError>
-    ensures { AnswersIn typed_of
+) -> Result<Box<TypedExpr>, CheckError>
+    ensures { AnswersIn boxed_of
         (value_checked names.now (env_of env.old) (tree_of expr.now)) (env_of env.new) result }
 {
     let e = form(alloc, env, names, expr.place, expr.mark, &expr.form);
@@ -121,15 +121,15 @@ fn form(
     place: Place,
     mark: Place,
     form: &ExprForm,
-) -> Result<TypedExpr, CheckError>
-    ensures { AnswersIn typed_of
+) -> Result<Box<TypedExpr>, CheckError>
+    ensures { AnswersIn boxed_of
         (form_checked names.now (env_of env.old) place mark (form_of form.now))
         (env_of env.new) result }
 {
     match form {
         ExprForm::Name(name) => name_checked(alloc, env, names, *name, place),
-        ExprForm::Number(number) => number_checked(env, *number, place, mark),
-        ExprForm::Char(value) => character_checked(env, *value, place, mark),
+        ExprForm::Number(number) => number_checked(alloc, env, *number, place, mark),
+        ExprForm::Char(value) => character_checked(alloc, env, *value, place, mark),
         ExprForm::Text(parts) => text_checked(alloc, env, names, parts, place, mark),
         ExprForm::Paren(inner) => checked(alloc, env, names, inner),
         ExprForm::Index(a, b) => {
@@ -141,7 +141,7 @@ fn form(
             callee_declared(alloc, env, names, callee)?;
             let at = callee.place;
             let callee = value_checked(alloc, env, names, callee)?;
-            let signature = called_signature(alloc, at, callee.of());
+            let signature = called_signature(at, callee.of());
             let (signature, callee) = keeping(signature, callee)?;
             let arguments = arguments_checked(alloc, form, env, names, &signature);
             call_made(alloc, env, place, mark, signature, callee, arguments)
@@ -170,9 +170,9 @@ fn operation(
     place: Place,
     mark: Place,
     form: &ExprForm,
-) -> Result<TypedExpr, CheckError>
+) -> Result<Box<TypedExpr>, CheckError>
     requires { is_operation (form_of form.now) ≡ true }
-    ensures { AnswersIn typed_of
+    ensures { AnswersIn boxed_of
         (form_checked names.now (env_of env.old) place mark (form_of form.now))
         (env_of env.new) result }
 {
@@ -204,7 +204,7 @@ fn operation(
         }
         ExprForm::SizeofType(t) => {
             let of = type_name_checked(alloc, env, names, t);
-            size_of_type(env, place, mark, of)
+            size_of_type(alloc, env, place, mark, of)
         }
         ExprForm::Cast(t, e) => {
             let to = type_name_checked(alloc, env, names, t)?;
@@ -226,9 +226,9 @@ fn joined(
     place: Place,
     mark: Place,
     form: &ExprForm,
-) -> Result<TypedExpr, CheckError>
+) -> Result<Box<TypedExpr>, CheckError>
     requires { joins_operands (form_of form.now) ≡ true }
-    ensures { AnswersIn typed_of
+    ensures { AnswersIn boxed_of
         (form_checked names.now (env_of env.old) place mark (form_of form.now))
         (env_of env.new) result }
 {
@@ -272,14 +272,15 @@ fn arguments_checked(
         (told (parameters_of (signature_of signature.now))) (arguments_of (form_of form.now)))
         (env_of env.new) result }
 {
-    let mut all = Vec::new(alloc);
     let ExprForm::Call(_, arguments) = form else {
-        return Ok(all);
+        return Ok(Vec::new(alloc));
     };
+    let mut all = Vec::with_capacity(alloc, arguments.len())?;
     'arguments: for (i, e) in arguments.iter().enumerate() {
         let next = argument_checked(alloc, e, env, names, signature, i);
         let (next, before) = keeping(next, all)?;
-        all = pushed(before, next)?;
+        let value = Box::into_inner(next);
+        all = pushed(before, value)?;
     }
     Ok(all)
 }
@@ -294,8 +295,8 @@ fn argument_checked(
     names: &Names,
     signature: &Signature,
     number: usize,
-) -> Result<TypedExpr, CheckError>
-    ensures { AnswersIn typed_of
+) -> Result<Box<TypedExpr>, CheckError>
+    ensures { AnswersIn boxed_of
         (one_checked names.now (env_of env.old)
         (told (parameters_of (signature_of signature.now))) number (tree_of e.now))
         (env_of env.new) result }

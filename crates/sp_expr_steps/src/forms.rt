@@ -2,7 +2,7 @@
 //! its answer, whose error is that of the whole.
 ghost use Rattle.std.specs.Prelude.{◌≡◌, map, MatchResult, Err};
 ghost use Rattle.sp_types.specs.View.{type_of, signature_of};
-ghost use Rattle.sp_types.specs.TypedView.{typed_of};
+ghost use Rattle.sp_types.specs.TypedView.{boxed_of};
 ghost use Rattle.sp_types.specs.Types.{parameters_of};
 ghost use Rattle.sp_operands.specs.Answers.{Answers, AnswersIn};
 ghost use Rattle.sp_rules.specs.Rules.{told, cast_to, choice, argument_at, not_floating};
@@ -26,9 +26,12 @@ use sp_unary_rules::{
 use std::alloc::Global;
 
 /// An expression as it stands.
-pub fn as_it_stands(place: Place, e: Result<TypedExpr, CheckError>) -> Result<TypedExpr, CheckError>
+pub fn as_it_stands(
+    place: Place,
+    e: Result<Box<TypedExpr>, CheckError>,
+) -> Result<Box<TypedExpr>, CheckError>
     ensures { MatchResult e
-        (λ e. Answers typed_of (not_floating place (typed_of e)) result)
+        (λ e. Answers boxed_of (not_floating place (boxed_of e)) result)
         (λ error. result ≡ Err error) }
 {
     not_floating(place, e?)
@@ -39,10 +42,10 @@ pub fn as_value(
     alloc: Global,
     env: &Env,
     place: Place,
-    e: Result<TypedExpr, CheckError>,
-) -> Result<TypedExpr, CheckError>
+    e: Result<Box<TypedExpr>, CheckError>,
+) -> Result<Box<TypedExpr>, CheckError>
     ensures { MatchResult e
-        (λ e. AnswersIn typed_of (as_value place (typed_of e, env_of env.now))
+        (λ e. AnswersIn boxed_of (as_value place (boxed_of e, env_of env.now))
         (env_of env.now) result)
         (λ error. result ≡ Err error) }
 {
@@ -58,11 +61,11 @@ pub fn operated(
     form: &ExprForm,
     place: Place,
     mark: Place,
-    e: Result<TypedExpr, CheckError>,
-) -> Result<TypedExpr, CheckError>
+    e: Result<Box<TypedExpr>, CheckError>,
+) -> Result<Box<TypedExpr>, CheckError>
     ensures { MatchResult e
-        (λ e. AnswersIn typed_of
-        (operated place mark (form_of form.now) (typed_of e, env_of env.old))
+        (λ e. AnswersIn boxed_of
+        (operated place mark (form_of form.now) (boxed_of e, env_of env.old))
         (env_of env.new) result)
         (λ error. result ≡ Err error) }
 {
@@ -96,7 +99,7 @@ pub fn operated(
                 unary_value(alloc, *operator, place, mark, e)
             }
         }
-        ExprForm::SizeofExpr(_) => size_checked(env, place, mark, e.of()),
+        ExprForm::SizeofExpr(_) => size_checked(alloc, env, place, mark, e.of()),
         _ => fault(FaultKind::F14, place),
     }
 }
@@ -109,12 +112,12 @@ pub fn paired(
     form: &ExprForm,
     place: Place,
     mark: Place,
-    a: TypedExpr,
-    b: Result<TypedExpr, CheckError>,
-) -> Result<TypedExpr, CheckError>
+    a: Box<TypedExpr>,
+    b: Result<Box<TypedExpr>, CheckError>,
+) -> Result<Box<TypedExpr>, CheckError>
     ensures { MatchResult b
-        (λ b. AnswersIn typed_of
-        (paired place mark (form_of form.now) (typed_of a) (typed_of b, env_of env.now))
+        (λ b. AnswersIn boxed_of
+        (paired place mark (form_of form.now) (boxed_of a) (boxed_of b, env_of env.now))
         (env_of env.now) result)
         (λ error. result ≡ Err error) }
 {
@@ -148,12 +151,12 @@ pub fn chosen(
     alloc: Global,
     place: Place,
     mark: Place,
-    c: TypedExpr,
-    a: TypedExpr,
-    b: Result<TypedExpr, CheckError>,
-) -> Result<TypedExpr, CheckError>
+    c: Box<TypedExpr>,
+    a: Box<TypedExpr>,
+    b: Result<Box<TypedExpr>, CheckError>,
+) -> Result<Box<TypedExpr>, CheckError>
     ensures { MatchResult b
-        (λ b. Answers typed_of (choice place mark (typed_of c) (typed_of a) (typed_of b)) result)
+        (λ b. Answers boxed_of (choice place mark (boxed_of c) (boxed_of a) (boxed_of b)) result)
         (λ error. result ≡ Err error) }
 {
     let (b, (c, a)) = keeping(b, (c, a))?;
@@ -167,10 +170,10 @@ pub fn cast_of(
     place: Place,
     mark: Place,
     at: Place,
-    e: Result<TypedExpr, CheckError>,
-) -> Result<TypedExpr, CheckError>
+    e: Result<Box<TypedExpr>, CheckError>,
+) -> Result<Box<TypedExpr>, CheckError>
     ensures { MatchResult e
-        (λ e. Answers typed_of (cast_to (type_of to) place mark at (typed_of e)) result)
+        (λ e. Answers boxed_of (cast_to (type_of to) place mark at (boxed_of e)) result)
         (λ error. result ≡ Err error) }
 {
     let (e, to) = keeping(e, to)?;
@@ -183,12 +186,12 @@ pub fn argument_made(
     signature: &Signature,
     number: usize,
     at: Place,
-    e: Result<TypedExpr, CheckError>,
-) -> Result<TypedExpr, CheckError>
+    e: Result<Box<TypedExpr>, CheckError>,
+) -> Result<Box<TypedExpr>, CheckError>
     ensures { MatchResult e
-        (λ e. Answers typed_of
+        (λ e. Answers boxed_of
         (argument_at (told (parameters_of (signature_of signature.now))) number at
-        (typed_of e)) result)
+        (boxed_of e)) result)
         (λ error. result ≡ Err error) }
 {
     argument_at(alloc, signature, number, at, e?)

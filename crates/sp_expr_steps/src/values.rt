@@ -4,8 +4,8 @@ ghost use Rattle.std.specs.Prelude.{◌≡◌, map, pos, unwrap_or, MatchResult,
 ghost use Rattle.sp_syntax.specs.View.{tree_of};
 ghost use Rattle.sp_types.specs.Typed.{of, typed};
 ghost use Rattle.sp_types.specs.Typed as tree;
-ghost use Rattle.sp_types.specs.TypedView.{typed_of, typed_list};
-ghost use Rattle.sp_types.specs.View.{type_of, signature_of};
+ghost use Rattle.sp_types.specs.TypedView.{boxed_of, typed_list, typed_of};
+ghost use Rattle.sp_types.specs.View.{type_of, shared_signature_of};
 ghost use Rattle.sp_operands.specs.Answers.{Answers, AnswersIn, accepted};
 ghost use Rattle.sp_rules.specs.Rules.{called};
 ghost use Rattle.sp_env.specs.Declaring.{LeadsTo};
@@ -26,6 +26,7 @@ use sp_tree::{Names, Place};
 use sp_types::{CType, Signature, TypedExpr};
 use sp_unary_rules::called;
 use std::alloc::Global;
+use std::rc::Rc;
 
 /// Declares the callee where it is a name that isn't declared (C90 6.3.2.2).
 pub fn callee_declared(
@@ -49,14 +50,14 @@ pub fn call_made(
     env: &Env,
     place: Place,
     mark: Place,
-    signature: Signature,
-    callee: TypedExpr,
+    signature: Rc<Signature>,
+    callee: Box<TypedExpr>,
     arguments: Result<Vec<TypedExpr>, CheckError>,
-) -> Result<TypedExpr, CheckError>
+) -> Result<Box<TypedExpr>, CheckError>
     ensures { MatchResult arguments
-        (λ arguments. Answers typed_of
-        (called (env_of env.now).tables.structs place mark (signature_of signature)
-        (typed_of callee) (typed_list (map typed_of arguments.items))) result)
+        (λ arguments. Answers boxed_of
+        (called (env_of env.now).tables.structs place mark (shared_signature_of signature)
+        (boxed_of callee) (typed_list (map typed_of arguments.items))) result)
         (λ error. result ≡ Err error) }
 {
     let (arguments, callee) = keeping(arguments, callee)?;
@@ -76,11 +77,11 @@ pub fn comma(
     alloc: Global,
     place: Place,
     mark: Place,
-    a: TypedExpr,
-    b: TypedExpr,
-) -> Result<TypedExpr, CheckError>
-    ensures { Answers typed_of
-        (accepted (typed (tree.comma (typed_of a) (typed_of b)) (of (typed_of b)) place mark))
+    a: Box<TypedExpr>,
+    b: Box<TypedExpr>,
+) -> Result<Box<TypedExpr>, CheckError>
+    ensures { Answers boxed_of
+        (accepted (typed (tree.comma (boxed_of a) (boxed_of b)) (of (boxed_of b)) place mark))
         result }
 {
     let of = b.of().copy(alloc);
@@ -101,15 +102,16 @@ fn length_of(env: &mut Env, value: &TypedExpr, at: Place) -> Result<u64, CheckEr
 /// The length of an array that this expression gives (C90 6.5.4.2); `at` is its place.
 pub fn length_told(
     env: &mut Env,
-    value: Result<TypedExpr, CheckError>,
+    value: Result<Box<TypedExpr>, CheckError>,
     at: Place,
 ) -> Result<u64, CheckError>
     ensures { MatchResult value
-        (λ value. AnswersIn (λ n. n) (length_told at (typed_of value) (env_of env.old))
+        (λ value. AnswersIn (λ n. n) (length_told at (boxed_of value) (env_of env.old))
         (env_of env.new) result)
         (λ error. result ≡ Err error) }
 {
-    length_of(env, &value?, at)
+    let value = value?;
+    length_of(env, &value, at)
 }
 
 /// The value behind which the next constant follows, where this expression gives it.
@@ -131,31 +133,33 @@ fn enumerator_of(
 /// next; `at` is the place of the expression, `place` that of the name.
 pub fn next_enumerator(
     env: &mut Env,
-    value: Result<TypedExpr, CheckError>,
+    value: Result<Box<TypedExpr>, CheckError>,
     at: Place,
     name: u32,
     place: Place,
 ) -> Result<Option<i128>, CheckError>
     ensures { MatchResult value
         (λ value. AnswersIn (λ z. unwrap_or z (pos 0))
-        (enumerator_told (env_of env.old) (typed_of value) at name place)
+        (enumerator_told (env_of env.old) (boxed_of value) at name place)
         (env_of env.new) result)
         (λ error. result ≡ Err error) }
 {
-    enumerator_of(env, &value?, at, name, place)
+    let value = value?;
+    enumerator_of(env, &value, at, name, place)
 }
 
 /// The size of a type that is named (C90 6.3.3.4).
 pub fn size_of_type(
+    alloc: Global,
     env: &mut Env,
     place: Place,
     mark: Place,
     of: Result<CType, CheckError>,
-) -> Result<TypedExpr, CheckError>
+) -> Result<Box<TypedExpr>, CheckError>
     ensures { MatchResult of
-        (λ of. AnswersIn typed_of (size_checked (env_of env.old) place mark (type_of of))
+        (λ of. AnswersIn boxed_of (size_checked (env_of env.old) place mark (type_of of))
         (env_of env.new) result)
         (λ error. result ≡ Err error) }
 {
-    size_checked(env, place, mark, &of?)
+    size_checked(alloc, env, place, mark, &of?)
 }

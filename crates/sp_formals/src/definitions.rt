@@ -1,5 +1,5 @@
 //! The declarator of a definition as a whole (C90 6.7.1).
-ghost use Rattle.std.specs.Prelude.{◌≡◌, map, option_map};
+ghost use Rattle.std.specs.Prelude.{◌≡◌, IfOk, map, option_map};
 ghost use Rattle.sp_syntax.specs.View.{declarator_of};
 ghost use Rattle.sp_types.specs.View.{type_of, signature_of, struct_of};
 ghost use Rattle.sp_operands.specs.Answers.{Answers, AnswersIn};
@@ -17,7 +17,8 @@ use sp_syntax::Declarator;
 use sp_tree::{FaultKind, Names, Place};
 use sp_type_rules::made;
 use sp_types::{CType, Signature, StructType};
-use std::alloc::Global;
+use std::alloc::{AllocError, Global};
+use std::rc::Rc;
 
 /// What the declarator of a definition declares: its name, with its place, the type of the
 /// function, and the numbers of its formals, in their order.
@@ -29,12 +30,15 @@ pub struct Own {
     pub formals: Vec<u32>,
 }
 
-fn function_type(of: CType) -> Option<Signature>
-    ensures { option_map signature_of result ≡ function_type (type_of of) }
+fn function_type(alloc: Global, of: CType) -> Result<Option<Signature>, AllocError>
+    ensures { IfOk result (λ s. option_map signature_of s ≡ function_type (type_of of)) }
 {
     match of {
-        CType::Function(signature) => Some(Box::into_inner(signature)),
-        _ => None,
+        CType::Function(signature) => match Rc::try_unwrap(signature) {
+            Ok(signature) => Ok(Some(signature)),
+            Err(shared) => Ok(Some(shared.copy(alloc)?)),
+        },
+        _ => Ok(None),
     }
 }
 
@@ -52,6 +56,7 @@ fn is_floating_array(of: &CType) -> bool
 
 /// What a declarator of this name declares, where its parts derive this type.
 fn own_told(
+    alloc: Global,
     structs: &[StructType],
     at: Place,
     name: (u32, Place),
@@ -61,7 +66,7 @@ fn own_told(
     ensures { Answers own_of
         (own_told (map struct_of structs.now) at name formals.items (type_of of)) result }
 {
-    let Some(of) = function_type(of) else {
+    let Some(of) = function_type(alloc, of)? else {
         return fault(FaultKind::F14, at);
     };
     if is_floating_array(of.result()) {
@@ -101,6 +106,6 @@ pub fn check_own_declarator(
     };
     let all = own_steps(alloc, declarator, env, names, at)?;
     let of = made(alloc, env.structs(), at, all.steps, base)?;
-    let own = own_told(env.structs(), at, name, all.formals, of)?;
+    let own = own_told(alloc, env.structs(), at, name, all.formals, of)?;
     Ok((own, all.scope))
 }

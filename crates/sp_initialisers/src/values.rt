@@ -3,7 +3,7 @@ ghost use Rattle.std.specs.Prelude.{◌≡◌, map, IfSome};
 ghost use Rattle.sp_syntax.specs.View.{tree_of, inits};
 ghost use Rattle.sp_types.specs.Programs.{object_of};
 ghost use Rattle.sp_types.specs.View.{type_of, struct_of};
-ghost use Rattle.sp_types.specs.TypedView.{typed_of};
+ghost use Rattle.sp_types.specs.TypedView.{boxed_of};
 ghost use Rattle.sp_operands.specs.Answers.{Answers, AnswersIn};
 ghost use Rattle.sp_env.specs.Views.{env_of};
 ghost use Rattle.sp_names.specs.Literals.{leaf_seen};
@@ -46,10 +46,10 @@ fn leaf(
     target: Target,
     at: Place,
     of: &CType,
-    value: TypedExpr,
-) -> Result<TypedExpr, CheckError>
-    ensures { Answers typed_of
-        (leaf (map object_of objects.now) target at (type_of of.now) (typed_of value)) result }
+    value: Box<TypedExpr>,
+) -> Result<Box<TypedExpr>, CheckError>
+    ensures { Answers boxed_of
+        (leaf (map object_of objects.now) target at (type_of of.now) (boxed_of value)) result }
 {
     if is_floating(of) {
         return fault(FaultKind::U1, at);
@@ -72,14 +72,14 @@ fn leaf_added(
     mut all: Vec<(u64, TypedExpr)>,
     of: &CType,
     from: u64,
-    value: TypedExpr,
+    value: Box<TypedExpr>,
 ) -> Result<Vec<(u64, TypedExpr)>, CheckError>
     ensures { Answers (λ v. map leaf_seen v.items)
         (leaf_added (map object_of objects.now) target at (map leaf_seen all.items)
-        (type_of of.now) from (typed_of value)) result }
+        (type_of of.now) from (boxed_of value)) result }
 {
     let value = leaf(alloc, objects, target, at, of, value)?;
-    all.push((from, value))?;
+    all.push((from, Box::into_inner(value)))?;
     Ok(all)
 }
 
@@ -171,10 +171,10 @@ fn struct_whole(
     target: Target,
     at: Place,
     of: &CType,
-    value: TypedExpr,
+    value: Box<TypedExpr>,
 ) -> Result<Vec<(u64, TypedExpr)>, CheckError>
     ensures { Answers (λ v. map leaf_seen v.items)
-        (struct_whole target at (type_of of.now) (typed_of value)) result }
+        (struct_whole target at (type_of of.now) (boxed_of value)) result }
 {
     if !convertible(value.of(), of) {
         return fault(FaultKind::F18, at);
@@ -182,8 +182,8 @@ fn struct_whole(
     if target.fixed {
         return fault(FaultKind::F19, at);
     }
-    let mut all = Vec::new(alloc);
-    all.push((0, value))?;
+    let mut all = Vec::with_capacity(alloc, 1)?;
+    all.push((0, Box::into_inner(value)))?;
     Ok(all)
 }
 
@@ -264,7 +264,7 @@ pub(crate) fn measured(
             if length > LONGEST {
                 return fault(FaultKind::F21, at);
             }
-            made_array(alloc, structs, Box::into_inner(element), Some(length), at)
+            made_array(alloc, structs, element.copy(alloc)?, Some(length), at)
         }
         _ => Ok(of),
     }

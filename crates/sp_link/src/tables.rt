@@ -22,7 +22,7 @@ fn start_renamed(
     ensures { IfOk result (λ all. map (λ s. (s.0, typed_of s.1)) all.items ≡
         rules.start_renamed (renaming_of to.now) (map (λ s. (s.0, typed_of s.1)) start.now)) }
 {
-    let mut all = Vec::new(alloc);
+    let mut all = Vec::with_capacity(alloc, start.len())?;
     for value in start {
         all.push((value.0, renamed(alloc, &value.1, to)?))?;
     }
@@ -59,7 +59,7 @@ pub(crate) fn objects_made(
         map (rules.object_made (map renaming_of renamings.now)) (map object_entry_of entries.now)) }
 {
     let none = no_renaming(alloc);
-    let mut all = Vec::new(alloc);
+    let mut all = Vec::with_capacity(alloc, entries.len())?;
     for entry in entries {
         let to = renaming_of_unit(renamings, entry.unit, &none);
         all.push(object_renamed(alloc, entry, to)?)?;
@@ -115,7 +115,7 @@ pub(crate) fn functions_made(
         (map function_entry_of entries.now)) }
 {
     let none = no_renaming(alloc);
-    let mut all = Vec::new(alloc);
+    let mut all = Vec::with_capacity(alloc, entries.len())?;
     for entry in entries {
         let to = renaming_of_unit(renamings, entry.unit, &none);
         all.push(function_renamed(alloc, entry, to)?)?;

@@ -1,6 +1,6 @@
 //! The cycle down statements (C90 6.6).
 ghost use Rattle.std.specs.Prelude.{◌≡◌, IfOk, map, option_map, OnOk};
-ghost use Rattle.sp_types.specs.TypedView.{typed_of, statement_of, statement_list};
+ghost use Rattle.sp_types.specs.TypedView.{boxed_of, statement_list, statement_of};
 ghost use Rattle.sp_draft.specs.View.{context_of, draft_of};
 ghost use Rattle.sp_draft.specs.Outcome.{Leaves, GivesEnds};
 ghost use Rattle.sp_lower_bodies.specs.Statements.{
@@ -26,10 +26,10 @@ use std::alloc::AllocError;
 fn maybe_unused(
     scope: &Scope<'_>,
     draft: &mut Draft,
-    e: &Option<TypedExpr>,
+    e: &Option<Box<TypedExpr>>,
 ) -> Result<(), AllocError>
     ensures { Leaves result (draft_of draft.new) (maybe_unused (context_of scope.now)
-        (option_map typed_of e.now) (draft_of draft.old)) }
+        (option_map boxed_of e.now) (draft_of draft.old)) }
 {
     match e {
         Some(e) => unused(scope, draft, e),
@@ -41,10 +41,10 @@ fn maybe_unused(
 fn maybe_branch(
     scope: &Scope<'_>,
     draft: &mut Draft,
-    e: &Option<TypedExpr>,
+    e: &Option<Box<TypedExpr>>,
 ) -> Result<Ends, AllocError>
     ensures { GivesEnds result (draft_of draft.new) (maybe_branch (context_of scope.now)
-        (option_map typed_of e.now) (draft_of draft.old)) }
+        (option_map boxed_of e.now) (draft_of draft.old)) }
 {
     match e {
         Some(e) => branch(scope, draft, e),
@@ -59,11 +59,11 @@ fn maybe_branch(
 fn maybe_returned(
     frame: &Frame<'_>,
     draft: &mut Draft,
-    e: &Option<TypedExpr>,
+    e: &Option<Box<TypedExpr>>,
     place: Place,
 ) -> Result<(), AllocError>
     ensures { Leaves result (draft_of draft.new) (maybe_returned (frame_of frame.now)
-        (option_map typed_of e.now) place (draft_of draft.old)) }
+        (option_map boxed_of e.now) place (draft_of draft.old)) }
 {
     match e {
         Some(e) => {

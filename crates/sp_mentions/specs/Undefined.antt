@@ -23,9 +23,13 @@ abbrev pub is_internal : Linkage → Bool
 is_internal Internal = true
 is_internal _ = false
 
+-- 6.7: its body isn't in the unit, and no other unit can have it
+abbrev pub is_internal_without_body : Function → Bool
+is_internal_without_body f = is_internal f.linkage && is_none f.body
+
 -- 6.7: a function with internal linkage that an expression mentions has a definition in its unit
 abbrev pub lacks_definition : List ℕ → ℕ → Function → Bool
-lacks_definition ms k f = is_internal f.linkage && is_none f.body && list_any (nat_eq k) ms
+lacks_definition ms k f = is_internal_without_body f && list_any (nat_eq k) ms
 
 -- the place of the first function, from this number on, that lacks one
 abbrev pub first_undefined : List ℕ → ℕ → List Function → Option Place

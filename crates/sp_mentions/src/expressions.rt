@@ -1,6 +1,6 @@
 //! The functions that expressions mention.
 ghost use Rattle.std.specs.Prelude.{◌≡◌, ◌++◌, OnOk, map, option_map};
-ghost use Rattle.sp_types.specs.TypedView.{typed_of, typed_form_of};
+ghost use Rattle.sp_types.specs.TypedView.{boxed_of, typed_of, typed_form_of};
 ghost use Rattle.sp_mentions.specs.Mentions.{
   mentions,
   form_mentions,
@@ -58,9 +58,9 @@ fn add_form(found: &mut Vec<u32>, form: &TypedForm) -> Result<(), AllocError>
 }
 
 /// The same of an expression that may be missing.
-pub(crate) fn add_maybe(found: &mut Vec<u32>, e: &Option<TypedExpr>) -> Result<(), AllocError>
+pub(crate) fn add_maybe(found: &mut Vec<u32>, e: &Option<Box<TypedExpr>>) -> Result<(), AllocError>
     ensures { OnOk result (found.new.items ≡
-        found.old.items ++ maybe_mentions (option_map typed_of e.now)) }
+        found.old.items ++ maybe_mentions (option_map boxed_of e.now)) }
 {
     match e {
         Some(e) => add_mentions(found, e),

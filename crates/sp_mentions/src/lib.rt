@@ -9,7 +9,8 @@
 //! at the place of its first declaration.
 //!
 //! The layer above uses that one contract: the call answers exactly what the definition of its name
-//! in `specs/Undefined.antt` gives, unless memory runs out. Each tree is gone over once.
+//! in `specs/Undefined.antt` gives, unless memory runs out. Each tree is gone over once at most,
+//! and none where each function with internal linkage has its body.
 #![tactic(auto)]
 
 mod expressions;

@@ -6,6 +6,7 @@ ghost use Rattle.sp_mentions.specs.Undefined.{
   objects_mention,
   bodies_mention,
   is_internal,
+  is_internal_without_body,
   first_undefined,
   undefined_function,
 };
@@ -69,8 +70,21 @@ fn first_undefined(mentioned: &IndexSet<usize>, functions: &[FunctionDef]) -> Op
     None
 }
 
+/// Whether a function with internal linkage has no body.
+fn any_internal_without_body(functions: &[FunctionDef]) -> bool
+    ensures { result ≡ list_any is_internal_without_body (map function_of functions.now) }
+{
+    'functions: for (i, function) in functions.iter().enumerate() {
+        if is_internal(function.linkage) && function.body.is_none() {
+            return true;
+        }
+    }
+    false
+}
+
 /// The place of the first function with internal linkage that the unit mentions and doesn't define
 /// (C90 6.7): where its first declaration names it.
+#[tactic(auto, using(crate::proofs::Bodies::none_undefined))]
 pub fn undefined_function(
     alloc: Global,
     objects: &[ObjectDef],
@@ -79,6 +93,10 @@ pub fn undefined_function(
     ensures { IfOk result (λ p. p ≡
         undefined_function (map object_of objects.now) (map function_of functions.now)) }
 {
+    // Where each function with internal linkage has its body, no tree has to be gone over.
+    if !any_internal_without_body(functions) {
+        return Ok(None);
+    }
     let mut found = Vec::new(alloc);
     add_objects(&mut found, objects)?;
     add_bodies(&mut found, functions)?;

@@ -1,6 +1,6 @@
 //! Numbers and characters (C90 6.1.3), and the values of `sizeof` (6.3.3.4).
 ghost use Rattle.std.specs.Prelude.{◌≡◌};
-ghost use Rattle.sp_types.specs.TypedView.{typed_of};
+ghost use Rattle.sp_types.specs.TypedView.{boxed_of};
 ghost use Rattle.sp_types.specs.View.{type_of};
 ghost use Rattle.sp_operands.specs.Answers.{AnswersIn};
 ghost use Rattle.sp_constants.specs.Constants.{literal_kind, first_that_holds};
@@ -11,6 +11,7 @@ use sp_env::Env;
 use sp_operands::{CheckError, fault};
 use sp_tree::{FaultKind, Number, Place};
 use sp_types::{CType, IntKind, TypedExpr, TypedForm, layout};
+use std::alloc::Global;
 
 const MAX_INT: u64 = 2147483647;
 
@@ -47,42 +48,45 @@ fn literal_kind(number: Number) -> IntKind
 
 /// A number as an expression.
 pub fn number_checked(
+    alloc: Global,
     env: &mut Env,
     number: Number,
     place: Place,
     mark: Place,
-) -> Result<TypedExpr, CheckError>
-    ensures { AnswersIn typed_of (number_checked (env_of env.old) number place mark)
+) -> Result<Box<TypedExpr>, CheckError>
+    ensures { AnswersIn boxed_of (number_checked (env_of env.old) number place mark)
         (env_of env.new) result }
 {
     env.add_constant(number.value as i128)?;
     let of = CType::Int(literal_kind(number));
-    Ok(TypedExpr::leaf(TypedForm::Number(number), of, place, mark))
+    Ok(TypedExpr::boxed(alloc, TypedForm::Number(number), of, place, mark)?)
 }
 
 /// A character as an expression, by its value.
 pub fn character_checked(
+    alloc: Global,
     env: &mut Env,
     value: i64,
     place: Place,
     mark: Place,
-) -> Result<TypedExpr, CheckError>
-    ensures { AnswersIn typed_of (character_checked (env_of env.old) value place mark)
+) -> Result<Box<TypedExpr>, CheckError>
+    ensures { AnswersIn boxed_of (character_checked (env_of env.old) value place mark)
         (env_of env.new) result }
 {
     env.add_constant(value as i128)?;
     let of = CType::Int(IntKind::Int);
-    Ok(TypedExpr::leaf(TypedForm::Char(value), of, place, mark))
+    Ok(TypedExpr::boxed(alloc, TypedForm::Char(value), of, place, mark)?)
 }
 
 /// The value of a `sizeof` of this type: F13 where it isn't complete.
 pub fn size_checked(
+    alloc: Global,
     env: &mut Env,
     place: Place,
     mark: Place,
     of: &CType,
-) -> Result<TypedExpr, CheckError>
-    ensures { AnswersIn typed_of (size_checked (env_of env.old) place mark (type_of of.now))
+) -> Result<Box<TypedExpr>, CheckError>
+    ensures { AnswersIn boxed_of (size_checked (env_of env.old) place mark (type_of of.now))
         (env_of env.new) result }
 {
     let Some(extent) = layout(of, env.structs()) else {
@@ -91,5 +95,5 @@ pub fn size_checked(
     let size = extent.size as i128;
     env.add_constant(size)?;
     let kind = CType::Int(IntKind::ULong);
-    Ok(TypedExpr::leaf(TypedForm::Constant(size), kind, place, mark))
+    Ok(TypedExpr::boxed(alloc, TypedForm::Constant(size), kind, place, mark)?)
 }

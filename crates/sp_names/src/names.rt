@@ -1,7 +1,7 @@
 //! Names in expressions (C90 6.3.1), and names that are called (6.3.2.2).
 ghost use Rattle.std.specs.Prelude.{◌≡◌, option_map};
 ghost use Rattle.std.specs.Option.{option_copied};
-ghost use Rattle.sp_types.specs.TypedView.{typed_of};
+ghost use Rattle.sp_types.specs.TypedView.{boxed_of};
 ghost use Rattle.sp_operands.specs.Answers.{Answers};
 ghost use Rattle.sp_rules.specs.Rules.{is_jump};
 ghost use Rattle.sp_scopes.specs.Meanings.{meaning_of};
@@ -28,11 +28,17 @@ pub(crate) fn bytes_of(names: &Names, name: u32) -> &[u8]
 }
 
 /// Whether the name is one of those that jump between functions.
+#[tactic(auto, using(crate::proofs::Jumps::jumps))]
 fn is_jump(names: &Names, name: u32) -> bool
     ensures { result ≡ is_jump (bytes_of names.now name) }
 {
     let bytes = bytes_of(names, name);
-    bytes == "setjmp".as_bytes() || bytes == "_setjmp".as_bytes() || bytes == "longjmp".as_bytes()
+    // The length alone tells most names apart.
+    match bytes.len() {
+        6 => bytes == "setjmp".as_bytes(),
+        7 => bytes == "_setjmp".as_bytes() || bytes == "longjmp".as_bytes(),
+        _ => false,
+    }
 }
 
 fn designated(
@@ -40,8 +46,8 @@ fn designated(
     env: &Env,
     place: Place,
     meaning: Option<&Meaning>,
-) -> Result<TypedExpr, CheckError>
-    ensures { Answers typed_of (designated (env_of env.now) place
+) -> Result<Box<TypedExpr>, CheckError>
+    ensures { Answers boxed_of (designated (env_of env.now) place
         (option_map meaning_of (option_copied meaning.entry))) result }
 {
     match meaning {
@@ -50,18 +56,18 @@ fn designated(
                 return fault(FaultKind::F8, place);
             };
             let of = of.copy(alloc)?;
-            Ok(TypedExpr::leaf(TypedForm::Object(*number), of, place, place))
+            Ok(TypedExpr::boxed(alloc, TypedForm::Object(*number), of, place, place)?)
         }
         Some(Meaning::Function(number)) => {
             let Some(of) = env.function_type(*number) else {
                 return fault(FaultKind::F8, place);
             };
             let of = CType::function(alloc, of.copy(alloc)?)?;
-            Ok(TypedExpr::leaf(TypedForm::Function(*number), of, place, place))
+            Ok(TypedExpr::boxed(alloc, TypedForm::Function(*number), of, place, place)?)
         }
         Some(Meaning::Constant(value)) => {
             let of = CType::Int(IntKind::Int);
-            Ok(TypedExpr::leaf(TypedForm::Constant(*value), of, place, place))
+            Ok(TypedExpr::boxed(alloc, TypedForm::Constant(*value), of, place, place)?)
         }
         _ => fault(FaultKind::F8, place),
     }
@@ -75,8 +81,8 @@ pub fn name_checked(
     names: &Names,
     name: u32,
     place: Place,
-) -> Result<TypedExpr, CheckError>
-    ensures { Answers typed_of (name_checked names.now (env_of env.now) name place) result }
+) -> Result<Box<TypedExpr>, CheckError>
+    ensures { Answers boxed_of (name_checked names.now (env_of env.now) name place) result }
 {
     if is_jump(names, name) {
         return fault(FaultKind::U2, place);

@@ -1,7 +1,7 @@
 //! String literals (C90 6.1.4).
 ghost use Rattle.std.specs.Prelude.{◌≡◌, IfOk, map};
 ghost use Rattle.sp_types.specs.Programs.{object_of};
-ghost use Rattle.sp_types.specs.TypedView.{typed_of};
+ghost use Rattle.sp_types.specs.TypedView.{boxed_of};
 ghost use Rattle.sp_operands.specs.Answers.{AnswersIn};
 ghost use Rattle.sp_env.specs.Views.{env_of};
 ghost use Rattle.sp_names.specs.Literals.{
@@ -51,7 +51,7 @@ fn characters(
 ) -> Result<Vec<(u64, TypedExpr)>, AllocError>
     ensures { IfOk result (λ v. map leaf_seen v.items ≡ characters kind place 0 bytes.now) }
 {
-    let mut leaves = Vec::new(alloc);
+    let mut leaves = Vec::with_capacity(alloc, bytes.len())?;
     'bytes: for (i, byte) in bytes.iter().enumerate() {
         let form = TypedForm::Constant(character_value(kind, *byte));
         let value = TypedExpr::leaf(form, CType::Int(kind), place, place);
@@ -87,8 +87,8 @@ pub fn text_checked(
     parts: &[u32],
     place: Place,
     mark: Place,
-) -> Result<TypedExpr, CheckError>
-    ensures { AnswersIn typed_of
+) -> Result<Box<TypedExpr>, CheckError>
+    ensures { AnswersIn boxed_of
         (text_checked names.now (env_of env.old) parts.now place mark) (env_of env.new) result }
 {
     let bytes = text_bytes(alloc, names, parts)?;
@@ -99,5 +99,5 @@ pub fn text_checked(
     let of = CType::array(alloc, CType::Int(IntKind::Char), Some(length))?;
     let number = env.add_object(text_object(alloc, bytes, place)?)?;
     env.add_constant(length as i128)?;
-    Ok(TypedExpr::leaf(TypedForm::Object(number), of, place, mark))
+    Ok(TypedExpr::boxed(alloc, TypedForm::Object(number), of, place, mark)?)
 }

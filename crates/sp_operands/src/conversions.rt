@@ -2,7 +2,7 @@
 ghost use Rattle.std.specs.Prelude.{◌≡◌, IfOk, map, option_map, Some, None};
 ghost use Rattle.sp_types.specs.Typed.{of};
 ghost use Rattle.sp_types.specs.View.{type_of, struct_of};
-ghost use Rattle.sp_types.specs.TypedView.{typed_of, typed_form_of};
+ghost use Rattle.sp_types.specs.TypedView.{boxed_of, typed_of, typed_form_of};
 ghost use Rattle.sp_operands.specs.Answers.{Answers};
 ghost use Rattle.sp_operands.specs.Conversions.{
   is_complete,
@@ -102,10 +102,7 @@ fn decayed_type(alloc: Global, lvalue: bool, of: &CType) -> Result<Option<CType>
     ensures { IfOk result (λ t. option_map type_of t ≡ decayed_type lvalue (type_of of.now)) }
 {
     match of {
-        CType::Array(element, _) if lvalue => {
-            let pointer = CType::pointer(alloc, element.copy(alloc)?)?;
-            Ok(Some(pointer))
-        }
+        CType::Array(element, _) if lvalue => { Ok(Some(CType::Pointer(element.clone()?))) }
         CType::Function(_) => {
             let pointer = CType::pointer(alloc, of.copy(alloc)?)?;
             Ok(Some(pointer))
@@ -115,8 +112,8 @@ fn decayed_type(alloc: Global, lvalue: bool, of: &CType) -> Result<Option<CType>
 }
 
 /// An array or a function as a pointer (C90 6.2.2.1).
-fn decayed(alloc: Global, e: TypedExpr) -> Result<TypedExpr, AllocError>
-    ensures { IfOk result (λ r. typed_of r ≡ decayed (typed_of e)) }
+fn decayed(alloc: Global, e: Box<TypedExpr>) -> Result<Box<TypedExpr>, AllocError>
+    ensures { IfOk result (λ r. boxed_of r ≡ decayed (boxed_of e)) }
 {
     match decayed_type(alloc, is_lvalue(&e), e.of())? {
         None => Ok(e),
@@ -134,14 +131,18 @@ fn is_open_struct(structs: &[StructType], of: &CType) -> bool
 }
 
 /// An expression as a value (C90 6.2.2.1).
+#[tactic(auto, using(crate::proofs::Values::scalar_value))]
 pub fn value(
     alloc: Global,
     structs: &[StructType],
     at: Place,
-    e: TypedExpr,
-) -> Result<TypedExpr, CheckError>
-    ensures { Answers typed_of (value (map struct_of structs.now) at (typed_of e)) result }
+    e: Box<TypedExpr>,
+) -> Result<Box<TypedExpr>, CheckError>
+    ensures { Answers boxed_of (value (map struct_of structs.now) at (boxed_of e)) result }
 {
+    if is_scalar(e.of()) {
+        return Ok(e);
+    }
     let e = decayed(alloc, e)?;
     if is_open_struct(structs, e.of()) {
         return fault(FaultKind::F13, at);
@@ -150,8 +151,8 @@ pub fn value(
 }
 
 /// The expression converted to a type, written out where it has another.
-pub fn converted(alloc: Global, to: &CType, e: TypedExpr) -> Result<TypedExpr, AllocError>
-    ensures { IfOk result (λ r. typed_of r ≡ converted (type_of to.now) (typed_of e)) }
+pub fn converted(alloc: Global, to: &CType, e: Box<TypedExpr>) -> Result<Box<TypedExpr>, AllocError>
+    ensures { IfOk result (λ r. boxed_of r ≡ converted (type_of to.now) (boxed_of e)) }
 {
     if same(e.of(), to) {
         Ok(e)

@@ -3,7 +3,7 @@ ghost use Rattle.std.specs.Prelude.{◌≡◌, IfOk, map, option_map};
 ghost use Rattle.std.specs.Option.{option_copied};
 ghost use Rattle.sp_types.specs.View.{type_of};
 ghost use Rattle.sp_types.specs.Typed as tree;
-ghost use Rattle.sp_types.specs.TypedView.{typed_of, typed_form_of, typed_list};
+ghost use Rattle.sp_types.specs.TypedView.{boxed_of, typed_of, typed_form_of, typed_list};
 ghost use Rattle.sp_renaming.specs.Renaming.{told_by, type_in, renamed, renamed_form, all_renamed};
 ghost use Rattle.sp_renaming.specs.View.{renaming_of};
 
@@ -74,9 +74,14 @@ pub fn renamed(alloc: Global, e: &TypedExpr, to: &Renaming) -> Result<TypedExpr,
     })
 }
 
+/// The same on the heap.
 #[cycle(expression)]
-fn boxed(alloc: Global, e: &TypedExpr, to: &Renaming) -> Result<Box<TypedExpr>, AllocError>
-    ensures { IfOk result (λ x. typed_of x.value ≡ renamed (renaming_of to.now) (typed_of e.now)) }
+pub(crate) fn boxed(
+    alloc: Global,
+    e: &TypedExpr,
+    to: &Renaming,
+) -> Result<Box<TypedExpr>, AllocError>
+    ensures { IfOk result (λ x. boxed_of x ≡ renamed (renaming_of to.now) (typed_of e.now)) }
 {
     Ok(Box::new(alloc, renamed(alloc, e, to)?)?)
 }
@@ -132,7 +137,7 @@ fn all_renamed(alloc: Global, es: &[TypedExpr], to: &Renaming) -> Result<Vec<Typ
     ensures { IfOk result (λ all. typed_list (map typed_of all.items) ≡
         all_renamed (renaming_of to.now) (typed_list (map typed_of es.now))) }
 {
-    let mut all = Vec::new(alloc);
+    let mut all = Vec::with_capacity(alloc, es.len())?;
     'es: for (i, e) in es.iter().enumerate() {
         all.push(renamed(alloc, e, to)?)?;
     }
@@ -142,14 +147,14 @@ fn all_renamed(alloc: Global, es: &[TypedExpr], to: &Renaming) -> Result<Vec<Typ
 /// The same of an expression that may be missing.
 pub(crate) fn maybe_renamed(
     alloc: Global,
-    e: &Option<TypedExpr>,
+    e: &Option<Box<TypedExpr>>,
     to: &Renaming,
-) -> Result<Option<TypedExpr>, AllocError>
-    ensures { IfOk result (λ x. option_map typed_of x ≡
-        option_map (renamed (renaming_of to.now)) (option_map typed_of e.now)) }
+) -> Result<Option<Box<TypedExpr>>, AllocError>
+    ensures { IfOk result (λ x. option_map boxed_of x ≡
+        option_map (renamed (renaming_of to.now)) (option_map boxed_of e.now)) }
 {
     match e {
-        Some(e) => Ok(Some(renamed(alloc, e, to)?)),
+        Some(e) => Ok(Some(boxed(alloc, e, to)?)),
         None => Ok(None),
     }
 }

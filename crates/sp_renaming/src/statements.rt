@@ -4,7 +4,7 @@ ghost use Rattle.sp_types.specs.TypedView.{statement_of, statement_form_of, stat
 ghost use Rattle.sp_renaming.specs.Renaming.{number_in, renamed_statement, renamed_statement_form, renamed_other, all_renamed_statements};
 ghost use Rattle.sp_renaming.specs.View.{renaming_of};
 
-use crate::expressions::{maybe_renamed, renamed};
+use crate::expressions::{boxed, maybe_renamed};
 use crate::types::{Renaming, number_in};
 use sp_types::{TypedStatement, TypedStatementForm};
 use std::alloc::{AllocError, Global};
@@ -13,7 +13,7 @@ use std::alloc::{AllocError, Global};
 fn renamed_numbers(alloc: Global, numbers: &[u32], objects: &[u32]) -> Result<Vec<u32>, AllocError>
     ensures { IfOk result (λ all. all.items ≡ map (number_in objects.now) numbers.now) }
 {
-    let mut all = Vec::new(alloc);
+    let mut all = Vec::with_capacity(alloc, numbers.len())?;
     for number in numbers {
         all.push(number_in(objects, *number))?;
     }
@@ -58,27 +58,27 @@ fn renamed_form(
             Ok(TypedStatementForm::Block(numbers, all_renamed(alloc, statements, to)?))
         }
         TypedStatementForm::Empty => Ok(TypedStatementForm::Empty),
-        TypedStatementForm::Of(e) => Ok(TypedStatementForm::Of(renamed(alloc, e, to)?)),
+        TypedStatementForm::Of(e) => Ok(TypedStatementForm::Of(boxed(alloc, e, to)?)),
         TypedStatementForm::If(e, s, None) => {
-            let e = renamed(alloc, e, to)?;
+            let e = boxed(alloc, e, to)?;
             TypedStatementForm::if_alone(alloc, e, renamed_statement(alloc, s, to)?)
         }
         TypedStatementForm::If(e, s, Some(other)) => {
-            let e = renamed(alloc, e, to)?;
+            let e = boxed(alloc, e, to)?;
             let s = renamed_statement(alloc, s, to)?;
             TypedStatementForm::if_else(alloc, e, s, renamed_statement(alloc, other, to)?)
         }
         TypedStatementForm::Switch(e, s) => {
-            let e = renamed(alloc, e, to)?;
+            let e = boxed(alloc, e, to)?;
             TypedStatementForm::switch_on(alloc, e, renamed_statement(alloc, s, to)?)
         }
         TypedStatementForm::While(e, s) => {
-            let e = renamed(alloc, e, to)?;
+            let e = boxed(alloc, e, to)?;
             TypedStatementForm::while_loop(alloc, e, renamed_statement(alloc, s, to)?)
         }
         TypedStatementForm::Do(s, e) => {
             let s = renamed_statement(alloc, s, to)?;
-            TypedStatementForm::do_loop(alloc, s, renamed(alloc, e, to)?)
+            TypedStatementForm::do_loop(alloc, s, boxed(alloc, e, to)?)
         }
         TypedStatementForm::For(a, b, c, s) => {
             let a = maybe_renamed(alloc, a, to)?;
@@ -104,7 +104,7 @@ fn all_renamed(
     ensures { IfOk result (λ all. statement_list (map statement_of all.items) ≡
         all_renamed_statements (renaming_of to.now) (statement_list (map statement_of statements.now))) }
 {
-    let mut all = Vec::new(alloc);
+    let mut all = Vec::with_capacity(alloc, statements.len())?;
     'statements: for (i, s) in statements.iter().enumerate() {
         all.push(renamed_statement(alloc, s, to)?)?;
     }

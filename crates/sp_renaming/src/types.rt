@@ -74,7 +74,7 @@ fn renamed_all(alloc: Global, these: &[CType], structs: &[u32]) -> Result<Vec<CT
     ensures { IfOk result (λ all. types (map type_of all.items) ≡
         renamed_types structs.now (types (map type_of these.now))) }
 {
-    let mut all = Vec::new(alloc);
+    let mut all = Vec::with_capacity(alloc, these.len())?;
     'these: for (i, t) in these.iter().enumerate() {
         all.push(renamed_type(alloc, t, structs)?)?;
     }

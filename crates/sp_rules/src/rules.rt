@@ -2,7 +2,7 @@
 ghost use Rattle.std.specs.Prelude.{◌≡◌, map};
 ghost use Rattle.sp_types.specs.Typed.{of};
 ghost use Rattle.sp_types.specs.View.{type_of, struct_of};
-ghost use Rattle.sp_types.specs.TypedView.{typed_of};
+ghost use Rattle.sp_types.specs.TypedView.{boxed_of, typed_of};
 ghost use Rattle.sp_operands.specs.Answers.{Answers};
 ghost use Rattle.sp_rules.specs.Rules.{
   cast_to,
@@ -32,9 +32,9 @@ pub fn cast_to(
     place: Place,
     mark: Place,
     at: Place,
-    e: TypedExpr,
-) -> Result<TypedExpr, CheckError>
-    ensures { Answers typed_of (cast_to (type_of to) place mark at (typed_of e)) result }
+    e: Box<TypedExpr>,
+) -> Result<Box<TypedExpr>, CheckError>
+    ensures { Answers boxed_of (cast_to (type_of to) place mark at (boxed_of e)) result }
 {
     if is_floating(&to) {
         return fault(FaultKind::U1, place);
@@ -52,11 +52,11 @@ pub fn binary(
     operator: Punct,
     place: Place,
     mark: Place,
-    a: TypedExpr,
-    b: TypedExpr,
-) -> Result<TypedExpr, CheckError>
-    ensures { Answers typed_of
-        (binary (map struct_of structs.now) operator place mark (typed_of a) (typed_of b)) result }
+    a: Box<TypedExpr>,
+    b: Box<TypedExpr>,
+) -> Result<Box<TypedExpr>, CheckError>
+    ensures { Answers boxed_of
+        (binary (map struct_of structs.now) operator place mark (boxed_of a) (boxed_of b)) result }
 {
     let Some(balance) = binary_balance(alloc, operator, a.of(), b.of())? else {
         return fault(FaultKind::F14, place);
@@ -74,11 +74,11 @@ pub fn choice(
     alloc: Global,
     place: Place,
     mark: Place,
-    c: TypedExpr,
-    a: TypedExpr,
-    b: TypedExpr,
-) -> Result<TypedExpr, CheckError>
-    ensures { Answers typed_of (choice place mark (typed_of c) (typed_of a) (typed_of b)) result }
+    c: Box<TypedExpr>,
+    a: Box<TypedExpr>,
+    b: Box<TypedExpr>,
+) -> Result<Box<TypedExpr>, CheckError>
+    ensures { Answers boxed_of (choice place mark (boxed_of c) (boxed_of a) (boxed_of b)) result }
 {
     if !is_scalar(c.of()) {
         return fault(FaultKind::F14, place);
@@ -107,10 +107,10 @@ fn stored(
     place: Place,
     mark: Place,
     there: Place,
-    a: TypedExpr,
-    b: TypedExpr,
-) -> Result<TypedExpr, CheckError>
-    ensures { Answers typed_of (stored (map struct_of structs.now) operator place mark there (typed_of a) (typed_of b)) result }
+    a: Box<TypedExpr>,
+    b: Box<TypedExpr>,
+) -> Result<Box<TypedExpr>, CheckError>
+    ensures { Answers boxed_of (stored (map struct_of structs.now) operator place mark there (boxed_of a) (boxed_of b)) result }
 {
     let of = a.of().copy(alloc)?;
     match operator {
@@ -158,10 +158,10 @@ pub fn assign(
     mark: Place,
     at: Place,
     there: Place,
-    a: TypedExpr,
-    b: TypedExpr,
-) -> Result<TypedExpr, CheckError>
-    ensures { Answers typed_of (assign (map struct_of structs.now) operator place mark at there (typed_of a) (typed_of b)) result }
+    a: Box<TypedExpr>,
+    b: Box<TypedExpr>,
+) -> Result<Box<TypedExpr>, CheckError>
+    ensures { Answers boxed_of (assign (map struct_of structs.now) operator place mark at there (boxed_of a) (boxed_of b)) result }
 {
     if !is_modifiable(&a) {
         return fault(FaultKind::F15, at);
@@ -173,8 +173,8 @@ pub fn assign(
 }
 
 /// No expression has a floating type.
-pub fn not_floating(place: Place, e: TypedExpr) -> Result<TypedExpr, CheckError>
-    ensures { Answers typed_of (not_floating place (typed_of e)) result }
+pub fn not_floating(place: Place, e: Box<TypedExpr>) -> Result<Box<TypedExpr>, CheckError>
+    ensures { Answers boxed_of (not_floating place (boxed_of e)) result }
 {
     if is_floating(e.of()) {
         return fault(FaultKind::U1, place);

@@ -67,6 +67,10 @@ impl Scope {
         ensures { option_map meaning_of (option_copied result) ≡
             entry (scope_of self.now).names name }
     {
+        // Most scopes of blocks declare nothing: no hash is taken for them.
+        if self.names.is_empty() {
+            return None;
+        }
         self.names.get(&name)
     }
 
@@ -74,6 +78,9 @@ impl Scope {
     pub fn tag(&self, name: u32) -> Option<Tag>
         ensures { result ≡ entry (scope_of self.now).tags name }
     {
+        if self.tags.is_empty() {
+            return None;
+        }
         self.tags.get(&name).copied()
     }
 

@@ -1,7 +1,7 @@
 //! The parts of statements that are no statements.
 ghost use Rattle.std.specs.Prelude.{[], map, option_map};
 ghost use Rattle.sp_syntax.specs.View.{tree_of, optional, declaration_of, declarations};
-ghost use Rattle.sp_types.specs.TypedView.{typed_of};
+ghost use Rattle.sp_types.specs.TypedView.{boxed_of};
 ghost use Rattle.sp_operands.specs.Answers.{AnswersIn};
 ghost use Rattle.sp_env.specs.Views.{env_of};
 ghost use Rattle.sp_statement_rules.specs.View.{around_of};
@@ -24,8 +24,8 @@ pub(crate) fn condition_checked(
     env: &mut Env,
     names: &Names,
     e: &Expr,
-) -> Result<TypedExpr, CheckError>
-    ensures { AnswersIn typed_of
+) -> Result<Box<TypedExpr>, CheckError>
+    ensures { AnswersIn boxed_of
         (parts.condition_checked names.now (env_of env.old) (tree_of e.now)) (env_of env.new)
         result }
 {
@@ -40,8 +40,8 @@ pub(crate) fn switch_checked(
     env: &mut Env,
     names: &Names,
     e: &Expr,
-) -> Result<TypedExpr, CheckError>
-    ensures { AnswersIn typed_of
+) -> Result<Box<TypedExpr>, CheckError>
+    ensures { AnswersIn boxed_of
         (parts.switch_checked names.now (env_of env.old) (tree_of e.now)) (env_of env.new)
         result }
 {
@@ -55,8 +55,8 @@ pub(crate) fn maybe_checked(
     env: &mut Env,
     names: &Names,
     e: &Option<Expr>,
-) -> Result<Option<TypedExpr>, CheckError>
-    ensures { AnswersIn (option_map typed_of)
+) -> Result<Option<Box<TypedExpr>>, CheckError>
+    ensures { AnswersIn (option_map boxed_of)
         (parts.maybe_checked names.now (env_of env.old) (optional e.now)) (env_of env.new) result }
 {
     match e {
@@ -71,8 +71,8 @@ pub(crate) fn maybe_condition(
     env: &mut Env,
     names: &Names,
     e: &Option<Expr>,
-) -> Result<Option<TypedExpr>, CheckError>
-    ensures { AnswersIn (option_map typed_of)
+) -> Result<Option<Box<TypedExpr>>, CheckError>
+    ensures { AnswersIn (option_map boxed_of)
         (parts.maybe_condition names.now (env_of env.old) (optional e.now)) (env_of env.new)
         result }
 {
@@ -90,8 +90,8 @@ pub(crate) fn maybe_returned(
     names: &Names,
     around: &Around<'_>,
     e: &Option<Expr>,
-) -> Result<Option<TypedExpr>, CheckError>
-    ensures { AnswersIn (option_map typed_of)
+) -> Result<Option<Box<TypedExpr>>, CheckError>
+    ensures { AnswersIn (option_map boxed_of)
         (parts.maybe_returned names.now (env_of env.old) (around_of around.now) (optional e.now))
         (env_of env.new) result }
 {

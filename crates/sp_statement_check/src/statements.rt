@@ -194,7 +194,7 @@ fn statements_checked(
         (statements (map tree_statement_of inner.now)))
         (env_of env.new) result }
 {
-    let mut all = Vec::new(alloc);
+    let mut all = Vec::with_capacity(alloc, inner.len())?;
     'statements: for (i, s) in inner.iter().enumerate() {
         all = one_statement(alloc, s, env, names, around, all)?;
     }

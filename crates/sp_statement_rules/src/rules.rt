@@ -1,6 +1,6 @@
 //! The rules, by the form of the statement.
 ghost use Rattle.std.specs.Prelude.{◌≡◌};
-ghost use Rattle.sp_types.specs.TypedView.{typed_of, statement_of, statement_form_of};
+ghost use Rattle.sp_types.specs.TypedView.{boxed_of, statement_form_of, statement_of, typed_of};
 ghost use Rattle.sp_operands.specs.Answers.{Answers};
 ghost use Rattle.sp_statement_rules.specs.Rules as rules;
 ghost use Rattle.sp_statement_rules.specs.View.{around_of};
@@ -16,8 +16,8 @@ use sp_types::{IntKind, TypedExpr, TypedStatement, TypedStatementForm, convertib
 use std::alloc::Global;
 
 /// The condition of an `if` or a loop is a scalar, else F14 at its place (C90 6.6.4.1, 6.6.5).
-pub fn condition(at: Place, e: TypedExpr) -> Result<TypedExpr, CheckError>
-    ensures { Answers typed_of (rules.condition at (typed_of e)) result }
+pub fn condition(at: Place, e: Box<TypedExpr>) -> Result<Box<TypedExpr>, CheckError>
+    ensures { Answers boxed_of (rules.condition at (boxed_of e)) result }
 {
     if !is_scalar(e.of()) {
         return fault(FaultKind::F14, at);
@@ -26,8 +26,12 @@ pub fn condition(at: Place, e: TypedExpr) -> Result<TypedExpr, CheckError>
 }
 
 /// The value of a switch is an integer, which is promoted; else F14 at its place (C90 6.6.4.2).
-pub fn switch_value(alloc: Global, at: Place, e: TypedExpr) -> Result<TypedExpr, CheckError>
-    ensures { Answers typed_of (rules.switch_value at (typed_of e)) result }
+pub fn switch_value(
+    alloc: Global,
+    at: Place,
+    e: Box<TypedExpr>,
+) -> Result<Box<TypedExpr>, CheckError>
+    ensures { Answers boxed_of (rules.switch_value at (boxed_of e)) result }
 {
     if integer_kind(e.of()).is_none() {
         return fault(FaultKind::F14, at);
@@ -39,11 +43,11 @@ pub fn switch_value(alloc: Global, at: Place, e: TypedExpr) -> Result<TypedExpr,
 /// A switch, whose cases differ, else F22 (C90 6.6.4.2).
 pub fn switch_made(
     alloc: Global,
-    e: TypedExpr,
+    e: Box<TypedExpr>,
     body: TypedStatement,
 ) -> Result<TypedStatementForm, CheckError>
     ensures { Answers statement_form_of
-        (rules.switch_made (typed_of e) (statement_of body)) result }
+        (rules.switch_made (boxed_of e) (statement_of body)) result }
 {
     distinct_cases(alloc, &body)?;
     Ok(TypedStatementForm::switch_on(alloc, e, body)?)
@@ -96,9 +100,9 @@ pub fn returned(
     alloc: Global,
     around: &Around<'_>,
     at: Place,
-    e: TypedExpr,
-) -> Result<TypedExpr, CheckError>
-    ensures { Answers typed_of (rules.returned (around_of around.now) at (typed_of e)) result }
+    e: Box<TypedExpr>,
+) -> Result<Box<TypedExpr>, CheckError>
+    ensures { Answers boxed_of (rules.returned (around_of around.now) at (boxed_of e)) result }
 {
     if !convertible(e.of(), around.result) {
         return fault(FaultKind::F18, at);

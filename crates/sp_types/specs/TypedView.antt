@@ -46,6 +46,9 @@ typed_of = fold-TypedExpr TypedForm Typed form_step typed_step
 abbrev pub typed_form_of : CodeForm → TypedForm
 typed_form_of = fold-TypedForm TypedForm Typed form_step typed_step
 
+abbrev pub boxed_of : Box TypedExpr Global → Typed
+boxed_of e = typed_of e.value
+
 -- ---- statements
 
 abbrev pub maybe_statement : Option (Box TypedStatement Global) → MaybeTypedStatement
@@ -62,16 +65,16 @@ statement_form_step (Case z s) = case_of z s.value
 statement_form_step (Default s) = default_of s.value
 statement_form_step (Block os ss) = block os.items (statement_list ss.items)
 statement_form_step Empty = empty
-statement_form_step (Of e) = single (typed_of e)
-statement_form_step (If e s other) = if_else (typed_of e) s.value (maybe_statement other)
-statement_form_step (Switch e s) = switch_on (typed_of e) s.value
-statement_form_step (While e s) = while_loop (typed_of e) s.value
-statement_form_step (Do s e) = do_loop s.value (typed_of e)
-statement_form_step (For a b c s) = for_loop (option_map typed_of a) (option_map typed_of b) (option_map typed_of c) s.value
+statement_form_step (Of e) = single (boxed_of e)
+statement_form_step (If e s other) = if_else (boxed_of e) s.value (maybe_statement other)
+statement_form_step (Switch e s) = switch_on (boxed_of e) s.value
+statement_form_step (While e s) = while_loop (boxed_of e) s.value
+statement_form_step (Do s e) = do_loop s.value (boxed_of e)
+statement_form_step (For a b c s) = for_loop (option_map boxed_of a) (option_map boxed_of b) (option_map boxed_of c) s.value
 statement_form_step (Goto n) = goto_name n
 statement_form_step Continue = continue_loop
 statement_form_step Break = break_out
-statement_form_step (Return e) = return_value (option_map typed_of e)
+statement_form_step (Return e) = return_value (option_map boxed_of e)
 
 abbrev pub statement_step : TypedStatement-F TypedStatementForm TypedStatement → TypedStatement
 statement_step s = typed_statement s.form s.place s.end

@@ -1,6 +1,7 @@
 -- The plain type that a value of the code stands for.
 use Rattle.std.specs.Prelude.{ℕ, List, [], ◌∷◌, map, Option, Some, None, Vec, option_map}
 use Rattle.std.specs.declared.alloc.Global.{Global}
+use Rattle.std.specs.declared.rc.Rc.{Rc}
 use Rattle.sp_types.specs.Types.{CType, void, integer, floating, pointer, array, structure, function, Signature, signature, Parameters, untold, listed, CTypes, no_types, next_type, Struct}
 use Rattle.sp_types.specs.declared.ctype.CType.{CType as CodeType, fold-CType}
 use Rattle.sp_types.specs.declared.ctype.Signature.{Signature as CodeSignature, fold-Signature}
@@ -32,6 +33,9 @@ type_of = fold-CType CType Signature type_step signature_step
 
 abbrev pub signature_of : CodeSignature → Signature
 signature_of = fold-Signature CType Signature type_step signature_step
+
+abbrev pub shared_signature_of : Rc CodeSignature Global → Signature
+shared_signature_of s = signature_of s.value
 
 abbrev pub struct_of : StructType → Struct
 struct_of s = record { tag = s.tag; union = s.union; members = option_map (λ ms. map (λ m. (m.0, type_of m.1)) ms.items) s.members; extent = s.extent; level = s.level; leaves = s.leaves; cells = s.cells }

@@ -2,19 +2,22 @@
 ghost use Rattle.std.specs.Prelude.{◌≡◌};
 ghost use Rattle.sp_types.specs.Arithmetic.{promoted_kind, common_kind};
 
-/// A type. An enumeration is `Int(Int)`, since C90 6.5.2.2 lets each be compatible with `int`.
+use std::rc::Rc;
+
+/// A type. An enumeration is `Int(Int)`, since C90 6.5.2.2 lets each be compatible with `int`. Copies share what they derive
+/// from, so none is made anew.
 #[derive(Drop)]
 #[cycle(ctype)]
 pub enum CType {
     Void,
     Int(IntKind),
     Float(FloatKind),
-    Pointer(Box<CType>),
+    Pointer(Rc<CType>),
     /// The type of its elements, and how many it has where that is known.
-    Array(Box<CType>, Option<u64>),
+    Array(Rc<CType>, Option<u64>),
     /// A struct or a union, by its number in the table of structs.
     Struct(u32),
-    Function(Box<Signature>),
+    Function(Rc<Signature>),
 }
 
 /// The type of a function (C90 6.5.4.3): its result, its parameters where it has a prototype, and whether more arguments may

@@ -5,21 +5,21 @@ ghost use Rattle.sp_types.specs.View.{type_of, signature_of, told};
 
 use crate::{CType, Signature};
 use std::alloc::{AllocError, Global};
+use std::rc::Rc;
 
 impl CType {
-    /// The same type again.
-    #[cycle(copying)]
-    pub fn copy(&self, alloc: Global) -> Result<CType, AllocError>
+    /// The same type again, which shares what it derives from.
+    pub fn copy(&self, _alloc: Global) -> Result<CType, AllocError>
         ensures { IfOk result (λ t. type_of t ≡ type_of self.now) }
     {
         match self {
             CType::Void => Ok(CType::Void),
             CType::Int(kind) => Ok(CType::Int(*kind)),
             CType::Float(kind) => Ok(CType::Float(*kind)),
-            CType::Pointer(to) => CType::pointer(alloc, to.copy(alloc)?),
-            CType::Array(element, length) => CType::array(alloc, element.copy(alloc)?, *length),
+            CType::Pointer(to) => Ok(CType::Pointer(to.clone()?)),
+            CType::Array(element, length) => Ok(CType::Array(element.clone()?, *length)),
             CType::Struct(number) => Ok(CType::Struct(*number)),
-            CType::Function(of) => CType::function(alloc, of.copy(alloc)?),
+            CType::Function(of) => Ok(CType::Function(of.clone()?)),
         }
     }
 
@@ -27,27 +27,26 @@ impl CType {
     pub fn pointer(alloc: Global, to: CType) -> Result<CType, AllocError>
         ensures { IfOk result (λ t. type_of t ≡ pointer (type_of to)) }
     {
-        Ok(CType::Pointer(Box::new(alloc, to)?))
+        Ok(CType::Pointer(Rc::new(alloc, to)?))
     }
 
     /// An array of the type, of so many elements where that is known.
     pub fn array(alloc: Global, element: CType, length: Option<u64>) -> Result<CType, AllocError>
         ensures { IfOk result (λ t. type_of t ≡ array (type_of element) length) }
     {
-        Ok(CType::Array(Box::new(alloc, element)?, length))
+        Ok(CType::Array(Rc::new(alloc, element)?, length))
     }
 
     /// A function of the signature.
     pub fn function(alloc: Global, of: Signature) -> Result<CType, AllocError>
         ensures { IfOk result (λ t. type_of t ≡ function (signature_of of)) }
     {
-        Ok(CType::Function(Box::new(alloc, of)?))
+        Ok(CType::Function(Rc::new(alloc, of)?))
     }
 }
 
 impl Signature {
     /// The same signature again.
-    #[cycle(copying)]
     pub fn copy(&self, alloc: Global) -> Result<Signature, AllocError>
         ensures { IfOk result (λ s. signature_of s ≡ signature_of self.now) }
     {
@@ -93,11 +92,10 @@ impl Signature {
     }
 }
 
-#[cycle(copying)]
 fn copy_all(alloc: Global, types: &[CType]) -> Result<Vec<CType>, AllocError>
     ensures { IfOk result (λ all. map type_of all.items ≡ map type_of types.now) }
 {
-    let mut all = Vec::new(alloc);
+    let mut all = Vec::with_capacity(alloc, types.len())?;
     'types: for (i, t) in types.iter().enumerate() {
         all.push(t.copy(alloc)?)?;
     }

@@ -2,7 +2,7 @@
 ghost use Rattle.std.specs.Prelude.{◌≡◌, IfOk, map, option_map};
 ghost use Rattle.sp_types.specs.Statements as tree;
 ghost use Rattle.sp_types.specs.Statements.{typed_statement, form_of, place_of, end_of};
-ghost use Rattle.sp_types.specs.TypedView.{typed_of, statement_of, statement_form_of};
+ghost use Rattle.sp_types.specs.TypedView.{boxed_of, statement_of, statement_form_of};
 
 use crate::{TypedExpr, TypedStatement, TypedStatementForm};
 use sp_tree::Place;
@@ -63,11 +63,11 @@ impl TypedStatementForm {
     /// `if (condition) body`
     pub fn if_alone(
         alloc: Global,
-        condition: TypedExpr,
+        condition: Box<TypedExpr>,
         body: TypedStatement,
     ) -> Result<Self, AllocError>
         ensures { IfOk result (λ f. statement_form_of f ≡
-            tree.if_else (typed_of condition) (statement_of body) tree.no_statement) }
+            tree.if_else (boxed_of condition) (statement_of body) tree.no_statement) }
     {
         Ok(Self::If(condition, Box::new(alloc, body)?, None))
     }
@@ -75,12 +75,12 @@ impl TypedStatementForm {
     /// `if (condition) body else other`
     pub fn if_else(
         alloc: Global,
-        condition: TypedExpr,
+        condition: Box<TypedExpr>,
         body: TypedStatement,
         other: TypedStatement,
     ) -> Result<Self, AllocError>
         ensures { IfOk result (λ f. statement_form_of f ≡
-            tree.if_else (typed_of condition) (statement_of body)
+            tree.if_else (boxed_of condition) (statement_of body)
             (tree.some_statement (statement_of other))) }
     {
         let body = Box::new(alloc, body)?;
@@ -91,11 +91,11 @@ impl TypedStatementForm {
     /// `switch (value) body`
     pub fn switch_on(
         alloc: Global,
-        value: TypedExpr,
+        value: Box<TypedExpr>,
         body: TypedStatement,
     ) -> Result<Self, AllocError>
         ensures { IfOk result (λ f. statement_form_of f ≡
-            tree.switch_on (typed_of value) (statement_of body)) }
+            tree.switch_on (boxed_of value) (statement_of body)) }
     {
         Ok(Self::Switch(value, Box::new(alloc, body)?))
     }
@@ -103,11 +103,11 @@ impl TypedStatementForm {
     /// `while (condition) body`
     pub fn while_loop(
         alloc: Global,
-        condition: TypedExpr,
+        condition: Box<TypedExpr>,
         body: TypedStatement,
     ) -> Result<Self, AllocError>
         ensures { IfOk result (λ f. statement_form_of f ≡
-            tree.while_loop (typed_of condition) (statement_of body)) }
+            tree.while_loop (boxed_of condition) (statement_of body)) }
     {
         Ok(Self::While(condition, Box::new(alloc, body)?))
     }
@@ -116,10 +116,10 @@ impl TypedStatementForm {
     pub fn do_loop(
         alloc: Global,
         body: TypedStatement,
-        condition: TypedExpr,
+        condition: Box<TypedExpr>,
     ) -> Result<Self, AllocError>
         ensures { IfOk result (λ f. statement_form_of f ≡
-            tree.do_loop (statement_of body) (typed_of condition)) }
+            tree.do_loop (statement_of body) (boxed_of condition)) }
     {
         Ok(Self::Do(Box::new(alloc, body)?, condition))
     }
@@ -127,14 +127,14 @@ impl TypedStatementForm {
     /// `for (start; condition; step) body`
     pub fn for_loop(
         alloc: Global,
-        start: Option<TypedExpr>,
-        condition: Option<TypedExpr>,
-        step: Option<TypedExpr>,
+        start: Option<Box<TypedExpr>>,
+        condition: Option<Box<TypedExpr>>,
+        step: Option<Box<TypedExpr>>,
         body: TypedStatement,
     ) -> Result<Self, AllocError>
         ensures { IfOk result (λ f. statement_form_of f ≡
-            tree.for_loop (option_map typed_of start) (option_map typed_of condition)
-            (option_map typed_of step) (statement_of body)) }
+            tree.for_loop (option_map boxed_of start) (option_map boxed_of condition)
+            (option_map boxed_of step) (statement_of body)) }
     {
         Ok(Self::For(start, condition, step, Box::new(alloc, body)?))
     }

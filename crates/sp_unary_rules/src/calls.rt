@@ -1,8 +1,8 @@
 //! Calls, and what their arguments convert to (C90 6.3.2.2).
 ghost use Rattle.std.specs.Prelude.{◌≡◌, IfOk, map, option_map, Some, None, length, slice_get};
 ghost use Rattle.sp_types.specs.Types.{parameters_of};
-ghost use Rattle.sp_types.specs.View.{type_of, struct_of, signature_of, types};
-ghost use Rattle.sp_types.specs.TypedView.{typed_of, typed_list};
+ghost use Rattle.sp_types.specs.View.{type_of, struct_of, signature_of, shared_signature_of, types};
+ghost use Rattle.sp_types.specs.TypedView.{boxed_of, typed_list, typed_of};
 ghost use Rattle.sp_operands.specs.Answers.{Answers};
 ghost use Rattle.sp_rules.specs.Rules.{
   call_type,
@@ -23,39 +23,45 @@ use sp_operands::{CheckError, converted, fault, is_complete, is_floating, is_voi
 use sp_tree::{FaultKind, Place};
 use sp_types::{CType, Signature, StructType, TypedExpr, convertible};
 use std::alloc::{AllocError, Global};
+use std::rc::Rc;
 
 /// What a pointer to a function says of it (C90 6.3.2.2).
-pub fn callee_type(alloc: Global, of: &CType) -> Result<Option<Signature>, AllocError>
-    ensures { IfOk result (λ s. option_map signature_of s ≡ callee_type (type_of of.now)) }
+fn callee_type(of: &CType) -> Result<Option<Rc<Signature>>, AllocError>
+    ensures { IfOk result (λ s. option_map shared_signature_of s ≡ callee_type (type_of of.now)) }
 {
     match of {
-        CType::Pointer(to) => pointed_signature(alloc, to),
+        CType::Pointer(to) => pointed_signature(to),
         _ => Ok(None),
     }
 }
 
-fn pointed_signature(alloc: Global, of: &CType) -> Result<Option<Signature>, AllocError>
-    ensures { IfOk result (λ s. option_map signature_of s ≡ function_type (type_of of.now)) }
+fn pointed_signature(of: &CType) -> Result<Option<Rc<Signature>>, AllocError>
+    ensures { IfOk result (λ s. option_map shared_signature_of s ≡ function_type (type_of of.now)) }
 {
     match of {
-        CType::Function(signature) => Ok(Some(signature.copy(alloc)?)),
+        CType::Function(signature) => Ok(Some(signature.clone()?)),
         _ => Ok(None),
     }
 }
 
 /// What the callee's type says of the function (C90 6.3.2.2); `at` is its place.
-pub fn called_signature(alloc: Global, at: Place, of: &CType) -> Result<Signature, CheckError>
-    ensures { Answers signature_of (called_signature at (type_of of.now)) result }
+pub fn called_signature(at: Place, of: &CType) -> Result<Rc<Signature>, CheckError>
+    ensures { Answers shared_signature_of (called_signature at (type_of of.now)) result }
 {
-    let Some(signature) = callee_type(alloc, of)? else {
+    let Some(signature) = callee_type(of)? else {
         return fault(FaultKind::F16, at);
     };
     Ok(signature)
 }
 
 /// An argument for a parameter of this type.
-pub fn argument(alloc: Global, to: &CType, at: Place, e: TypedExpr) -> Result<TypedExpr, CheckError>
-    ensures { Answers typed_of (argument (type_of to.now) at (typed_of e)) result }
+pub fn argument(
+    alloc: Global,
+    to: &CType,
+    at: Place,
+    e: Box<TypedExpr>,
+) -> Result<Box<TypedExpr>, CheckError>
+    ensures { Answers boxed_of (argument (type_of to.now) at (boxed_of e)) result }
 {
     if is_floating(to) {
         return fault(FaultKind::U1, at);
@@ -109,10 +115,10 @@ pub fn called(
     place: Place,
     mark: Place,
     signature: &Signature,
-    callee: TypedExpr,
+    callee: Box<TypedExpr>,
     arguments: Vec<TypedExpr>,
-) -> Result<TypedExpr, CheckError>
-    ensures { Answers typed_of (called (map struct_of structs.now) place mark (signature_of signature.now) (typed_of callee) (typed_list (map typed_of arguments.items))) result }
+) -> Result<Box<TypedExpr>, CheckError>
+    ensures { Answers boxed_of (called (map struct_of structs.now) place mark (signature_of signature.now) (boxed_of callee) (typed_list (map typed_of arguments.items))) result }
 {
     let of = call_type(alloc, structs, place, signature, arguments.len())?;
     Ok(TypedExpr::call(alloc, callee, arguments, of, place, mark)?)
@@ -156,9 +162,9 @@ pub fn argument_at(
     signature: &Signature,
     number: usize,
     at: Place,
-    e: TypedExpr,
-) -> Result<TypedExpr, CheckError>
-    ensures { Answers typed_of (argument_at (told (parameters_of (signature_of signature.now))) number at (typed_of e)) result }
+    e: Box<TypedExpr>,
+) -> Result<Box<TypedExpr>, CheckError>
+    ensures { Answers boxed_of (argument_at (told (parameters_of (signature_of signature.now))) number at (boxed_of e)) result }
 {
     let to = wanted(alloc, signature, number, e.of())?;
     argument(alloc, &to, at, e)

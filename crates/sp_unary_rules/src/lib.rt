@@ -13,6 +13,6 @@ mod calls;
 mod postfix;
 mod unary;
 
-pub use calls::{argument, argument_at, called, called_signature, callee_type};
+pub use calls::{argument_at, called, called_signature};
 pub use postfix::{arrow_taken, indexed, member_taken, stepped_after};
 pub use unary::{addressed, followed, takes_object, unary_object, unary_value};

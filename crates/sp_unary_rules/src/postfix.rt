@@ -1,7 +1,7 @@
 //! Indices, members and steps behind their operand (C90 6.3.2).
 ghost use Rattle.std.specs.Prelude.{◌≡◌, IfOk, map, option_map, Some, None, slice_get, drop};
 ghost use Rattle.sp_types.specs.View.{type_of, struct_of};
-ghost use Rattle.sp_types.specs.TypedView.{typed_of};
+ghost use Rattle.sp_types.specs.TypedView.{boxed_of, typed_of};
 ghost use Rattle.sp_operands.specs.Answers.{Answers};
 ghost use Rattle.sp_rules.specs.Rules.{
   indexed,
@@ -29,11 +29,11 @@ pub fn indexed(
     structs: &[StructType],
     place: Place,
     mark: Place,
-    a: TypedExpr,
-    b: TypedExpr,
-) -> Result<TypedExpr, CheckError>
-    ensures { Answers typed_of
-        (indexed (map struct_of structs.now) place mark (typed_of a) (typed_of b)) result }
+    a: Box<TypedExpr>,
+    b: Box<TypedExpr>,
+) -> Result<Box<TypedExpr>, CheckError>
+    ensures { Answers boxed_of
+        (indexed (map struct_of structs.now) place mark (boxed_of a) (boxed_of b)) result }
 {
     let Some(of) = element_type(alloc, a.of(), b.of())? else {
         return fault(FaultKind::F14, place);
@@ -121,10 +121,10 @@ pub fn member_taken(
     name: u32,
     place: Place,
     mark: Place,
-    e: TypedExpr,
-) -> Result<TypedExpr, CheckError>
-    ensures { Answers typed_of
-        (member_taken (map struct_of structs.now) name place mark (typed_of e)) result }
+    e: Box<TypedExpr>,
+) -> Result<Box<TypedExpr>, CheckError>
+    ensures { Answers boxed_of
+        (member_taken (map struct_of structs.now) name place mark (boxed_of e)) result }
 {
     let of = member_in(alloc, structs, struct_number(e.of()), name, place)?;
     Ok(TypedExpr::member(alloc, name, e, of, place, mark)?)
@@ -137,10 +137,10 @@ pub fn arrow_taken(
     name: u32,
     place: Place,
     mark: Place,
-    e: TypedExpr,
-) -> Result<TypedExpr, CheckError>
-    ensures { Answers typed_of
-        (arrow_taken (map struct_of structs.now) name place mark (typed_of e)) result }
+    e: Box<TypedExpr>,
+) -> Result<Box<TypedExpr>, CheckError>
+    ensures { Answers boxed_of
+        (arrow_taken (map struct_of structs.now) name place mark (boxed_of e)) result }
 {
     let of = member_in(alloc, structs, pointed_struct(e.of()), name, place)?;
     Ok(TypedExpr::arrow(alloc, name, e, of, place, mark)?)
@@ -177,10 +177,10 @@ pub fn stepped_after(
     place: Place,
     mark: Place,
     at: Place,
-    e: TypedExpr,
-) -> Result<TypedExpr, CheckError>
-    ensures { Answers typed_of
-        (stepped_after (map struct_of structs.now) operator place mark at (typed_of e)) result }
+    e: Box<TypedExpr>,
+) -> Result<Box<TypedExpr>, CheckError>
+    ensures { Answers boxed_of
+        (stepped_after (map struct_of structs.now) operator place mark at (boxed_of e)) result }
 {
     let of = stepped_type(alloc, structs, place, at, &e)?;
     Ok(TypedExpr::after(alloc, operator, e, of, place, mark)?)

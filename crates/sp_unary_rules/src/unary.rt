@@ -1,7 +1,7 @@
 //! Operators before their operand (C90 6.3.3).
 ghost use Rattle.std.specs.Prelude.{◌≡◌, IfOk, map, option_map, Some, None};
 ghost use Rattle.sp_types.specs.View.{type_of, struct_of};
-ghost use Rattle.sp_types.specs.TypedView.{typed_of};
+ghost use Rattle.sp_types.specs.TypedView.{boxed_of};
 ghost use Rattle.sp_operands.specs.Answers.{Answers};
 ghost use Rattle.sp_rules.specs.Rules.{
   addressed,
@@ -29,9 +29,9 @@ pub fn addressed(
     place: Place,
     mark: Place,
     at: Place,
-    e: TypedExpr,
-) -> Result<TypedExpr, CheckError>
-    ensures { Answers typed_of (addressed place mark at (typed_of e)) result }
+    e: Box<TypedExpr>,
+) -> Result<Box<TypedExpr>, CheckError>
+    ensures { Answers boxed_of (addressed place mark at (boxed_of e)) result }
 {
     if !is_lvalue(&e) && !is_function(e.of()) {
         return fault(FaultKind::F15, at);
@@ -59,9 +59,9 @@ pub fn followed(
     alloc: Global,
     place: Place,
     mark: Place,
-    e: TypedExpr,
-) -> Result<TypedExpr, CheckError>
-    ensures { Answers typed_of (followed place mark (typed_of e)) result }
+    e: Box<TypedExpr>,
+) -> Result<Box<TypedExpr>, CheckError>
+    ensures { Answers boxed_of (followed place mark (boxed_of e)) result }
 {
     let Some(of) = pointed_type(alloc, e.of())? else {
         return fault(FaultKind::F14, place);
@@ -87,10 +87,10 @@ pub fn unary_object(
     place: Place,
     mark: Place,
     at: Place,
-    e: TypedExpr,
-) -> Result<TypedExpr, CheckError>
-    ensures { Answers typed_of
-        (unary_object (map struct_of structs.now) operator place mark at (typed_of e)) result }
+    e: Box<TypedExpr>,
+) -> Result<Box<TypedExpr>, CheckError>
+    ensures { Answers boxed_of
+        (unary_object (map struct_of structs.now) operator place mark at (boxed_of e)) result }
 {
     match operator {
         Punct::Ampersand => addressed(alloc, place, mark, at, e),
@@ -102,8 +102,13 @@ pub fn unary_object(
 }
 
 /// `!e` (C90 6.3.3.3).
-fn denied(alloc: Global, place: Place, mark: Place, e: TypedExpr) -> Result<TypedExpr, CheckError>
-    ensures { Answers typed_of (denied place mark (typed_of e)) result }
+fn denied(
+    alloc: Global,
+    place: Place,
+    mark: Place,
+    e: Box<TypedExpr>,
+) -> Result<Box<TypedExpr>, CheckError>
+    ensures { Answers boxed_of (denied place mark (boxed_of e)) result }
 {
     if !is_scalar(e.of()) {
         return fault(FaultKind::F14, place);
@@ -124,9 +129,9 @@ fn signed_or_inverted(
     operator: Punct,
     place: Place,
     mark: Place,
-    e: TypedExpr,
-) -> Result<TypedExpr, CheckError>
-    ensures { Answers typed_of (signed_or_inverted operator place mark (typed_of e)) result }
+    e: Box<TypedExpr>,
+) -> Result<Box<TypedExpr>, CheckError>
+    ensures { Answers boxed_of (signed_or_inverted operator place mark (boxed_of e)) result }
 {
     let of = promoted_type(alloc, e.of())?;
     if !is_integer(&of) {
@@ -142,9 +147,9 @@ pub fn unary_value(
     operator: Punct,
     place: Place,
     mark: Place,
-    e: TypedExpr,
-) -> Result<TypedExpr, CheckError>
-    ensures { Answers typed_of (unary_value operator place mark (typed_of e)) result }
+    e: Box<TypedExpr>,
+) -> Result<Box<TypedExpr>, CheckError>
+    ensures { Answers boxed_of (unary_value operator place mark (boxed_of e)) result }
 {
     match operator {
         Punct::Star => followed(alloc, place, mark, e),

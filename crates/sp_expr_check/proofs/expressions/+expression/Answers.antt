@@ -14,7 +14,8 @@ use Rattle.sp_env.specs.Declaring.{LeadsTo}
 use Rattle.sp_syntax.specs.View.{tree_of, expressions}
 use Rattle.sp_types.specs.Types.{parameters_of}
 use Rattle.sp_types.specs.View.{signature_of}
-use Rattle.sp_types.specs.TypedView.{typed_of}
+use Rattle.sp_types.specs.TypedView.{boxed_of, typed_of}
+use Rattle.std.specs.declared.boxed.Box.{Box}
 use Rattle.sp_operands.specs.Answers.{accepted}
 use Rattle.sp_env.specs.Views.{env_of}
 use Rattle.sp_expr_steps.specs.SyntaxView.{form_of}
@@ -49,7 +50,7 @@ use Rattle.sp_expr_check.proofs.expressions.+expression.Goals as goal
 pub arguments_checked-arguments-init : goal.arguments_checked-arguments-init
 arguments_checked-arguments-init t c =
     let same : arguments_of (form_of c.args.form.now) ≡ expressions (map tree_of c.deref-e-items.result.now) = rw c.in-Call.is (rw (sym (rolls-Call c.in-Call.field-0 c.in-Call.arguments)) (rw fold-roll-ExprForm (rw c.deref-e-items.ensures.value refl))) in
-    begun c.args.names.now (env_of c.args.env.now) (told (parameters_of (signature_of c.args.signature.now))) (map typed_of c.new-all.result.items) (expressions (map tree_of c.deref-e-items.result.now)) (arguments_of (form_of c.args.form.now)) (ap (map typed_of) c.new-all.ensures.items) same
+    begun c.args.names.now (env_of c.args.env.now) (told (parameters_of (signature_of c.args.signature.now))) (map typed_of c.in_ok-all.all.items) (expressions (map tree_of c.deref-e-items.result.now)) (arguments_of (form_of c.args.form.now)) (ap (map typed_of) c.in_ok-all.ensures.items) same
 
 pub arguments_checked-returns : goal.arguments_checked-returns
 arguments_checked-returns t c =
@@ -67,10 +68,10 @@ arguments_checked-arguments-preserved t c =
     let whole = arguments_checked c.args.names.now (env_of c.args.env.now) ts (arguments_of (form_of c.args.form.now)) in
     let one = one_checked c.args.names.now (env_of c.arguments.env) ts c.arguments.i e in
     let after = env_of c.argument_checked-next.new.env in
-    let g : one ≡ accepted (typed_of c.in_ok-next.next, after) = subst (λ (r : Result TypedExpr CheckError). AnswersIn typed_of one after r) c.in_ok-next.ensures.0 c.argument_checked-next.ensures in
+    let g : one ≡ accepted (boxed_of c.in_ok-next.next, after) = subst (λ (r : Result (Box TypedExpr Global) CheckError). AnswersIn boxed_of one after r) c.in_ok-next.ensures.0 c.argument_checked-next.ensures in
     let h = rw (front c.deref-e-items.result.now c.arguments.i c.e-item.result c.arguments-test.true c.e-item.is) at c.arguments.invariant in
-    let items : c.in_ok-all.all.items ≡ c.arguments.all.items ++ c.in_ok-next.next ∷ [] = c.in_ok-all.ensures ∙ ap (λ (v : Vec TypedExpr Global). v.items ++ c.in_ok-next.next ∷ []) c.in_ok-next.ensures.1 in
-    rw (items, map-append, add-one) (step whole c.args.names.now (env_of c.arguments.env) after c.arguments.i ts (map typed_of c.arguments.all.items) e rest (typed_of c.in_ok-next.next) g h)
+    let items : c.in_ok-all-2.all.items ≡ c.arguments.all.items ++ c.in_ok-next.next.value ∷ [] = rw (sym c.into_inner-value.ensures) (c.in_ok-all-2.ensures ∙ ap (λ (v : Vec TypedExpr Global). v.items ++ c.into_inner-value.result ∷ []) c.in_ok-next.ensures.1) in
+    rw (items, map-append, add-one) (step whole c.args.names.now (env_of c.arguments.env) after c.arguments.i ts (map typed_of c.arguments.all.items) e rest (boxed_of c.in_ok-next.next) g h)
 
 pub arguments_checked-returns-in_err-next : goal.arguments_checked-returns-in_err-next
 arguments_checked-returns-in_err-next t c =
@@ -82,9 +83,9 @@ arguments_checked-returns-in_err-next t c =
     let after = env_of c.argument_checked-next.new.env in
     let h = rw (front c.deref-e-items.result.now c.arguments.i c.e-item.result c.arguments-test.true c.e-item.is) at c.arguments.invariant in
     let seen : Vec TypedExpr Global → TypedList = λ es. typed_list (map typed_of es.items) in
-    let g : AnswersIn typed_of one after (Err c.in_err-next.field-0.0) = subst (λ (r : Result TypedExpr CheckError). AnswersIn typed_of one after r) c.in_err-next.ensures c.argument_checked-next.ensures in
-    let made : AnswersIn seen whole after (Err c.in_err-next.field-0.0) = failed seen typed_of whole one after after c.in_err-next.field-0.0 (λ k p g. stopped whole c.args.names.now (env_of c.arguments.env) c.arguments.i ts (map typed_of c.arguments.all.items) e rest k p h g) g in
-    let p = err_from_is_err_and c.from_residual.result c.from_residual.ensures.1 in
+    let g : AnswersIn boxed_of one after (Err c.in_err-next.field-0.0) = subst (λ (r : Result (Box TypedExpr Global) CheckError). AnswersIn boxed_of one after r) c.in_err-next.ensures c.argument_checked-next.ensures in
+    let made : AnswersIn seen whole after (Err c.in_err-next.field-0.0) = failed seen boxed_of whole one after after c.in_err-next.field-0.0 (λ k p g. stopped whole c.args.names.now (env_of c.arguments.env) c.arguments.i ts (map typed_of c.arguments.all.items) e rest k p h g) g in
+    let p = err_from_is_err_and c.from_residual-in_err-next.result c.from_residual-in_err-next.ensures.1 in
     rw (p.1, p.2) made
 
 pub params_checked-params-init : goal.params_checked-params-init
@@ -247,4 +248,4 @@ constants_checked-returns-in_err-next t c =
 pub length_checked-returns : goal.length_checked-returns
 length_checked-returns t c =
     let h = rw (sym (place_of-view c.args.length.now)) at c.length_told.ensures in
-    followed typed_of (λ n. n) (value_checked c.args.names.now (env_of c.args.env.now) (tree_of c.args.length.now)) (λ y. length_told (place_of (tree_of c.args.length.now)) y.0 y.1) (env_of c.value_checked-value.new.env) (env_of c.length_told.new.env) c.value_checked-value.result c.length_told.result c.value_checked-value.ensures h
+    followed boxed_of (λ n. n) (value_checked c.args.names.now (env_of c.args.env.now) (tree_of c.args.length.now)) (λ y. length_told (place_of (tree_of c.args.length.now)) y.0 y.1) (env_of c.value_checked-value.new.env) (env_of c.length_told.new.env) c.value_checked-value.result c.length_told.result c.value_checked-value.ensures h

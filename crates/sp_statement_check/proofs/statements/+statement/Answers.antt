@@ -24,14 +24,14 @@ statements_checked-statements-preserved t c =
     let part = one_statement names (env_of c.statements.env) a (map statement_of c.statements.all.items) (tree_statement_of c.index-inner-i.result) in
     let first = first_statement items c.statements.i c.index-inner-i.result c.statements-test.true c.index-inner-i.is in
     let h : and_then part (λ x. statements_checked names x.1 a x.0 rest) ≡ whole = sym (ap (statements_checked names (env_of c.statements.env) a (map statement_of c.statements.all.items)) first) ∙ c.statements.invariant in
-    rw add-one (taken part (λ x. statements_checked names x.1 a x.0 rest) (map statement_of c.in_ok-all.all.items, env_of c.one_statement.new.env) whole h c.in_ok-all.ensures)
+    rw add-one (taken part (λ x. statements_checked names x.1 a x.0 rest) (map statement_of c.in_ok-all-2.all.items, env_of c.one_statement.new.env) whole h c.in_ok-all-2.ensures)
 
 pub statements_checked-returns : goal.statements_checked-returns
 statements_checked-returns t c =
     sym c.statements.invariant ∙ ap (statements_checked c.args.names.now (env_of c.statements.env) (around_of c.args.around.now) (map statement_of c.statements.all.items)) (no_statement_left c.args.inner.now c.statements.i c.statements-test.false)
 
-pub statements_checked-returns-in_err-all : goal.statements_checked-returns-in_err-all
-statements_checked-returns-in_err-all t c =
+pub statements_checked-returns-in_err-all-2 : goal.statements_checked-returns-in_err-all-2
+statements_checked-returns-in_err-all-2 t c =
     let items = c.args.inner.now in
     let names = c.args.names.now in
     let a = around_of c.args.around.now in
@@ -41,7 +41,7 @@ statements_checked-returns-in_err-all t c =
     let first = first_statement items c.statements.i c.index-inner-i.result c.statements-test.true c.index-inner-i.is in
     let h : and_then part (λ x. statements_checked names x.1 a x.0 rest) ≡ whole = sym (ap (statements_checked names (env_of c.statements.env) a (map statement_of c.statements.all.items)) first) ∙ c.statements.invariant in
     let seen : Vec CodeStatement Global → List TypedStatement = λ ts. map statement_of ts.items in
-    let made : AnswersIn seen whole (env_of c.one_statement.new.env) (Err c.in_err-all.field-0.0) =
-    list_failed seen seen whole part (env_of c.one_statement.new.env) (env_of c.one_statement.new.env) c.in_err-all.field-0.0 (ended part (λ x. statements_checked names x.1 a x.0 rest) whole h) c.in_err-all.ensures in
-    let p = err_from_is_err_and c.from_residual.result c.from_residual.ensures.1 in
+    let made : AnswersIn seen whole (env_of c.one_statement.new.env) (Err c.in_err-all-2.field-0.0) =
+    list_failed seen seen whole part (env_of c.one_statement.new.env) (env_of c.one_statement.new.env) c.in_err-all-2.field-0.0 (ended part (λ x. statements_checked names x.1 a x.0 rest) whole h) c.in_err-all-2.ensures in
+    let p = err_from_is_err_and c.from_residual-in_err-all-2.result c.from_residual-in_err-all-2.ensures.1 in
     rw (p.1, p.2) made

@@ -1,0 +1,34 @@
+-- Values that are no arrays, functions or structs.
+use Rattle.std.proofs.Common.{◌≡◌, Bool, true, false, not, List, None, refl, sym, true≢false}
+use Rattle.sp_tree.specs.declared.fault.Place.{Place}
+use Rattle.sp_types.specs.Types.{CType, void, integer, floating, pointer, array, structure, function, Struct}
+use Rattle.sp_types.specs.Typed.{Typed, of}
+use Rattle.sp_operands.specs.Answers.{accepted}
+use Rattle.sp_operands.specs.Conversions.{is_scalar, is_lvalue, is_open_struct, decayed_type, decayed, value}
+
+stays : (lvalue : Bool) (t : CType) → is_scalar t ≡ true → decayed_type lvalue t ≡ None
+stays lvalue void h = absurd (true≢false (sym h))
+stays true (integer k) h = refl
+stays false (integer k) h = refl
+stays lvalue (floating k) h = absurd (true≢false (sym h))
+stays true (pointer t) h = refl
+stays false (pointer t) h = refl
+stays lvalue (array t n) h = absurd (true≢false (sym h))
+stays lvalue (structure k) h = absurd (true≢false (sym h))
+stays lvalue (function s) h = absurd (true≢false (sym h))
+
+closed : (ss : List Struct) (t : CType) → is_scalar t ≡ true → not (is_open_struct ss t) ≡ true
+closed ss void h = absurd (true≢false (sym h))
+closed ss (integer k) h = refl
+closed ss (floating k) h = absurd (true≢false (sym h))
+closed ss (pointer t) h = refl
+closed ss (array t n) h = absurd (true≢false (sym h))
+closed ss (structure k) h = absurd (true≢false (sym h))
+closed ss (function s) h = absurd (true≢false (sym h))
+
+as_it_stands : (e : Typed) → is_scalar (of e) ≡ true → decayed e ≡ e
+as_it_stands e h = rw (stays (is_lvalue e) (of e) h, decayed) refl
+
+-- an integer or a pointer is a value as it stands
+pub scalar_value : (ss : List Struct) (p : Place) (e : Typed) → is_scalar (of e) ≡ true → value ss p e ≡ accepted e
+scalar_value ss p e h = rw (as_it_stands e h, value) (rw (closed ss (of e) h) refl)
