@@ -12,9 +12,10 @@
 //! the second semicolon b.c is refused at b.c:1:27, and a.c alone at a.c:1:1, since it has no
 //! `main`.
 //!
-//! The layer above uses [`lowered_of`] alone. Its contract (`Answers` of `specs/Answers.antt`) says
-//! which program it is, or which fault. A program that calls the library is refused there, since
-//! its effects aren't built yet; [`lowering_of`] gives its lowering too, for the programs of rows.
+//! The layer above uses [`lowered_of`], with the limits on files and their bytes. Its contract
+//! (`Answers` of `specs/Answers.antt`) says which program it is, or which fault. A program that
+//! calls the library is refused there, since its effects aren't built yet; [`lowering_of`] gives
+//! its lowering too, for the programs of rows.
 #![tactic(auto)]
 
 mod files;

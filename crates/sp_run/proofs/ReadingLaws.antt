@@ -3,6 +3,7 @@ use Rattle.std.proofs.Common.{◌≡◌, ◌+◌, ◌≤◌, ◌<◌, ℕ, zero,
 use Rattle.std.proofs.lemmas.List.{length-append, length-map, map-append}
 use Rattle.sp_outside.specs.Told.{Told, untold, missing, held}
 use Rattle.sp_front.specs.Sources.{Source, total_length, most_files, max_text, AreWithin}
+use Rattle.sp_front.proofs.Totals.{total_last}
 use Rattle.sp_run.specs.declared.reading.Unread.{Unread}
 use Rattle.sp_run.specs.declared.reading.Unread.TheVariants.{TooLong, Fault, NoMemory}
 use Rattle.sp_run.specs.Reading.{IfReadable, AreRead, none, another, IsPastFiles, IsNext, IsPastBytes, Explains, IsCauseAt}
@@ -11,10 +12,6 @@ readable-weaker : (t : Told) {P Q : List ℕ → Type 0} → ((text : List ℕ) 
 readable-weaker untold f p = tt
 readable-weaker missing f p = absurd p
 readable-weaker (held text) f p = f text p
-
-total-last : (sources : List Source) (s : Source) → total_length (sources ++ s ∷ []) ≡ total_length sources + length s.text
-total-last [] s = omega arith
-total-last (x ∷ sources) s = let more = total-last sources s in omega (arith, more)
 
 pub same-length : (texts : List ℕ → Told) (names : List (List ℕ)) (sources : List Source) → AreRead texts names sources → length names ≡ length sources
 same-length texts names sources none = refl
@@ -80,7 +77,7 @@ module _ (texts : List ℕ → Told) (whole rest : List (List ℕ)) (name : List
     is = at.is ∙ sym (append_assoc at.done (name ∷ []) rest);
     read = subst (λ n. AreRead texts (at.done ++ n ∷ []) (sources ++ s ∷ [])) named
         (another at.read s (subst (λ n. IfReadable (texts n) (λ t. s.text ≡ t)) (sym named) text));
-    fits = let total = total-last sources s in omega (arith, total, fits, at.fits);
+    fits = let total = total_last sources s in omega (arith, total, fits, at.fits);
   }
 
   next : IsNext texts whole name sources

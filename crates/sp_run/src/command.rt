@@ -13,15 +13,13 @@ use crate::analysis::answer_to;
 use crate::reading::{Unread, read_sources};
 use crate::refusals::refusal;
 use crate::status::{Answer, Status};
+use sp_front::MAX_FILES;
 use sp_lattice::Steps;
 use sp_outside::{Files, Sink, write_whole};
 use sp_tree::FaultKind;
 use sp_words::{Request, request_of};
 use std::alloc::{AllocError, Global};
 use std::sync::ledger::Ledger;
-
-/// The most files that are taken.
-const MAX_FILES: usize = 64;
 
 /// Why there is no answer.
 #[derive(Clone, Copy)]

@@ -6,12 +6,9 @@ ghost use Rattle.sp_front.specs.Sources.{source_of, total_length, max_text};
 ghost use Rattle.sp_run.specs.declared.reading.Unread.TheVariants.{NoMemory};
 ghost use Rattle.sp_run.specs.Reading.{IfReadable, AreRead, IsCauseAt, Explains};
 
-use sp_front::Source;
+use sp_front::{MAX_TEXT, Source};
 use sp_outside::{Files, ReadError, read_whole};
 use std::alloc::{AllocError, AllocFailed, Global};
-
-/// The most bytes of all files.
-const MAX_TEXT: u64 = 16_777_216;
 
 /// Why the files aren't read.
 #[derive(Clone, Copy)]
@@ -87,7 +84,7 @@ pub(crate) fn read_sources<'a, F: Files>(
         F.text_of files.old name ≢ missing) → result ≢ Err Unread.Fault }
 {
     let mut sources = Vec::new(alloc);
-    let mut room = MAX_TEXT;
+    let mut room = MAX_TEXT as u64;
     for name in names {
         let source = read_source(alloc, name, room, files)?;
         room -= source.text.len() as u64;
