@@ -24,7 +24,7 @@ use Rattle.sp_c_steps.proofs.Steps.{begun, got, last}
 use Rattle.sp_c_steps.proofs.Parts.{stop_part}
 use Rattle.sp_c_steps.proofs.ListSteps.{choice_ends, enumerators_on, enumerators_more, map_more}
 use Rattle.sp_c_lists.specs.Heads.{IsPastComma, Lacks}
-use Rattle.sp_c_lists.specs.Bodies.{AreBehind, ConstantsGoOn, HasConstants, IsBeforeConstant}
+use Rattle.sp_c_lists.specs.Bodies.{ConstantsAreBehind, ConstantsGoOn, HasConstants, IsBeforeConstant}
 use Rattle.sp_c_lists.proofs.Opened.{past_ended}
 
 module _ (g : Context) (scope : Scope) (depth : ℕ) (inside : List Token) where
@@ -51,17 +51,17 @@ module _ (g : Context) (scope : Scope) (depth : ℕ) (inside : List Token) where
   }
 
   -- one is read behind those
-  pub constants_go_on : (more : Bool) (es : List Enumerator) (mid rest : List Token) → AreBehind g inside es mid → IsPastComma g.types mid more rest → ConstantsGoOn g scope depth inside more es rest
+  pub constants_go_on : (more : Bool) (es : List Enumerator) (mid rest : List Token) → ConstantsAreBehind g inside es mid → IsPastComma g.types mid more rest → ConstantsGoOn g scope depth inside more es rest
   constants_go_on true es mid rest b e =
       let on = enumerators_on g (b.first ∷ []) es b.mid mid rest e.first b.step e.whole e.stands in
       record {
         takes = λ v later r. record { first = b.first; mid = b.mid; one = b.one; step = last (got on r) };
         stops = λ s h. in_later s (record { first = b.first; mid = b.mid; one = b.one; why = stop_part g g g (grammar.enumerators (b.first ∷ [])) (grammar.enumerators es) grammar.enumerator (λ a. a) (enumerators_more g es) depth depth b.mid rest on (omega arith) s h });
       }
-  constants_go_on false es mid rest b e = (subst (λ v. AreBehind g inside es v) (sym e.0) b, subst (λ v. Lacks g.types tokens.comma v) (sym e.0) e.1)
+  constants_go_on false es mid rest b e = (subst (λ v. ConstantsAreBehind g inside es v) (sym e.0) b, subst (λ v. Lacks g.types tokens.comma v) (sym e.0) e.1)
 
 -- no comma goes on with them
-pub constants_end : (g : Context) (inside : List Token) (es : List Enumerator) (rest : List Token) → (b : AreBehind g inside es rest) → Lacks g.types tokens.comma rest → Reads c_table (at g (grammar.enumerators (b.first ∷ []))) (ask (at g (grammar.enumerators (b.first ∷ [])))) (c_tokens b.mid) es (c_tokens rest)
+pub constants_end : (g : Context) (inside : List Token) (es : List Enumerator) (rest : List Token) → (b : ConstantsAreBehind g inside es rest) → Lacks g.types tokens.comma rest → Reads c_table (at g (grammar.enumerators (b.first ∷ []))) (ask (at g (grammar.enumerators (b.first ∷ [])))) (c_tokens b.mid) es (c_tokens rest)
 constants_end g inside es rest b e = choice_ends g (grammar.enumerators (b.first ∷ [])) (grammar.enumerators es) (λ a. a) b.mid rest e.behind e.first b.step e.whole (is_mark tokens.comma (view g.types (sort_of e.first.kind))) es (next (λ y. get g grammar.enumerator (enumerators_more g es))) refl e.missing
 
 -- ---- what the calls make of them

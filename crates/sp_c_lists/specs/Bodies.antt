@@ -34,13 +34,13 @@ pub record IsValued (types : List ℕ) (n : ℕ) (p : Place) (text rest : List T
   pub at_place : p ≡ first.place
   pub equals : Begins types tokens.equal behind rest
 
--- The name of a constant is read, and whether its value is left.
+-- The name of a constant is read. The flag says whether its value is left.
 abbrev pub IsConstantName : Context → ℕ → List Token → ℕ → Place → Bool → List Token → Type 0
 IsConstantName g depth text n p true rest = (1 ≤ depth) × IsValued g.types n p text rest × (1 + length rest ≤ length text) × IsEnded rest
 IsConstantName g depth text n p false rest = IsRead g grammar.enumerator depth text (enumerator_of n p) 0 rest
 
 -- Behind the `{` these constants are read.
-pub record AreBehind (g : Context) (inside : List Token) (es : List Enumerator) (rest : List Token) : Type 0 where
+pub record ConstantsAreBehind (g : Context) (inside : List Token) (es : List Enumerator) (rest : List Token) : Type 0 where
   pub first : Enumerator
   pub mid : List Token
   pub one : Reads c_table (at g grammar.enumerator) (ask (at g grammar.enumerator)) (c_tokens inside) first (c_tokens mid)
@@ -48,14 +48,14 @@ pub record AreBehind (g : Context) (inside : List Token) (es : List Enumerator) 
 
 -- Another constant is left behind these: the first, or one behind a comma.
 pub record IsBeforeConstant (g : Context) (scope : Scope) (depth : ℕ) (inside : List Token) (es : List Enumerator) (rest : List Token) : Type 0 where
-  pub takes : (e : Enumerator) (later : List Token) → Reads c_table (at g grammar.enumerator) (ask (at g grammar.enumerator)) (c_tokens rest) e (c_tokens later) → AreBehind g inside (es ++ e ∷ []) later
+  pub takes : (e : Enumerator) (later : List Token) → Reads c_table (at g grammar.enumerator) (ask (at g grammar.enumerator)) (c_tokens rest) e (c_tokens later) → ConstantsAreBehind g inside (es ++ e ∷ []) later
   pub stops : (s : ReadError) → IsStop g grammar.enumerator depth rest s → IsConstantsStop g scope depth inside s
 
 abbrev pub ConstantsGoOn : Context → Scope → ℕ → List Token → Bool → List Enumerator → List Token → Type 0
 ConstantsGoOn g scope depth inside true es rest = IsBeforeConstant g scope depth inside es rest
-ConstantsGoOn g scope depth inside false es rest = AreBehind g inside es rest × Lacks g.types tokens.comma rest
+ConstantsGoOn g scope depth inside false es rest = ConstantsAreBehind g inside es rest × Lacks g.types tokens.comma rest
 
--- Behind the `{` of an enumeration these constants are read, and whether another is left.
+-- Behind the `{` of an enumeration these constants are read. The flag says whether another is left.
 pub record HasConstants (g : Context) (scope : Scope) (depth : ℕ) (inside : List Token) (more : Bool) (es : List Enumerator) (reached : ℕ) (rest : List Token) : Type 0 where
   pub goes_on : ConstantsGoOn g scope depth inside more es rest
   pub deep : reached ≡ enumerators_depth (all_enumerators es)
@@ -72,7 +72,7 @@ pub record LacksSpecifier (g : Context) (text : List Token) : Type 0 where
   pub whole : text ≡ first ∷ behind
   pub missing : begins_specifiers false g.inside (view g.types (sort_of first.kind)) ≡ false
 
--- Behind the `{` these members are read. The context is that of the members.
+-- Behind the `{` these members are read. The context is that around the structure.
 pub record MembersAreBehind (g : Context) (inside : List Token) (ds : List Declaration) (rest : List Token) : Type 0 where
   pub first : Declaration
   pub mid : List Token
@@ -88,7 +88,8 @@ abbrev pub MembersGoOn : Context → Scope → ℕ → List Token → Bool → L
 MembersGoOn g scope depth inside true ds rest = IsBeforeMember g scope depth inside ds rest
 MembersGoOn g scope depth inside false ds rest = MembersAreBehind g inside ds rest × LacksSpecifier g rest
 
--- Behind the `{` of a structure these members are read, and whether another is left. The scope is that of the members.
+-- Behind the `{` of a structure these members are read. The flag says whether another is left.
+-- The scope is that of the members.
 pub record HasMembers (g : Context) (scope : Scope) (depth : ℕ) (inside : List Token) (more : Bool) (ds : List Declaration) (reached : ℕ) (rest : List Token) : Type 0 where
   pub goes_on : MembersGoOn g scope depth inside more ds rest
   pub deep : reached ≡ declarations_depth (declarations ds)

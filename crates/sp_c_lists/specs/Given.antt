@@ -31,7 +31,7 @@ pub record IsBeforeArgument (g : Context) (depth : ℕ) (text : List Token) (es 
   pub ended : IsEnded rest
   pub fewer : length rest ≤ length text
 
--- These arguments are read, and whether another is left.
+-- These arguments are read. The flag says whether another is left.
 abbrev pub HasArguments : Context → ℕ → List Token → Bool → List Expression → ℕ → List Token → Type 0
 HasArguments g depth text true es reached rest = IsBeforeArgument g depth text es reached rest
 HasArguments g depth text false es reached rest = IsRead g grammar.arguments depth text es reached rest
@@ -53,7 +53,7 @@ pub record IsBeforeParameter (g : Context) (depth : ℕ) (text : List Token) (it
   pub ended : IsEnded rest
   pub fewer : length rest ≤ length text
 
--- These parameters are read, and whether another is left.
+-- These parameters are read. The flag says whether another is left.
 abbrev pub HasParameters : Context → ℕ → List Token → Parameters → Bool → ℕ → List Token → Type 0
 HasParameters g depth text ps true reached rest = IsBeforeParameter g depth text ps.all.items reached rest
 HasParameters g depth text ps false reached rest = AreGiven g depth text ps reached rest

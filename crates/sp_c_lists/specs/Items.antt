@@ -39,7 +39,7 @@ abbrev pub ItemsGoOn : Context → ℕ → List Token → SpecifierList → ℕ 
 ItemsGoOn g depth text ss m mid true items behind rest = IsBeforeItem g depth text ss m mid items rest
 ItemsGoOn g depth text ss m mid false items behind rest = ItemsAreBehind g depth text ss m mid items behind rest × Lacks g.types tokens.comma rest
 
--- The specifiers of a member and these declarators are read, and whether another is left.
+-- The specifiers of a member and these declarators are read. The flag says whether another is left.
 pub record HasItems (g : Context) (depth : ℕ) (text : List Token) (ss : SpecifierList) (m : ℕ) (mid : List Token) (more : Bool) (items : List CodeItem) (behind : AlsoAllowed) (reached : ℕ) (rest : List Token) : Type 0 where
   pub goes_on : ItemsGoOn g depth text ss m mid more items behind rest
   pub deep : reached ≡ items_depth (all_items (map item_seen items))

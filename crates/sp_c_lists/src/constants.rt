@@ -1,5 +1,5 @@
 //! The constants of enumerations (C90 6.5.2.2).
-ghost use Rattle.std.specs.Prelude.{◌≡◌, ◌+◌, ◌≤◌, MatchResult, map, length, true, false};
+ghost use Rattle.std.specs.Prelude.{◌+◌, ◌≤◌, MatchResult, map, length, true, false};
 ghost use Rattle.sp_grammar.specs.CTokens.{view};
 ghost use Rattle.sp_grammar.specs.CTable as grammar;
 ghost use Rattle.sp_c_tokens.specs.Sorts.{sort_of};

@@ -1,5 +1,5 @@
 //! Declarations of members (C90 6.5.2.1): specifiers, and declarators with commas between them.
-ghost use Rattle.std.specs.Prelude.{◌≡◌, ◌+◌, ◌≤◌, MatchResult, if◌then◌else◌, length, true, false};
+ghost use Rattle.std.specs.Prelude.{◌+◌, ◌≤◌, MatchResult, if◌then◌else◌, length, true, false};
 ghost use Rattle.sp_grammar.specs.CTable as grammar;
 ghost use Rattle.sp_syntax.specs.View.{declaration_of};
 ghost use Rattle.sp_c_tokens.specs.Ended.{IsEnded};

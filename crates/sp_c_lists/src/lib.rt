@@ -1,9 +1,9 @@
-//! The lists of expressions and declarations (C90 6.3.2.2, 6.5.2, 6.5.4.3): all of their reading
-//! but for the items themselves.
+//! The lists of expressions and declarations (C90 6.3.2.2, 6.5.2, 6.5.4.3), but for what the
+//! readers of `sp_c_reader` read of their items.
 //!
-//! The readers of `sp_c_reader` call one another, and the proof of such a cycle grows with its
-//! functions and the calls in them. So a reader of a list there is a loop: it has a reader read
-//! an item, and hands the *answer*, an error too, to a call of this crate. That adds the item to
+//! Those readers call one another, and the proof of such a cycle grows with its functions and the
+//! calls in them. So the reader of a list there is a loop: an item is read, and the *answer* of the
+//! last reader that it takes, an error too, goes to a call of this crate. That adds the item to
 //! what is *listed* so far, and says whether another comes. The lists are arguments, parameters,
 //! the members of a structure and their declarators, and the constants of an enumeration.
 //!
@@ -12,9 +12,10 @@
 //! comes. The *head* of a body ([`specifier_head`]) is what is before it, as the `e{` of `enum
 //! e{A,B=2}`.
 //!
-//! Each contract says: where the answer is right for the item (`Answers` of `sp_c_steps`), the
-//! list is right so far (`HasArguments`, `HasParameters`, `HasMembers`, `HasItems`,
-//! `HasConstants` of specs/), and at its end right for the whole.
+//! Each contract says: where the answer is right for the item (`Answers`, `IsGiven` and
+//! `IsDeclared` of `sp_c_steps`), the list is right so far (`HasArguments`, `HasParameters`,
+//! `HasMembers`, `HasItems`, `HasConstants` of specs/), and at its end right for the whole. Some
+//! arguments are read by contracts alone: the tokens, the word and the head of what is listed.
 #![tactic(auto)]
 
 mod arguments;

@@ -1,5 +1,5 @@
 //! The members of structures and unions (C90 6.5.2.1).
-ghost use Rattle.std.specs.Prelude.{◌≡◌, ◌+◌, ◌-◌, ◌≤◌, MatchResult, map, length, true, false};
+ghost use Rattle.std.specs.Prelude.{◌+◌, ◌-◌, ◌≤◌, MatchResult, map, length, true, false};
 ghost use Rattle.sp_grammar.specs.CTokens.{view};
 ghost use Rattle.sp_grammar.specs.CTable as grammar;
 ghost use Rattle.sp_syntax.specs.View.{declaration_of};

@@ -15,9 +15,9 @@
 //!
 //! The layer above uses the readers that are public here, by the contract `Answers` and those of
 //! specs/Declaring.antt there for what waits for the token after it: a declarator and a type name.
-//! What calls no reader stands in `sp_c_steps`, what a production does with the answer of its last
-//! reader in `sp_c_closings`, and what a list does with the answer for an item in `sp_c_lists`: a
-//! cycle of calls costs the prover most.
+//! What calls no reader stands in `sp_c_steps` and `sp_c_lists`. What a production does with the
+//! answer of its last reader stands in `sp_c_closings`, and what a list does with the answer for an
+//! item in `sp_c_lists`: a cycle of calls costs the prover most.
 #![tactic(auto)]
 
 mod declarators;
