@@ -1,16 +1,15 @@
 -- What is said of a production between two of its readers.
-use Rattle.std.specs.Prelude.{◌≡◌, ℕ, ◌+◌, ◌≤◌, List, [], ◌∷◌, length}
+use Rattle.std.specs.Prelude.{◌≡◌, ℕ, ◌+◌, ◌≤◌, List, length}
 use Rattle.sp_tree.specs.declared.token.Token.{Token}
 use Rattle.sp_syntax.specs.declared.tree.TypeName.{TypeName}
 use Rattle.sp_syntax.specs.Syntax.{Expression}
 use Rattle.sp_syntax.specs.Depth.{depth as depth_of}
 use Rattle.sp_syntax.specs.View.{type_name_of}
 use Rattle.sp_grammar.specs.CTokens as tokens
-use Rattle.sp_grammar.specs.CTokens.{Sort, view}
 use Rattle.sp_grammar.specs.CTable as grammar
 use Rattle.sp_grammar.specs.CTable.{Context, at}
 use Rattle.sp_grammar.specs.Table.{ask, Reads}
-use Rattle.sp_c_tokens.specs.Sorts.{c_tokens, sort_of, terminal}
+use Rattle.sp_c_tokens.specs.Sorts.{c_tokens, terminal}
 use Rattle.sp_c_tokens.specs.SyntaxTrees.{c_table, syntax_trees}
 use Rattle.sp_c_tokens.specs.Ended.{IsEnded}
 use Rattle.sp_c_tokens.specs.Expecting.{IsExpected}
@@ -46,8 +45,3 @@ pub record IsGroup (g : Context) (opening : Token) (depth : ℕ) (text : List To
   pub shallow : reached ≤ depth
   pub ended : IsEnded rest
   pub fewer : 1 + length rest ≤ length text
-
--- what the first token is, where these are the type names
-abbrev pub first_sort : List ℕ → List Token → Sort
-first_sort types [] = tokens.mark tokens.end
-first_sort types (x ∷ xs) = view types (sort_of x.kind)

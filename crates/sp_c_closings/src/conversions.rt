@@ -8,8 +8,8 @@ ghost use Rattle.sp_syntax.specs.View.{tree_of, type_name_of};
 ghost use Rattle.sp_c_tokens.specs.Sorts.{terminal, sort_of};
 ghost use Rattle.sp_c_tokens.specs.Ended.{IsEnded};
 ghost use Rattle.sp_c_tokens.specs.Scopes.{context_of};
-ghost use Rattle.sp_c_steps.specs.Reading.{Answers, IsStop, IsGrouped, IsGroupedStop, IsTypeName, operand_seen};
-ghost use Rattle.sp_c_closings.specs.Closing.{IsTarget, first_sort};
+ghost use Rattle.sp_c_steps.specs.Reading.{Answers, IsStop, IsGrouped, IsGroupedStop, IsTypeName, operand_seen, first_sort};
+ghost use Rattle.sp_c_closings.specs.Closing.{IsTarget};
 
 use sp_c_steps::as_operand;
 use sp_c_tokens::{Context, Mark, Operand, Part, ReadError, TypeNamePart, expect};

@@ -10,9 +10,8 @@ ghost use Rattle.sp_c_tokens.specs.Sorts.{terminal, sort_of};
 ghost use Rattle.sp_c_tokens.specs.Makers.{settle};
 ghost use Rattle.sp_c_tokens.specs.Ended.{IsEnded};
 ghost use Rattle.sp_c_tokens.specs.Scopes.{context_of};
-ghost use Rattle.sp_c_steps.specs.Reading.{Answers, IsStop, IsTypeName, operand_seen};
+ghost use Rattle.sp_c_steps.specs.Reading.{Answers, IsStop, IsTypeName, operand_seen, first_sort};
 ghost use Rattle.sp_c_steps.specs.Declaring.{AreGiven, AreQualifiers, AreSpecified, IsArrayed, IsArrayStop, IsDeclared, IsGiven, IsLengthened, IsPointed, IsPointedStop, declared_seen, form_seen};
-ghost use Rattle.sp_c_closings.specs.Closing.{first_sort};
 
 use sp_c_steps::{absent, array_of, function_of, grouped, length_purpose, pointed};
 use sp_c_tokens::{

@@ -21,7 +21,6 @@ use Rattle.sp_c_steps.proofs.Steps.{got}
 use Rattle.sp_c_steps.proofs.Parts.{stop_part}
 use Rattle.sp_c_steps.proofs.Concrete.{concrete_read}
 use Rattle.sp_c_steps.proofs.DeclaratorParts.{declared_deep}
-use Rattle.sp_c_steps.proofs.Lists.{ItemsSoFar}
 use Rattle.sp_c_steps.proofs.MemberSteps.{more_item_deep, first_items, first_item, next_item, items_on, items_more, items_seen, items_end, member_begun, member_more, member_closing}
 use Rattle.sp_c_lists.specs.Heads.{IsPastComma, Lacks}
 use Rattle.sp_c_lists.specs.Items.{HasItems, IsBeforeItem, ItemsAreBehind, ItemsGoOn}
@@ -32,31 +31,27 @@ module _ (g : Context) (depth : ℕ) (text : List Token) (ss : SpecifierList) (m
   pub before_first : IsEnded text → AreSpecified g false depth text ss m mid → IsBeforeItem g depth text ss m mid [] mid
   before_first ended h = record {
     takes = λ d n later r now i back same one closed.
-        let so_far = first_item g d later now i back same one closed in
-        record { specified = h; first = d; first_depth = n; far = later; one = r; names = so_far.names; step = so_far.step; fewer = omega arith };
+        record { specified = h; first = d; first_depth = n; far = later; one = r; so_far = first_item g d later now i back same one closed; fewer = omega arith };
     stops = λ s stop. stop_part g g g grammar.member grammar.member (grammar.declarator grammar.concrete) (λ a. a) (member_more g h.all) depth depth text mid (got (member_begun g text ended) h.read.reads) (omega arith) s stop;
   }
-
-  abbrev so_far_of : (items : List CodeItem) (behind : AlsoAllowed) (rest : List Token) → (b : ItemsAreBehind g depth text ss m mid items behind rest) → ItemsSoFar g b.first b.far items behind rest
-  so_far_of items behind rest b = record { names = b.names; step = b.step }
 
   -- one is read behind those
   pub items_go_on : IsEnded text → (more : Bool) (items : List CodeItem) (behind : AlsoAllowed) (here rest : List Token) → ItemsAreBehind g depth text ss m mid items behind here → IsPastComma g.types here more rest → ItemsGoOn g depth text ss m mid more items behind rest
   items_go_on ended true items behind here rest b e =
-      let t = so_far_of items behind here b in
+      let t = b.so_far in
       let shorter : length here ≡ length (e.first ∷ rest) = ap length e.whole in
       record {
         takes = λ d n later r now i back same one closed.
             let next = next_item g b.first b.far here rest e.first items behind t e.whole depth n later d now i back e.stands r same one closed in
-            record { specified = b.specified; first = b.first; first_depth = b.first_depth; far = b.far; one = b.one; names = next.names; step = next.step; fewer = omega (arith, r.fewer, shorter, b.fewer) };
+            record { specified = b.specified; first = b.first; first_depth = b.first_depth; far = b.far; one = b.one; so_far = next; fewer = omega (arith, r.fewer, shorter, b.fewer) };
         stops = λ s stop. stop_part g g g grammar.member grammar.member (grammar.member_items (first_items b.first)) (λ a. a) (member_closing g b.specified.all) depth depth text b.far (got (got (member_begun g text ended) b.specified.read.reads) b.one.reads) (omega arith) s
-            (stop_part g g g (grammar.member_items (first_items b.first)) (grammar.member_items (items_seen items b.names behind)) (grammar.declarator grammar.concrete) (λ a. a) (items_more g b.first b.far here rest e.first items behind t e.whole) depth depth b.far rest (items_on g b.first b.far here rest e.first items behind t e.whole e.stands) (omega arith) s stop);
+            (stop_part g g g (grammar.member_items (first_items b.first)) (grammar.member_items (items_seen items t.names behind)) (grammar.declarator grammar.concrete) (λ a. a) (items_more g b.first b.far here rest e.first items behind t e.whole) depth depth b.far rest (items_on g b.first b.far here rest e.first items behind t e.whole e.stands) (omega arith) s stop);
       }
   items_go_on ended false items behind here rest b e = (subst (λ v. ItemsAreBehind g depth text ss m mid items behind v) (sym e.0) b, subst (λ v. Lacks g.types tokens.comma v) (sym e.0) e.1)
 
   -- no comma goes on with them
   pub items_ended : (is : MemberDeclarators) (reached : ℕ) (rest : List Token) → (b : ItemsAreBehind g depth text ss m mid is.all.items is.behind rest) → Lacks g.types tokens.comma rest → reached ≡ items_depth (all_items (map item_seen is.all.items)) → reached ≤ depth → IsEnded rest → AreItems g b.first depth b.far is reached rest
-  items_ended is reached rest b e deep shallow ended = items_end g b.first b.far rest e.behind e.first is.all.items is.behind (so_far_of is.all.items is.behind rest b) e.whole depth reached is e.missing refl refl deep shallow ended b.fewer
+  items_ended is reached rest b e deep shallow ended = items_end g b.first b.far rest e.behind e.first is.all.items is.behind b.so_far e.whole depth reached is e.missing refl refl deep shallow ended b.fewer
 
 -- ---- what the calls make of them
 

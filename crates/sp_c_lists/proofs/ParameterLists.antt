@@ -14,20 +14,17 @@ use Rattle.sp_c_tokens.specs.Ended.{IsEnded}
 use Rattle.sp_c_tokens.specs.declared.part.Parameters.{Parameters}
 use Rattle.sp_c_tokens.specs.declared.scope.AlsoAllowed.{AlsoAllowed}
 use Rattle.sp_c_tokens.specs.declared.scope.AlsoAllowed.TheVariants as purposes
-use Rattle.sp_c_steps.specs.Declaring.{AreGiven, IsGiven}
+use Rattle.sp_c_steps.specs.Declaring.{AreGiven, IsGiven, ParametersSoFar}
 use Rattle.sp_c_steps.proofs.Parts.{stop_part}
-use Rattle.sp_c_steps.proofs.Lists.{ParametersSoFar}
 use Rattle.sp_c_steps.proofs.ParameterSteps.{ended_comma, ended_ellipsis, given_list, first_more, parameters_on, no_parameters, first_given, given_depth, more_given_deep, parameters_end, comma_more, parameter_next, dots_end, next_given}
-use Rattle.sp_c_lists.specs.Given.{HasParameters, IsBeforeParameter, IsListEnd, ParametersAreBehind}
+use Rattle.sp_c_lists.specs.Given.{HasParameters, IsBeforeParameter, IsListEnd}
 
 module _ (g : Context) (depth : ℕ) (text : List Token) where
   pub none_listed : (ps : Parameters) → ps.all.items ≡ [] → ps.dots ≡ false → ps.behind ≡ purposes.Parameter → (more : Bool) (xs : List Token) (x : Token) → text ≡ x ∷ xs → more ≡ begins_specifiers true g.inside (view g.types (sort_of x.kind)) → IsEnded text → HasParameters g depth text ps more 0 text
   none_listed ps none plain behind true xs x e is ended =
       let on = parameters_on g text xs x e (sym is) in
       subst (λ v. IsBeforeParameter g depth text v 0 text) (sym none) (record {
-        takes = λ p back n later h now same.
-            let first = first_given g depth n text later p back now on h same in
-            record { pending = first.pending; settled = first.settled; step = first.step };
+        takes = λ p back n later h now same. first_given g depth n text later p back now on h same;
         stops = λ s h. stop_part g g g grammar.parameters grammar.parameters grammar.parameter (λ a. a) (first_more g) depth depth text text on (omega arith) s h;
         deep = refl;
         shallow = omega arith;
@@ -36,24 +33,18 @@ module _ (g : Context) (depth : ℕ) (text : List Token) where
       })
   none_listed ps none plain behind false xs x e is ended = no_parameters g text xs x e depth ps (sym is) ended none plain behind
 
-  abbrev so_far_of : (items : List CodeParam) (back : AlsoAllowed) (rest : List Token) → ParametersAreBehind g text items back rest → ParametersSoFar g text items back rest
-  so_far_of items back rest b = record { pending = b.pending; settled = b.settled; step = b.step }
-
   -- one is read behind those
-  go_on : (ps : Parameters) (back : AlsoAllowed) (more : Bool) (k : ℕ) (mid later : List Token) → ParametersAreBehind g text ps.all.items back mid → (dots : Bool) → ps.dots ≡ dots → IsListEnd g.types mid back more dots ps.behind later → k ≡ params_depth (params (map param_of ps.all.items)) → k ≤ depth → IsEnded mid → length mid ≤ length text → HasParameters g depth text ps more k later
+  go_on : (ps : Parameters) (back : AlsoAllowed) (more : Bool) (k : ℕ) (mid later : List Token) → ParametersSoFar g text ps.all.items back mid → (dots : Bool) → ps.dots ≡ dots → IsListEnd g.types mid back more dots ps.behind later → k ≡ params_depth (params (map param_of ps.all.items)) → k ≤ depth → IsEnded mid → length mid ≤ length text → HasParameters g depth text ps more k later
   go_on ps back true k mid later b true is e deep shallow ended fewer = absurd e
   go_on ps back true k mid later b false is e deep shallow ended fewer =
       let items = ps.all.items in
-      let t = so_far_of items back mid b in
       let comma = e.1 in
       let x = comma.first in
       let l = e.2 in
       let shorter : length mid ≡ length (x ∷ later) = ap length comma.whole in
       record {
-        takes = λ p behind n far h now same.
-            let next = next_given g text mid later x items back t comma.whole l.behind l.first l.whole comma.stands depth n far p now behind l.missing h same in
-            record { pending = next.pending; settled = next.settled; step = next.step };
-        stops = λ s h. stop_part g g g grammar.parameters (grammar.behind_comma (terminal x) (given_list t.pending back)) grammar.parameter (λ a. a) (comma_more g text mid later x items back t comma.whole) depth depth text later (parameter_next g text mid later x items back t comma.whole l.behind l.first l.whole comma.stands l.missing) (omega arith) s h;
+        takes = λ p behind n far h now same. next_given g text mid later x items back b comma.whole l.behind l.first l.whole comma.stands depth n far p now behind l.missing h same;
+        stops = λ s h. stop_part g g g grammar.parameters (grammar.behind_comma (terminal x) (given_list b.pending back)) grammar.parameter (λ a. a) (comma_more g text mid later x items back b comma.whole) depth depth text later (parameter_next g text mid later x items back b comma.whole l.behind l.first l.whole comma.stands l.missing) (omega arith) s h;
         deep = deep;
         shallow = shallow;
         ended = ended_comma g.types x later comma.stands (subst IsEnded comma.whole ended);
@@ -64,10 +55,10 @@ module _ (g : Context) (depth : ℕ) (text : List Token) where
       let x = d.comma.first in
       let y = d.dots.first in
       let between = ended_comma g.types x d.mid d.comma.stands (subst IsEnded d.comma.whole ended) in
-      dots_end g text mid d.mid x ps.all.items back (so_far_of ps.all.items back mid b) d.comma.whole later y d.dots.whole d.comma.stands depth k ps d.dots.stands refl is e.0 deep shallow (ended_ellipsis g.types y later d.dots.stands (subst IsEnded d.dots.whole between)) fewer
+      dots_end g text mid d.mid x ps.all.items back b d.comma.whole later y d.dots.whole d.comma.stands depth k ps d.dots.stands refl is e.0 deep shallow (ended_ellipsis g.types y later d.dots.stands (subst IsEnded d.dots.whole between)) fewer
   go_on ps back false k mid later b false is e deep shallow ended fewer =
       let l = e.2 in
-      subst (λ v. AreGiven g depth text ps k v) (sym e.1) (parameters_end g text mid l.behind l.first ps.all.items back (so_far_of ps.all.items back mid b) l.whole depth k ps l.missing refl is e.0 deep shallow ended fewer)
+      subst (λ v. AreGiven g depth text ps k v) (sym e.1) (parameters_end g text mid l.behind l.first ps.all.items back b l.whole depth k ps l.missing refl is e.0 deep shallow ended fewer)
 
   -- at the end of a list fewer tokens are left
   end_fewer : (back behind : AlsoAllowed) (more dots : Bool) (mid later : List Token) → IsListEnd g.types mid back more dots behind later → length later ≤ length mid

@@ -17,15 +17,12 @@ use Rattle.sp_c_tokens.specs.Ended.{IsEnded}
 use Rattle.sp_c_tokens.specs.declared.part.ReadError.{ReadError}
 use Rattle.sp_c_tokens.specs.declared.scope.Scope.{Scope}
 use Rattle.sp_c_steps.specs.Reading.{IsRead, IsStop, IsStep}
-use Rattle.sp_c_steps.specs.Declaring.{IsBodyStop, IsConstantsStop}
+use Rattle.sp_c_steps.specs.Declaring.{IsBodyStop, IsConstantsStop, constant_seen}
 use Rattle.sp_c_lists.specs.Heads.{Begins, Lacks}
 
 -- ---- constants of enumerations
 
-abbrev pub enumerator_of : ℕ → Place → Enumerator
-enumerator_of n p = record { name = n; place = p; value = None }
-
--- A name stands first, and behind it an `=` and these tokens.
+-- A constant has a value: its name stands first, and behind it an `=` and these tokens.
 pub record IsValued (types : List ℕ) (n : ℕ) (p : Place) (text rest : List Token) : Type 0 where
   pub first : Token
   pub behind : List Token
@@ -37,7 +34,7 @@ pub record IsValued (types : List ℕ) (n : ℕ) (p : Place) (text rest : List T
 -- The name of a constant is read. The flag says whether its value is left.
 abbrev pub IsConstantName : Context → ℕ → List Token → ℕ → Place → Bool → List Token → Type 0
 IsConstantName g depth text n p true rest = (1 ≤ depth) × IsValued g.types n p text rest × (1 + length rest ≤ length text) × IsEnded rest
-IsConstantName g depth text n p false rest = IsRead g grammar.enumerator depth text (enumerator_of n p) 0 rest
+IsConstantName g depth text n p false rest = IsRead g grammar.enumerator depth text (constant_seen (n, p, None)) 0 rest
 
 -- Behind the `{` these constants are read.
 pub record ConstantsAreBehind (g : Context) (inside : List Token) (es : List Enumerator) (rest : List Token) : Type 0 where
@@ -51,6 +48,7 @@ pub record IsBeforeConstant (g : Context) (scope : Scope) (depth : ℕ) (inside 
   pub takes : (e : Enumerator) (later : List Token) → Reads c_table (at g grammar.enumerator) (ask (at g grammar.enumerator)) (c_tokens rest) e (c_tokens later) → ConstantsAreBehind g inside (es ++ e ∷ []) later
   pub stops : (s : ReadError) → IsStop g grammar.enumerator depth rest s → IsConstantsStop g scope depth inside s
 
+-- These constants are read. The flag says whether one is left: if not, no comma stands behind them.
 abbrev pub ConstantsGoOn : Context → Scope → ℕ → List Token → Bool → List Enumerator → List Token → Type 0
 ConstantsGoOn g scope depth inside true es rest = IsBeforeConstant g scope depth inside es rest
 ConstantsGoOn g scope depth inside false es rest = ConstantsAreBehind g inside es rest × Lacks g.types tokens.comma rest
@@ -84,6 +82,7 @@ pub record IsBeforeMember (g : Context) (scope : Scope) (depth : ℕ) (inside : 
   pub takes : (d : Declaration) (later : List Token) → Reads c_table (at (grammar.in_structure g) grammar.member) (ask (at (grammar.in_structure g) grammar.member)) (c_tokens rest) d (c_tokens later) → MembersAreBehind g inside (ds ++ d ∷ []) later
   pub stops : (s : ReadError) → IsStop (grammar.in_structure g) grammar.member (depth - 1) rest s → IsBodyStop g scope depth inside s
 
+-- These members are read. The flag says whether one is left: if not, no specifier stands behind them.
 abbrev pub MembersGoOn : Context → Scope → ℕ → List Token → Bool → List Declaration → List Token → Type 0
 MembersGoOn g scope depth inside true ds rest = IsBeforeMember g scope depth inside ds rest
 MembersGoOn g scope depth inside false ds rest = MembersAreBehind g inside ds rest × LacksSpecifier g rest

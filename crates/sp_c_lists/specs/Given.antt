@@ -1,7 +1,7 @@
 -- How far arguments and parameters have come.
 use Rattle.std.specs.Prelude.{◌≡◌, ℕ, ◌≤◌, Bool, true, false, List, [], ◌∷◌, ◌++◌, map, length}
 use Rattle.sp_tree.specs.declared.token.Token.{Token}
-use Rattle.sp_syntax.specs.Syntax.{Expression, Param}
+use Rattle.sp_syntax.specs.Syntax.{Expression}
 use Rattle.sp_syntax.specs.View.{expressions, param_of, params}
 use Rattle.sp_syntax.specs.Depth.{expressions_depth, params_depth}
 use Rattle.sp_syntax.specs.declared.tree.Param.{Param as CodeParam}
@@ -9,15 +9,13 @@ use Rattle.sp_grammar.specs.CTokens as tokens
 use Rattle.sp_grammar.specs.CTable as grammar
 use Rattle.sp_grammar.specs.CTable.{Context}
 use Rattle.sp_c_tokens.specs.SyntaxTrees.{syntax_trees}
-use Rattle.sp_c_tokens.specs.Makers.{first_place, settle_last}
 use Rattle.sp_c_tokens.specs.Ended.{IsEnded}
-use Rattle.sp_c_tokens.specs.Scopes.{purpose_seen}
 use Rattle.sp_c_tokens.specs.declared.part.Parameters.{Parameters}
 use Rattle.sp_c_tokens.specs.declared.part.ReadError.{ReadError}
 use Rattle.sp_c_tokens.specs.declared.scope.AlsoAllowed.{AlsoAllowed}
 use Rattle.sp_c_tokens.specs.declared.scope.AlsoAllowed.TheVariants as purposes
 use Rattle.sp_c_steps.specs.Reading.{IsRead, IsStop, IsStep}
-use Rattle.sp_c_steps.specs.Declaring.{AreGiven, IsGiven}
+use Rattle.sp_c_steps.specs.Declaring.{AreGiven, IsGiven, ParametersSoFar}
 use Rattle.sp_c_lists.specs.Heads.{Begins, Lacks}
 
 -- ---- arguments
@@ -38,15 +36,9 @@ HasArguments g depth text false es reached rest = IsRead g grammar.arguments dep
 
 -- ---- parameters
 
--- These parameters are read; the last stands before these tokens.
-pub record ParametersAreBehind (g : Context) (text : List Token) (items : List CodeParam) (behind : AlsoAllowed) (rest : List Token) : Type 0 where
-  pub pending : List Param
-  pub settled : map param_of items ≡ settle_last (first_place rest) pending
-  pub step : IsStep g grammar.parameters (grammar.more_parameters (record { all = pending; dots = false; behind = purpose_seen behind })) (λ a. a) text rest
-
 -- Another parameter is left behind these.
 pub record IsBeforeParameter (g : Context) (depth : ℕ) (text : List Token) (items : List CodeParam) (reached : ℕ) (rest : List Token) : Type 0 where
-  pub takes : (p : CodeParam) (behind : AlsoAllowed) (n : ℕ) (later : List Token) → IsGiven g depth rest p behind n later → (now : List CodeParam) → now ≡ items ++ p ∷ [] → ParametersAreBehind g text now behind later
+  pub takes : (p : CodeParam) (behind : AlsoAllowed) (n : ℕ) (later : List Token) → IsGiven g depth rest p behind n later → (now : List CodeParam) → now ≡ items ++ p ∷ [] → ParametersSoFar g text now behind later
   pub stops : (s : ReadError) → IsStop g grammar.parameter depth rest s → IsStop g grammar.parameters depth text s
   pub deep : reached ≡ params_depth (params (map param_of items))
   pub shallow : reached ≤ depth

@@ -40,6 +40,7 @@ abbrev pub Opens : List ℕ → Option ℕ → List Token → List Token → Typ
 Opens types None text inside = Begins types tokens.brace text inside
 Opens types (Some n) text inside = OpensBehindTag types n text inside
 
+-- There is a body: these tokens are inside, behind its `{`.
 pub record HasBody (types : List ℕ) (tag : Option ℕ) (text inside : List Token) : Type 0 where
   pub opens : Opens types tag text inside
   pub ended : IsEnded inside
@@ -51,6 +52,7 @@ pub record IsTagged (types : List ℕ) (tag : ℕ) (text rest : List Token) : Ty
   pub alone : Lacks types tokens.brace rest
   pub ended : IsEnded rest
 
+-- There is a tag and no `{` behind it, only these tokens.
 abbrev pub HasTag : List ℕ → Option ℕ → List Token → List Token → Type 0
 HasTag types None text rest = ⊥
 HasTag types (Some n) text rest = IsTagged types n text rest

@@ -1,5 +1,5 @@
 -- How far a declaration of members has come.
-use Rattle.std.specs.Prelude.{◌≡◌, ℕ, ◌≤◌, Bool, true, false, List, [], ◌∷◌, ◌++◌, map, length, None}
+use Rattle.std.specs.Prelude.{◌≡◌, ℕ, ◌≤◌, Bool, true, false, List, [], ◌∷◌, ◌++◌, map, length}
 use Rattle.sp_tree.specs.declared.token.Token.{Token}
 use Rattle.sp_syntax.specs.Syntax.{init_declarator, no_init}
 use Rattle.sp_syntax.specs.View.{declarator_of}
@@ -15,8 +15,8 @@ use Rattle.sp_c_tokens.specs.declared.part.Declared.{Declared}
 use Rattle.sp_c_tokens.specs.declared.part.SpecifierList.{SpecifierList}
 use Rattle.sp_c_tokens.specs.declared.part.ReadError.{ReadError}
 use Rattle.sp_c_tokens.specs.declared.scope.AlsoAllowed.{AlsoAllowed}
-use Rattle.sp_c_steps.specs.Reading.{IsRead, IsStop, IsStep}
-use Rattle.sp_c_steps.specs.Declaring.{AreSpecified, declared_seen, item_seen}
+use Rattle.sp_c_steps.specs.Reading.{IsRead, IsStop}
+use Rattle.sp_c_steps.specs.Declaring.{AreSpecified, ItemsSoFar, declared_seen, item_seen}
 use Rattle.sp_c_lists.specs.Heads.{Lacks}
 
 -- The specifiers of a member and these declarators are read.
@@ -26,8 +26,7 @@ pub record ItemsAreBehind (g : Context) (depth : ℕ) (text : List Token) (ss : 
   pub first_depth : ℕ
   pub far : List Token
   pub one : IsRead g (grammar.declarator grammar.concrete) depth mid (declared_seen first (declarator_of first.tree)) first_depth far
-  pub names : List ℕ
-  pub step : IsStep g (grammar.member_items (grammar.one_item (declared_seen first (declarator_of first.tree)) None)) (grammar.member_items (record { all = map item_seen items; names = names; behind = purpose_seen behind })) (λ a. a) far rest
+  pub so_far : ItemsSoFar g first far items behind rest
   pub fewer : length rest ≤ length far
 
 -- Another declarator is left behind these.
@@ -35,6 +34,8 @@ pub record IsBeforeItem (g : Context) (depth : ℕ) (text : List Token) (ss : Sp
   pub takes : (d : Declared) (n : ℕ) (later : List Token) → IsRead g (grammar.declarator grammar.concrete) depth rest (declared_seen d (declarator_of d.tree)) n later → (now : List CodeItem) (i : CodeItem) (back : AlsoAllowed) → now ≡ items ++ i ∷ [] → item_seen i ≡ init_declarator (declarator_of d.tree) no_init → purpose_seen back ≡ grammar.closed (purpose_seen d.behind) → ItemsAreBehind g depth text ss m mid now back later
   pub stops : (s : ReadError) → IsStop g (grammar.declarator grammar.concrete) depth rest s → IsStop g grammar.member depth text s
 
+-- These declarators are read. The flag says whether a declarator is left: if not, no comma stands
+-- behind them.
 abbrev pub ItemsGoOn : Context → ℕ → List Token → SpecifierList → ℕ → List Token → Bool → List CodeItem → AlsoAllowed → List Token → Type 0
 ItemsGoOn g depth text ss m mid true items behind rest = IsBeforeItem g depth text ss m mid items rest
 ItemsGoOn g depth text ss m mid false items behind rest = ItemsAreBehind g depth text ss m mid items behind rest × Lacks g.types tokens.comma rest

@@ -48,11 +48,11 @@ pub fn with_argument<'a>(
 {
     let (part, all) = keeping(next, arguments.all)?;
     let (more, rest) = past_comma(context, part.rest);
-    let depth = arguments.depth.max(part.depth);
+    let reached = arguments.depth.max(part.depth);
     let all = with_one(context.alloc, all, part.tree.tree)?;
     Ok(Listed {
         all,
-        depth,
+        depth: reached,
         rest,
         more,
     })

@@ -47,14 +47,12 @@ pub fn constant_name<'a>(
     let Sort::Name(name) = sort_at(context.types, token.kind) else {
         return Err(fault(context, AlsoAllowed::Name, tokens));
     };
-    let place = token.place;
     let (equal, behind) = next_token(rest);
     if !is_mark(Mark::Equal, sort_at(context.types, equal.kind)) {
-        let has_value = false;
         return Ok(ConstantName {
             name,
-            place,
-            has_value,
+            place: token.place,
+            has_value: false,
             rest,
         });
     }
@@ -63,7 +61,7 @@ pub fn constant_name<'a>(
     }
     Ok(ConstantName {
         name,
-        place,
+        place: token.place,
         has_value: true,
         rest: behind,
     })
@@ -93,17 +91,17 @@ pub fn valued<'a>(
 /// Behind the `{` of an enumeration, where its first constant is left.
 pub fn no_constants<'a>(
     context: Context<'_>,
-    head: Head<'a>,
+    inside: &'a [Token],
     depth: u32,
 ) -> Listed<'a, (u32, Place, Option<Expr>)>
-    requires { IsEnded head.rest.now }
-    ensures { HasConstants (context_of context.entry) context.entry.scope depth head.entry.rest.now result.more
+    requires { IsEnded inside.now }
+    ensures { HasConstants (context_of context.entry) context.entry.scope depth inside.now result.more
         (map constant_seen result.all.items) result.depth result.rest.now }
 {
     Listed {
         all: Vec::new(context.alloc),
         depth: 0,
-        rest: head.rest,
+        rest: inside,
         more: true,
     }
 }
@@ -132,11 +130,11 @@ pub fn with_constant<'a>(
 {
     let (part, all) = keeping(next, constants.all)?;
     let (more, rest) = past_comma(context, part.rest);
-    let depth = constants.depth.max(part.depth);
+    let reached = constants.depth.max(part.depth);
     let all = with_one(context.alloc, all, part.tree)?;
     Ok(Listed {
         all,
-        depth,
+        depth: reached,
         rest,
         more,
     })

@@ -78,31 +78,34 @@ fn structure_head<'a>(
         (IsSpecifierStop (context_of context.entry) depth
         (view context.entry.types.now (sort_of word.kind)) word tokens.now) }
 {
-    let body = Body::Members;
     let (first, behind) = next_token(tokens);
     if is_mark(Mark::OpenBrace, sort_at(context.types, first.kind)) {
         if depth < 2 {
             return Err(ReadError::TooDeep(tokens));
         }
-        let tag = None;
-        let rest = behind;
-        return Ok(Head { body, tag, rest });
+        return Ok(Head {
+            body: Body::Members,
+            tag: None,
+            rest: behind,
+        });
     }
     let Kind::Name(name) = first.kind else {
         return Err(fault(context, AlsoAllowed::Nothing, tokens));
     };
-    let tag = Some(name);
     let (brace, inside) = next_token(behind);
     if is_mark(Mark::OpenBrace, sort_at(context.types, brace.kind)) {
         if depth < 2 {
             return Err(ReadError::TooDeep(behind));
         }
-        let rest = inside;
-        return Ok(Head { body, tag, rest });
+        return Ok(Head {
+            body: Body::Members,
+            tag: Some(name),
+            rest: inside,
+        });
     }
     Ok(Head {
         body: Body::Absent,
-        tag,
+        tag: Some(name),
         rest: behind,
     })
 }
@@ -122,25 +125,28 @@ fn enumeration_head<'a>(
         (IsSpecifierStop (context_of context.entry) depth
         (view context.entry.types.now (sort_of word.kind)) word tokens.now) }
 {
-    let body = Body::Constants;
     let (first, behind) = next_token(tokens);
     if is_mark(Mark::OpenBrace, sort_at(context.types, first.kind)) {
-        let tag = None;
-        let rest = behind;
-        return Ok(Head { body, tag, rest });
+        return Ok(Head {
+            body: Body::Constants,
+            tag: None,
+            rest: behind,
+        });
     }
     let Kind::Name(name) = first.kind else {
         return Err(fault(context, AlsoAllowed::Nothing, tokens));
     };
-    let tag = Some(name);
     let (brace, inside) = next_token(behind);
     if is_mark(Mark::OpenBrace, sort_at(context.types, brace.kind)) {
-        let rest = inside;
-        return Ok(Head { body, tag, rest });
+        return Ok(Head {
+            body: Body::Constants,
+            tag: Some(name),
+            rest: inside,
+        });
     }
     Ok(Head {
         body: Body::Absent,
-        tag,
+        tag: Some(name),
         rest: behind,
     })
 }

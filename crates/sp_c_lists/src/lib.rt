@@ -33,5 +33,5 @@ pub use constants::{
 pub use heads::{Body, Head, specifier_head, whole_specifier};
 pub use items::{Member, closed_member, member_of, with_item};
 pub use lists::Listed;
-pub use members::{closed_structure, no_members, with_member};
+pub use members::{closed_structure, inside_structure, no_members, with_member};
 pub use parameters::{ParameterList, no_parameters, with_parameter};

@@ -3,7 +3,6 @@ ghost use Rattle.std.specs.Prelude.{◌≡◌, ◌++◌, ◌∷◌, [], IfOk};
 ghost use Rattle.sp_c_tokens.specs.Ended.{IsEnded};
 ghost use Rattle.sp_c_lists.specs.Heads.{IsPastComma};
 
-use sp_c_steps::list_of_one;
 use sp_c_tokens::{Context, Mark, is_mark, next_token, sort_at};
 use sp_kept::pushed;
 use sp_tree::Token;
@@ -36,8 +35,10 @@ pub fn past_comma<'a>(context: Context<'_>, tokens: &'a [Token]) -> (bool, &'a [
 pub fn with_one<T: Drop>(alloc: Global, all: Vec<T>, item: T) -> Result<Vec<T>, AllocError>
     ensures { IfOk result (λ more. more.items ≡ all.items ++ item ∷ []) }
 {
-    if all.is_empty() {
-        return list_of_one(alloc, item);
+    if !all.is_empty() {
+        return pushed(all, item);
     }
-    pushed(all, item)
+    let mut first = Vec::with_capacity(alloc, 1)?;
+    first.push(item)?;
+    Ok(first)
 }

@@ -1,5 +1,5 @@
 //! The members of structures and unions (C90 6.5.2.1).
-ghost use Rattle.std.specs.Prelude.{◌+◌, ◌-◌, ◌≤◌, MatchResult, map, length, true, false};
+ghost use Rattle.std.specs.Prelude.{◌≡◌, ◌+◌, ◌-◌, ◌≤◌, MatchResult, map, length, true, false};
 ghost use Rattle.sp_grammar.specs.CTokens.{view};
 ghost use Rattle.sp_grammar.specs.CTable as grammar;
 ghost use Rattle.sp_syntax.specs.View.{declaration_of};
@@ -23,17 +23,34 @@ use sp_kept::keeping;
 use sp_syntax::{Declaration, Specifier};
 use sp_tree::Token;
 
+/// The context of the members of a structure, by that around it.
+pub fn inside_structure<'a>(context: Context<'a>) -> Context<'a>
+    ensures types { result.types.now ≡ context.entry.types.now }
+    ensures scope { result.scope ≡ record context.entry.scope { in_struct = true } }
+{
+    Context {
+        scope: Scope {
+            in_struct: true,
+            ..context.scope
+        },
+        ..context
+    }
+}
+
 /// Behind the `{` of a structure, where its first member is left.
-pub fn no_members<'a>(context: Context<'_>, head: Head<'a>, depth: u32) -> Listed<'a, Declaration>
-    requires { IsEnded head.rest.now }
+pub fn no_members<'a>(
+    context: Context<'_>,
+    inside: &'a [Token],
+    depth: u32,
+) -> Listed<'a, Declaration>
+    requires { IsEnded inside.now }
     ensures { HasMembers (context_of context.entry) (record context.entry.scope { in_struct = true }) depth
-        head.entry.rest.now result.more (map declaration_of result.all.items) result.depth
-        result.rest.now }
+        inside.now result.more (map declaration_of result.all.items) result.depth result.rest.now }
 {
     Listed {
         all: Vec::new(context.alloc),
         depth: 0,
-        rest: head.rest,
+        rest: inside,
         more: true,
     }
 }
@@ -68,11 +85,11 @@ pub fn with_member<'a>(
     let (token, _) = next_token(rest);
     let sort = sort_at(context.types, token.kind);
     let more = begins_specifiers(false, context.scope.in_function, sort);
-    let depth = members.depth.max(part.depth);
+    let reached = members.depth.max(part.depth);
     let all = with_one(context.alloc, all, part.tree)?;
     Ok(Listed {
         all,
-        depth,
+        depth: reached,
         rest,
         more,
     })
@@ -98,13 +115,12 @@ pub fn closed_structure<'a>(
         (IsSpecifierStop (context_of context.entry) depth
         (view context.entry.types.now (sort_of word.kind)) word tokens.now) }
 {
-    let scope = Scope {
-        in_struct: true,
-        ..context.scope
-    };
-    let inner = Context { scope, ..context };
-    let purpose = AlsoAllowed::TypeSpecifier;
-    let next = expect(inner, purpose, Mark::CloseBrace, members.rest);
+    let next = expect(
+        inside_structure(context),
+        AlsoAllowed::TypeSpecifier,
+        Mark::CloseBrace,
+        members.rest,
+    );
     let (rest, all) = keeping(next, members.all)?;
     Ok(Part {
         tree: structure(context.alloc, word, head.tag, all)?,

@@ -30,7 +30,7 @@ pub struct ParameterList<'a> {
 struct ListEnd<'a> {
     more: bool,
     dots: bool,
-    behind: AlsoAllowed,
+    also_allowed: AlsoAllowed,
     rest: &'a [Token],
 }
 
@@ -43,11 +43,12 @@ pub fn no_parameters<'a>(context: Context<'_>, tokens: &'a [Token], depth: u32) 
     let (token, _) = next_token(tokens);
     let sort = sort_at(context.types, token.kind);
     let more = begins_specifiers(true, context.scope.in_function, sort);
-    let all = Vec::new(context.alloc);
-    let behind = AlsoAllowed::Parameter;
-    let dots = false;
     ParameterList {
-        given: Parameters { all, dots, behind },
+        given: Parameters {
+            all: Vec::new(context.alloc),
+            dots: false,
+            behind: AlsoAllowed::Parameter,
+        },
         depth: 0,
         rest: tokens,
         more,
@@ -57,33 +58,31 @@ pub fn no_parameters<'a>(context: Context<'_>, tokens: &'a [Token], depth: u32) 
 /// What is behind a parameter, which says what else might be there.
 fn list_end<'a>(context: Context<'_>, tokens: &'a [Token], behind: AlsoAllowed) -> ListEnd<'a>
     requires { IsEnded tokens.now }
-    ensures { IsListEnd context.entry.types.now tokens.now behind result.more result.dots result.behind
+    ensures { IsListEnd context.entry.types.now tokens.now behind result.more result.dots result.also_allowed
         result.rest.now }
 {
     let (comma, rest) = next_token(tokens);
-    let (more, dots) = (false, false);
     if !is_mark(Mark::Comma, sort_at(context.types, comma.kind)) {
-        let rest = tokens;
         return ListEnd {
-            more,
-            dots,
-            behind,
-            rest,
+            more: false,
+            dots: false,
+            also_allowed: behind,
+            rest: tokens,
         };
     }
     let (ellipsis, last) = next_token(rest);
     if is_mark(Mark::Ellipsis, sort_at(context.types, ellipsis.kind)) {
         return ListEnd {
-            more,
+            more: false,
             dots: true,
-            behind: AlsoAllowed::Nothing,
+            also_allowed: AlsoAllowed::Nothing,
             rest: last,
         };
     }
     ListEnd {
         more: true,
-        dots,
-        behind,
+        dots: false,
+        also_allowed: behind,
         rest,
     }
 }
@@ -108,18 +107,17 @@ pub fn with_parameter<'a>(
         × (1 + length now.rest.now ≤ length parameters.entry.rest.now))
         (IsStop (context_of context.entry) grammar.parameters depth tokens.now) }
 {
-    let reached = parameters.depth;
     let (part, all) = keeping(next, parameters.given.all)?;
     let end = list_end(context, part.rest, part.tree.behind);
-    let depth = reached.max(part.depth);
+    let reached = parameters.depth.max(part.depth);
     let all = with_one(context.alloc, all, part.tree.tree)?;
     Ok(ParameterList {
         given: Parameters {
             all,
             dots: end.dots,
-            behind: end.behind,
+            behind: end.also_allowed,
         },
-        depth,
+        depth: reached,
         rest: end.rest,
         more: end.more,
     })

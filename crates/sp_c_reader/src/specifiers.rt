@@ -16,14 +16,14 @@ ghost use Rattle.sp_c_lists.specs.declared.heads.Body.TheVariants as bodies;
 use crate::declarators::read_declarator;
 use crate::expressions::read_level;
 use sp_c_lists::{
-    Body, Head, closed_enumeration, closed_member, closed_structure, constant_name, member_of,
-    no_constants, no_members, specifier_head, valued, whole_specifier, with_constant, with_item,
-    with_member,
+    Body, Head, closed_enumeration, closed_member, closed_structure, constant_name,
+    inside_structure, member_of, no_constants, no_members, specifier_head, valued, whole_specifier,
+    with_constant, with_item, with_member,
 };
 use sp_c_steps::{CONDITIONAL, is_either, is_too_deep, type_purpose};
 use sp_c_tokens::{
-    Context, DeclaratorKind, Mark, NOTHING, Part, ReadError, Scope, SpecifierList, add_specifier,
-    fault, is_mark, is_typed, next_token, sort_at,
+    Context, DeclaratorKind, Mark, NOTHING, Part, ReadError, SpecifierList, add_specifier, fault,
+    is_mark, is_typed, next_token, sort_at,
 };
 use sp_kept::{keeping, pushed};
 use sp_syntax::{Declaration, Expr, Specifier};
@@ -121,12 +121,8 @@ fn read_members<'a>(
         (IsSpecifierStop (context_of context.entry) depth
         (view context.entry.types.now (sort_of word.kind)) word tokens.now) }
 {
-    let scope = Scope {
-        in_struct: true,
-        ..context.scope
-    };
-    let inner = Context { scope, ..context };
-    let mut members = no_members(context, head, depth);
+    let inner = inside_structure(context);
+    let mut members = no_members(context, head.rest, depth);
     'members: while members.more {
         let next = read_member(inner, members.rest, depth - 1);
         members = with_member(context, tokens, word, head, members, depth, next)?;
@@ -171,7 +167,7 @@ fn read_constants<'a>(
         (IsSpecifierStop (context_of context.entry) depth
         (view context.entry.types.now (sort_of word.kind)) word tokens.now) }
 {
-    let mut constants = no_constants(context, head, depth);
+    let mut constants = no_constants(context, head.rest, depth);
     'constants: while constants.more {
         let next = read_constant(context, constants.rest, depth);
         constants = with_constant(context, tokens, word, head, constants, depth, next)?;

@@ -8,11 +8,10 @@ use Rattle.sp_syntax.specs.Syntax.{Statement, Expression, statement}
 use Rattle.sp_syntax.specs.View.{maybe_expression}
 use Rattle.sp_syntax.specs.Places.{place_of}
 use Rattle.sp_syntax.specs.Depth.{statement_depth}
-use Rattle.sp_syntax.proofs.TreeLaws.{depth-positive}
 use Rattle.sp_grammar.specs.CTokens as tokens
 use Rattle.sp_grammar.specs.CTokens.{view, is_name, is_mark}
 use Rattle.sp_grammar.specs.CTable as grammar
-use Rattle.sp_grammar.specs.CTable.{Context, Item, ItemAnswer, at, c_symbols, get, expect, ordinary}
+use Rattle.sp_grammar.specs.CTable.{Context, at, c_symbols, get, expect, ordinary}
 use Rattle.sp_grammar.specs.Table.{Plan, done, ask, Reads, wanted}
 use Rattle.sp_c_tokens.specs.declared.scope.Scope.{Scope}
 use Rattle.sp_c_tokens.specs.declared.scope.AlsoAllowed.TheVariants as purposes
@@ -156,10 +155,6 @@ module _ (types : List ℕ) (scope : Scope) (d : ℕ) (text xs : List Token) (x 
         let on = left_mark types scope tokens.semicolon (λ z. done (syntax_trees.of o.tree z)) (x ∷ xs) mid rest expression_got closes in
         let begun : length text ≡ length (x ∷ xs) = ap length e in
         taken g d (1 + n) text xs rest x (syntax_trees.of o.tree (terminal closes.first)) made e on (expression_made o.tree mid rest end at_first closes made same) (ap (λ k. 1 + k) h.deep) (omega (arith, h.shallow, room)) closes.ended (omega (arith, begun, h.fewer, shorter types tokens.semicolon mid rest closes))
-
-  -- no expression is so shallow
-  pub expression_none : (n : ℕ) (o : Operand) (rest : List Token) → IsRead g (grammar.level 13) 0 text o n rest → ⊥
-  expression_none n o rest h = omega (arith, h.deep, h.shallow, depth-positive o.tree)
 
   -- ---- an expression that begins with a name
 

@@ -4,14 +4,14 @@ use Rattle.std.specs.Prelude.{◌||◌, max, MatchResult, Option, if◌then◌el
 use Rattle.sp_tree.specs.declared.fault.Place.{Place}
 use Rattle.sp_tree.specs.declared.token.Token.{Token}
 use Rattle.sp_syntax.specs.Syntax as syntax
-use Rattle.sp_syntax.specs.Syntax.{Statement, Statements, Expression, Declaration, statement}
+use Rattle.sp_syntax.specs.Syntax.{Statement, Expression, Declaration, statement}
 use Rattle.sp_syntax.specs.declared.statement.Statement.{Statement as CodeStatement}
 use Rattle.sp_syntax.specs.View.{statement_of, declarations, statements}
 use Rattle.sp_syntax.specs.Depth.{statement_depth, statements_depth}
 use Rattle.sp_grammar.specs.CTokens as tokens
 use Rattle.sp_grammar.specs.CTokens.{view, is_mark}
 use Rattle.sp_grammar.specs.CTable as grammar
-use Rattle.sp_grammar.specs.CTable.{Context, Item, ItemAnswer, at, c_symbols, get, next, close_by, begins_expression, begins_other}
+use Rattle.sp_grammar.specs.CTable.{Context, at, c_symbols, get, next, close_by, begins_expression, begins_other}
 use Rattle.sp_grammar.specs.Table.{Plan, done}
 use Rattle.sp_grammar.specs.Depth.{Nests}
 use Rattle.sp_c_tokens.specs.declared.scope.Scope.{Scope}
@@ -227,8 +227,3 @@ module _ (g : Context) (first ss : List Statement) (text rest xs : List Token) (
   pub statements_end : (d n : ℕ) → (begins_expression (view g.types (sort_of x.kind)) || begins_other (view g.types (sort_of x.kind))) ≡ false → n ≡ statements_depth (all_statements ss) → n ≤ d → IsEnded rest → length rest ≤ length text → IsRead g (grammar.statements first) d text ss n rest
   statements_end d n other deep shallow ended fewer =
       built g (grammar.statements first) d n text rest ss ss (choice_ends g (grammar.statements first) (grammar.statements ss) (λ a. a) text rest xs x step e (begins_expression (view g.types (sort_of x.kind)) || begins_other (view g.types (sort_of x.kind))) ss (get g grammar.statement (statements_more g ss)) refl other) refl deep shallow ended (omega (arith, fewer))
-
--- the statements of a block, in the code's words
-pub statements_listed : (ss : List Statement) → statements ss ≡ all_statements ss
-statements_listed [] = refl
-statements_listed (s ∷ ss) = ap (λ v. syntax.next_statement s v) (statements_listed ss)

@@ -1,10 +1,8 @@
 -- Lists that go on at some tokens and end at any other, over plain variables: members, constants, declarators of members.
-use Rattle.std.proofs.Common.{◌≡◌, ℕ, ◌≤◌, Bool, true, false, List, [], ◌∷◌, ◌++◌, map, length, Some, refl, ap, ◌∙◌, arith}
+use Rattle.std.proofs.Common.{◌≡◌, Bool, true, false, List, [], ◌∷◌, ◌++◌, map, Some, refl, ap, ◌∙◌}
 use Rattle.std.specs.Prelude.{if◌then◌else◌}
 use Rattle.sp_tree.specs.declared.token.Token.{Token}
 use Rattle.sp_syntax.specs.Syntax.{Declaration}
-use Rattle.sp_syntax.specs.View.{declarations}
-use Rattle.sp_syntax.specs.Depth.{declarations_depth, enumerators_depth}
 use Rattle.sp_grammar.specs.CTokens as tokens
 use Rattle.sp_grammar.specs.CTokens.{view, is_mark}
 use Rattle.sp_grammar.specs.CTable as grammar
@@ -13,12 +11,10 @@ use Rattle.sp_grammar.specs.CTrees.{TokenOf}
 use Rattle.sp_grammar.specs.Table.{Plan, done, ask, Reads}
 use Rattle.sp_c_tokens.specs.Sorts.{terminal, sort_of, c_tokens}
 use Rattle.sp_c_tokens.specs.SyntaxTrees.{syntax_trees, c_table}
-use Rattle.sp_c_tokens.specs.Makers.{Enumerator, all_enumerators}
-use Rattle.sp_c_tokens.specs.Ended.{IsEnded}
-use Rattle.sp_c_steps.specs.Reading.{IsRead, IsStep}
+use Rattle.sp_c_tokens.specs.Makers.{Enumerator}
+use Rattle.sp_c_steps.specs.Reading.{IsStep}
 use Rattle.sp_c_steps.proofs.Steps.{enter, took_token, finished}
 use Rattle.sp_c_steps.proofs.Parts.{IsOn, chosen}
-use Rattle.sp_c_steps.proofs.ExpressionSteps.{built}
 
 -- a plan that one test chooses
 module _ (g : Context) (i j : Item syntax_trees) (f : ItemAnswer j → ItemAnswer i) (text rest xs : List Token) (x : Token) (step : IsStep g i j f text rest) (e : rest ≡ x ∷ xs) (b : Bool) (a : ItemAnswer j) where
@@ -40,10 +36,6 @@ module _ (g : Context) (first ds : List Declaration) (text rest xs : List Token)
   pub members_on : begins_specifiers false g.inside (view g.types (sort_of x.kind)) ≡ true → IsOn g g (grammar.members first) (grammar.members ds) (λ a. a) (get g grammar.member (members_more g ds)) text rest
   members_on stands = choice_on g (grammar.members first) (grammar.members ds) (λ a. a) text rest xs x step e (begins_specifiers false g.inside (view g.types (sort_of x.kind))) ds (get g grammar.member (members_more g ds)) refl stands
 
-  pub members_end : (d n : ℕ) → begins_specifiers false g.inside (view g.types (sort_of x.kind)) ≡ false → n ≡ declarations_depth (declarations ds) → n ≤ d → IsEnded rest → length rest ≤ length text → IsRead g (grammar.members first) d text ds n rest
-  members_end d n other deep shallow ended fewer =
-      built g (grammar.members first) d n text rest ds ds (choice_ends g (grammar.members first) (grammar.members ds) (λ a. a) text rest xs x step e (begins_specifiers false g.inside (view g.types (sort_of x.kind))) ds (get g grammar.member (members_more g ds)) refl other) refl deep shallow ended (omega (arith, fewer))
-
 -- ---- constants of enumerations
 
 abbrev pub enumerators_more : (g : Context) (es : List Enumerator) (v : Enumerator) → Plan (c_symbols syntax_trees) (at g (grammar.enumerators es))
@@ -52,10 +44,6 @@ enumerators_more g es v = get g (grammar.enumerators (es ++ v ∷ [])) (λ fs. d
 module _ (g : Context) (first es : List Enumerator) (text rest xs : List Token) (x : Token) (step : IsStep g (grammar.enumerators first) (grammar.enumerators es) (λ a. a) text rest) (e : rest ≡ x ∷ xs) where
   pub enumerators_on : is_mark tokens.comma (view g.types (sort_of x.kind)) ≡ true → IsOn g g (grammar.enumerators first) (grammar.enumerators es) (λ a. a) (get g grammar.enumerator (enumerators_more g es)) text xs
   enumerators_on stands = choice_taken g (grammar.enumerators first) (grammar.enumerators es) (λ a. a) text rest xs x step e (is_mark tokens.comma (view g.types (sort_of x.kind))) es (λ y. get g grammar.enumerator (enumerators_more g es)) refl stands
-
-  pub enumerators_end : (d n : ℕ) → is_mark tokens.comma (view g.types (sort_of x.kind)) ≡ false → n ≡ enumerators_depth (all_enumerators es) → n ≤ d → IsEnded rest → length rest ≤ length text → IsRead g (grammar.enumerators first) d text es n rest
-  enumerators_end d n other deep shallow ended fewer =
-      built g (grammar.enumerators first) d n text rest es es (choice_ends g (grammar.enumerators first) (grammar.enumerators es) (λ a. a) text rest xs x step e (is_mark tokens.comma (view g.types (sort_of x.kind))) es (next (λ y. get g grammar.enumerator (enumerators_more g es))) refl other) refl deep shallow ended (omega (arith, fewer))
 
 pub map_more : {A B : Type 0} (f : A → B) (xs : List A) (x : A) → map f (xs ++ x ∷ []) ≡ map f xs ++ f x ∷ []
 map_more f [] x = refl

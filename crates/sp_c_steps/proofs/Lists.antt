@@ -1,25 +1,20 @@
--- How far the readers of lists have come: of specifiers, members, constants, members' declarators, parameters, and the suffixes of
--- declarators.
-use Rattle.std.proofs.Common.{◌≡◌, ℕ, ◌+◌, ◌≤◌, Bool, true, false, List, [], map, length, None}
+-- How far the readers of lists have come: of specifiers, and of the suffixes of declarators.
+use Rattle.std.proofs.Common.{◌≡◌, ℕ, ◌+◌, ◌≤◌, Bool, true, false, List, [], length}
 use Rattle.std.specs.Prelude.{◌⊎◌, is_some}
 use Rattle.sp_tree.specs.declared.token.Token.{Token}
 use Rattle.sp_syntax.specs.declared.tree.Specifier.{Specifier as CodeSpecifier}
-use Rattle.sp_syntax.specs.declared.tree.Param.{Param as CodeParam}
-use Rattle.sp_syntax.specs.declared.tree.InitDeclarator.{InitDeclarator as CodeItem}
-use Rattle.sp_syntax.specs.Syntax.{Declarator, Param}
-use Rattle.sp_syntax.specs.View.{specifiers_of, param_of, declarator_of}
+use Rattle.sp_syntax.specs.Syntax.{Declarator}
+use Rattle.sp_syntax.specs.View.{specifiers_of, declarator_of}
 use Rattle.sp_grammar.specs.CTokens as tokens
 use Rattle.sp_grammar.specs.CTable as grammar
 use Rattle.sp_grammar.specs.CTable.{Context}
-use Rattle.sp_c_tokens.specs.Makers.{SpecifierAt, all_specifiers, place_of_first, first_place, settle, settle_last}
+use Rattle.sp_c_tokens.specs.Makers.{SpecifierAt, all_specifiers, place_of_first, first_place, settle}
 use Rattle.sp_c_tokens.specs.SyntaxTrees.{syntax_trees}
 use Rattle.sp_c_tokens.specs.Faults.{is_empty}
 use Rattle.sp_c_tokens.specs.declared.part.Declared.{Declared}
-use Rattle.sp_c_tokens.specs.declared.scope.AlsoAllowed.{AlsoAllowed}
 use Rattle.sp_c_tokens.specs.Codes.{seen_by}
-use Rattle.sp_c_tokens.specs.Scopes.{purpose_seen}
 use Rattle.sp_c_steps.specs.Reading.{IsStep}
-use Rattle.sp_c_steps.specs.Declaring.{declared_seen, item_seen}
+use Rattle.sp_c_steps.specs.Declaring.{declared_seen}
 
 -- These specifiers were read, whose words are these bits. The list has the place of its first token, once there is one.
 pub record SpecifiersSoFar (g : Context) (stores : Bool) (text : List Token) (items : List CodeSpecifier) (typedefs : Bool) (seen : ℕ) (rest : List Token) : Type 0 where
@@ -27,17 +22,6 @@ pub record SpecifiersSoFar (g : Context) (stores : Bool) (text : List Token) (it
   pub same : specifiers_of items ≡ all_specifiers all
   pub begun : ((seen ≡ 0) × (all ≡ []) × (items ≡ []) × (rest ≡ text)) ⊎ ((place_of_first all ≡ first_place text) × (1 + length rest ≤ length text) × (is_empty all ≡ false))
   pub step : IsStep g (grammar.specifiers stores tokens.nothing_seen grammar.no_specifiers) (grammar.specifiers stores (seen_by seen) (record { all = all; typedefs = typedefs })) (λ a. a) text rest
-
--- These declarators of members were read.
-pub record ItemsSoFar (g : Context) (first : Declared) (text : List Token) (items : List CodeItem) (behind : AlsoAllowed) (rest : List Token) : Type 0 where
-  pub names : List ℕ
-  pub step : IsStep g (grammar.member_items (grammar.one_item (declared_seen first (declarator_of first.tree)) None)) (grammar.member_items (record { all = map item_seen items; names = names; behind = purpose_seen behind })) (λ a. a) text rest
-
--- These parameters were read; the last stands before these tokens.
-pub record ParametersSoFar (g : Context) (text : List Token) (items : List CodeParam) (behind : AlsoAllowed) (rest : List Token) : Type 0 where
-  pub pending : List Param
-  pub settled : map param_of items ≡ settle_last (first_place rest) pending
-  pub step : IsStep g grammar.parameters (grammar.more_parameters (record { all = pending; dots = false; behind = purpose_seen behind })) (λ a. a) text rest
 
 -- The head of a declarator and suffixes were read, and make this declarator, which stands before these tokens.
 pub record SuffixedSoFar (g : Context) (head : grammar.Declared syntax_trees) (text : List Token) (d : Declared) (rest : List Token) : Type 0 where

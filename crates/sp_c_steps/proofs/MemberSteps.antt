@@ -27,13 +27,12 @@ use Rattle.sp_c_tokens.proofs.Settled.{items_both}
 use Rattle.sp_c_tokens.specs.Scopes.{there, purpose_seen}
 use Rattle.sp_c_steps.specs.Reading.{IsRead, IsStep}
 use Rattle.sp_c_tokens.specs.Expecting.{IsExpected}
-use Rattle.sp_c_steps.specs.Declaring.{declared_seen, item_seen, AreItems, AreSpecified}
+use Rattle.sp_c_steps.specs.Declaring.{declared_seen, item_seen, AreItems, AreSpecified, ItemsSoFar}
 use Rattle.sp_c_steps.proofs.Steps.{begun, got, last, finished}
 use Rattle.sp_c_steps.proofs.Parts.{IsOn, on_mark}
 use Rattle.sp_c_steps.proofs.ExpressionSteps.{built}
 use Rattle.sp_c_steps.proofs.DeclaratorSteps.{same_on}
 use Rattle.sp_c_steps.proofs.ListSteps.{choice_ends, choice_taken, map_more}
-use Rattle.sp_c_steps.proofs.Lists.{ItemsSoFar}
 
 -- ---- declarators of members
 
@@ -51,11 +50,6 @@ first_item g d text items i p all one behind =
     let names = (first_items d).names in
     let same : items_seen items names p ≡ first_items d = items_same (ap (λ v. map item_seen v) all ∙ ap (λ v. v ∷ []) one) refl behind in
     record { names = names; step = subst (λ v. IsStep g (grammar.member_items (first_items d)) (grammar.member_items v) (λ a. a) text text) (sym same) (begun (at g (grammar.member_items (first_items d))) (c_tokens text)) }
-
-pub first_item_deep : (d : Declared) (items : List CodeItem) (i : CodeItem) (n : ℕ) → items ≡ i ∷ [] → item_seen i ≡ syntax.init_declarator (declarator_of d.tree) syntax.no_init → n ≡ declarator_depth (declarator_of d.tree) → n ≡ items_depth (all_items (map item_seen items))
-first_item_deep d items i n all one deep =
-    let here : n ≡ items_depth (all_items (syntax.init_declarator (declarator_of d.tree) syntax.no_init ∷ [])) = omega (arith, deep) in
-    here ∙ sym (ap (λ v. items_depth (all_items v)) (ap (λ v. map item_seen v) all ∙ ap (λ v. v ∷ []) one))
 
 pub more_item_deep : (d : Declared) (items now : List CodeItem) (i : CodeItem) (m n k : ℕ) → now ≡ items ++ i ∷ [] → item_seen i ≡ syntax.init_declarator (declarator_of d.tree) syntax.no_init → m ≡ items_depth (all_items (map item_seen items)) → n ≡ declarator_depth (declarator_of d.tree) → k ≡ max m n → k ≡ items_depth (all_items (map item_seen now))
 more_item_deep d items now i m n k same one deep item both =

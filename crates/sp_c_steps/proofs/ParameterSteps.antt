@@ -22,13 +22,12 @@ use Rattle.sp_c_tokens.specs.Ended.{IsEnded}
 use Rattle.sp_c_tokens.proofs.Settled.{settle_param_depth, settle_last_depth, params_snoc}
 use Rattle.sp_c_tokens.specs.Scopes.{purpose_seen}
 use Rattle.sp_c_steps.specs.Reading.{IsStep}
-use Rattle.sp_c_steps.specs.Declaring.{IsGiven, AreGiven}
+use Rattle.sp_c_steps.specs.Declaring.{IsGiven, AreGiven, ParametersSoFar}
 use Rattle.sp_c_steps.proofs.Steps.{enter, took_token, got, last, finished}
 use Rattle.sp_c_steps.proofs.Parts.{IsOn, chosen}
 use Rattle.sp_c_tokens.proofs.Viewing.{ended_other}
 use Rattle.sp_c_steps.proofs.ExpressionSteps.{built, first_same}
 use Rattle.sp_c_steps.proofs.ListSteps.{choice_ends, choice_taken, map_more}
-use Rattle.sp_c_steps.proofs.Lists.{ParametersSoFar}
 
 -- behind a comma and behind `...` the tokens end in the same way
 pub ended_comma : (types : List ℕ) (x : Token) (xs : List Token) → is_mark tokens.comma (view types (sort_of x.kind)) ≡ true → IsEnded (x ∷ xs) → IsEnded xs
@@ -73,11 +72,6 @@ first_given g d n text rest p behind items on h same = record {
 
 pub given_depth : (p : Place) (a b : Param) (n : ℕ) → a ≡ settle_param p b → n ≡ param_depth b → n ≡ param_depth a
 given_depth p a b n e deep = deep ∙ (sym (settle_param_depth p b) ∙ sym (ap (λ v. param_depth v) e))
-
-pub one_given_deep : (p : CodeParam) (items : List CodeParam) (n : ℕ) → items ≡ p ∷ [] → n ≡ param_depth (param_of p) → n ≡ params_depth (params (map param_of items))
-one_given_deep p items n same deep =
-    let one : n ≡ params_depth (params (param_of p ∷ [])) = omega (arith, deep) in
-    one ∙ sym (ap (λ v. params_depth (params (map param_of v))) same)
 
 pub more_given_deep : (items now : List CodeParam) (p : CodeParam) (m n k : ℕ) → now ≡ items ++ p ∷ [] → m ≡ params_depth (params (map param_of items)) → n ≡ param_depth (param_of p) → k ≡ max m n → k ≡ params_depth (params (map param_of now))
 more_given_deep items now p m n k same deep one both =

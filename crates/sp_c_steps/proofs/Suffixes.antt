@@ -1,5 +1,5 @@
 -- Suffixes of postfix expressions and arguments, over plain variables.
-use Rattle.std.proofs.Common.{◌≡◌, ℕ, ◌+◌, ◌≤◌, ◌==◌, true, false, List, [], ◌∷◌, ◌++◌, map, length, Some, refl, sym, ap, subst, arith}
+use Rattle.std.proofs.Common.{◌≡◌, ℕ, ◌+◌, ◌≤◌, true, false, List, [], ◌∷◌, ◌++◌, map, length, Some, refl, sym, ap, subst, arith}
 use Rattle.std.specs.Prelude.{if◌then◌else◌}
 use Rattle.sp_tree.specs.declared.token.Token.{Token}
 use Rattle.sp_syntax.specs.Syntax.{Expression}
@@ -134,8 +134,3 @@ step_left (tokens.mark tokens.bracket) e a b d = absurd cc
 step_left (tokens.mark tokens.opening) e a b d = absurd cc
 step_left (tokens.mark tokens.member) e a b d = absurd cc
 step_left _ e a b d = absurd cc
-
--- what might stand where the arguments end
-pub none_at_first : (es : List Expr) → (length es == 0) ≡ true → grammar.for_name ≡ at_first (map tree_of es)
-none_at_first [] e = refl
-none_at_first (f ∷ es) e = absurd (grind (arith, e))

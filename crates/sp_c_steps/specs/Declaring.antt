@@ -91,6 +91,12 @@ pub record AreGiven (g : Context) (depth : ℕ) (text : List Token) (ps : Parame
   pub settled : map param_of ps.all.items ≡ (if ps.dots then pending else settle_last (first_place rest) pending)
   pub read : IsRead g grammar.parameters depth text (record { all = pending; dots = ps.dots; behind = purpose_seen ps.behind }) reached rest
 
+-- These parameters were read; the last stands before these tokens.
+pub record ParametersSoFar (g : Context) (text : List Token) (items : List CodeParam) (behind : AlsoAllowed) (rest : List Token) : Type 0 where
+  pub pending : List Param
+  pub settled : map param_of items ≡ settle_last (first_place rest) pending
+  pub step : IsStep g grammar.parameters (grammar.more_parameters (record { all = pending; dots = false; behind = purpose_seen behind })) (λ a. a) text rest
+
 -- ---- specifiers
 
 -- A list of specifiers is read. Each has its place in the grammar; in the tree the list has none.
@@ -127,15 +133,17 @@ pub record AreItems (g : Context) (first : Declared) (depth : ℕ) (text : List 
   pub names : List ℕ
   pub read : IsRead g (grammar.member_items (grammar.one_item (declared_seen first (declarator_of first.tree)) None)) depth text (record { all = map item_seen is.all.items; names = names; behind = purpose_seen is.behind }) reached rest
 
+-- These declarators of members were read.
+pub record ItemsSoFar (g : Context) (first : Declared) (text : List Token) (items : List CodeItem) (behind : AlsoAllowed) (rest : List Token) : Type 0 where
+  pub names : List ℕ
+  pub step : IsStep g (grammar.member_items (grammar.one_item (declared_seen first (declarator_of first.tree)) None)) (grammar.member_items (record { all = map item_seen items; names = names; behind = purpose_seen behind })) (λ a. a) text rest
+
 -- a constant of an enumeration
 abbrev pub maybe_tree : Option CodeExpr → Option Expression
 maybe_tree v = option_map tree_of v
 
 abbrev pub constant_seen : ℕ × Place × Option CodeExpr → Enumerator
 constant_seen e = record { name = e.0; place = e.1; value = maybe_tree e.2 }
-
-abbrev pub constant_depth : ℕ × Place × Option CodeExpr → ℕ
-constant_depth e = deep.maybe_depth (maybe_expression (maybe_tree e.2))
 
 -- ---- parts that no ask names, since several productions hold them
 
@@ -253,7 +261,8 @@ pub record IsArray (head : Declared) (length : Option Expression) (d : Declared)
   pub shape : shape_seen d.shape ≡ grammar.shaped (shape_seen head.shape) grammar.other
   pub behind : purpose_seen d.behind ≡ grammar.closed (purpose_seen head.behind)
 
--- Behind the `{` of a structure its members and the `}` are read, and this is the structure. The context is that of its members.
+-- Behind the `{` of a structure its members and the `}` are read, and this is the structure. The
+-- context is that around the structure; its `in_structure` is that of the members.
 pub record IsBody (g : Context) (word : Token) (tag : Option ℕ) (depth : ℕ) (text : List Token) (s : CodeSpecifier) (reached : ℕ) (rest : List Token) : Type 0 where
   pub first : Declaration
   pub mid : List Token

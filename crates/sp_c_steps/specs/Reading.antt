@@ -12,7 +12,7 @@ use Rattle.sp_c_tokens.specs.declared.part.ReadError.{ReadError}
 use Rattle.sp_c_tokens.specs.Scopes.{purpose_seen}
 use Rattle.sp_c_tokens.specs.declared.part.ReadError.TheVariants as stops
 use Rattle.sp_grammar.specs.CTokens as tokens
-use Rattle.sp_grammar.specs.CTokens.{Sort, Mark, is_mark, view}
+use Rattle.sp_grammar.specs.CTokens.{Sort, view}
 use Rattle.sp_grammar.specs.CTable as grammar
 use Rattle.sp_grammar.specs.CTable.{Context, Item, ItemAnswer, at}
 use Rattle.sp_grammar.specs.Table.{ask, Reads, Fails}
@@ -110,10 +110,10 @@ pub record IsTypeName (g : Context) (depth : ℕ) (text : List Token) (name : Ty
 abbrev pub joined_tree : ℕ → Terminal → Expression → Expression → Expression
 joined_tree k x l r = if k == 13 then syntax_trees.sequence x l r else syntax_trees.binary x l r
 
--- the mark stands first, where these are the type names
-abbrev pub begins_with : Mark → List ℕ → List Token → Bool
-begins_with m types [] = false
-begins_with m types (x ∷ xs) = is_mark m (view types (sort_of x.kind))
+-- what the first token is, where these are the type names
+abbrev pub first_sort : List ℕ → List Token → Sort
+first_sort types [] = tokens.mark tokens.end
+first_sort types (x ∷ xs) = view types (sort_of x.kind)
 
 -- Behind a `(` an expression, the `)` and suffixes are read, and make this expression.
 pub record IsGrouped (g : Context) (opening : Token) (depth : ℕ) (text : List Token) (tree : Expression) (reached : ℕ) (rest : List Token) : Type 0 where

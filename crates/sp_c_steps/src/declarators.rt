@@ -14,7 +14,7 @@ ghost use Rattle.sp_c_tokens.specs.Ended.{IsEnded};
 ghost use Rattle.sp_c_tokens.specs.Scopes.{context_of, purpose_seen};
 ghost use Rattle.sp_c_tokens.specs.Codes.{sort_seen};
 ghost use Rattle.sp_c_tokens.specs.declared.part.ReadError.TheVariants.{NoMemory};
-ghost use Rattle.sp_c_steps.specs.Reading.{IsStop, begins_with};
+ghost use Rattle.sp_c_steps.specs.Reading.{IsStop, first_sort};
 ghost use Rattle.sp_c_steps.specs.Declaring.{IsArray, IsDeclared, form_seen, shape_seen, declared_seen, AreQualifiers, IsFunction, IsGroupFault, begins_array, begins_deeper, begins_part, head_name, qualifier_of};
 
 use sp_c_tokens::{
@@ -314,7 +314,7 @@ pub fn read_head<'a>(
     form: DeclaratorKind,
 ) -> Result<Part<'a, Declared>, ReadError<'a>>
     requires ended { IsEnded tokens.now }
-    requires no_group { begins_with sorts_there.opening context.types.now tokens.now ≡ false }
+    requires no_group { stands_mark sorts_there.opening (first_sort context.types.now tokens.now) ≡ false }
     ensures { (depth : ℕ) → 1 ≤ depth → MatchResult result
         (λ part. IsDeclared (context_of context.entry) (grammar.direct (form_seen form))
         (λ a. a) depth tokens.now part.tree part.depth part.rest.now)

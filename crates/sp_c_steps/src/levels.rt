@@ -1,7 +1,7 @@
 //! Which level of operators goes on behind a part of an expression (C90 6.3).
-ghost use Rattle.std.specs.Prelude.{◌<◌, ◌≤◌};
+ghost use Rattle.std.specs.Prelude.{◌≡◌, ◌<◌, ◌≤◌};
 ghost use Rattle.sp_c_tokens.specs.Ended.{IsEnded};
-ghost use Rattle.sp_c_steps.specs.Levels.{NoneBetween};
+ghost use Rattle.sp_c_steps.specs.Levels.{NoneBetween, next_level};
 
 use sp_c_tokens::{Context, looseness, next_token, sort_at};
 use sp_tree::Token;
@@ -12,6 +12,7 @@ use sp_tree::Token;
 pub fn next_level(context: Context<'_>, tokens: &[Token], reached: u32, loosest: u32) -> u32
     requires ended { IsEnded tokens.now }
     requires more { reached < loosest }
+    ensures exact { result ≡ next_level context.entry.types.now tokens.now reached loosest }
     ensures looser { reached < result }
     ensures within { result ≤ loosest }
     ensures between { NoneBetween context.entry.types.now tokens.now reached result }

@@ -21,7 +21,6 @@ mod declarators;
 mod expressions;
 mod levels;
 mod primaries;
-mod singles;
 mod specifiers;
 
 pub use declarators::{
@@ -35,7 +34,6 @@ pub use expressions::{
 };
 pub use levels::next_level;
 pub use primaries::read_operand;
-pub use singles::list_of_one;
 pub use specifiers::{
     enumeration, is_either, is_too_deep, item_of, structure, tagged_enumeration, tagged_structure,
     type_purpose, word_specifier,

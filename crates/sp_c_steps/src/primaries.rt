@@ -2,7 +2,7 @@
 //! each other.
 ghost use Rattle.std.specs.Prelude.{◌≡◌, ◌∷◌, MatchResult, map, true, false};
 ghost use Rattle.sp_grammar.specs.CTokens as sorts_there;
-ghost use Rattle.sp_grammar.specs.CTokens.{view};
+ghost use Rattle.sp_grammar.specs.CTokens.{view, is_mark as stands_mark};
 ghost use Rattle.sp_grammar.specs.CTable as grammar;
 ghost use Rattle.sp_tree.specs.declared.token.Token.{Token};
 ghost use Rattle.sp_syntax.specs.View.{tree_of};
@@ -10,7 +10,7 @@ ghost use Rattle.sp_c_tokens.specs.Makers.{number_of};
 ghost use Rattle.sp_c_tokens.specs.Sorts.{sort_of};
 ghost use Rattle.sp_c_tokens.specs.Ended.{IsEnded};
 ghost use Rattle.sp_c_tokens.specs.Scopes.{context_of};
-ghost use Rattle.sp_c_steps.specs.Reading.{Answers, IsRead, AreTexts, begins_with, is_operand};
+ghost use Rattle.sp_c_steps.specs.Reading.{Answers, IsRead, AreTexts, first_sort, is_operand};
 ghost use Rattle.sp_c_tokens.specs.Codes.{sort_seen};
 ghost use Rattle.sp_c_tokens.specs.declared.part.ReadError.TheVariants.{NoMemory};
 
@@ -32,7 +32,7 @@ pub fn read_operand<'a>(
     depth: u32,
 ) -> Result<Part<'a, Expr>, ReadError<'a>>
     requires ended { IsEnded tokens.now }
-    requires no_group { begins_with sorts_there.opening context.types.now tokens.now ≡ false }
+    requires no_group { stands_mark sorts_there.opening (first_sort context.types.now tokens.now) ≡ false }
     ensures { Answers (context_of context.entry) grammar.primary depth tokens.now tree_of result }
 {
     let (token, rest) = next_token(tokens);

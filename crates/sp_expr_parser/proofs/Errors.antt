@@ -7,9 +7,6 @@ use Rattle.sp_tree.specs.declared.fault.FaultKind.TheVariants.{M2}
 use Rattle.sp_tree.specs.declared.token.Kind.{Kind}
 use Rattle.sp_tree.specs.declared.token.Kind.TheVariants.{End}
 use Rattle.sp_tree.specs.declared.token.Token.{Token}
-use Rattle.sp_syntax.specs.Places.{Spells}
-use Rattle.sp_grammar.specs.CTable as grammar
-use Rattle.sp_grammar.specs.CTable.{Answer, Ask, at, outside}
 use Rattle.sp_grammar.specs.Table.{ask, Reads, Fails}
 use Rattle.sp_grammar.specs.Depth.{Nests}
 use Rattle.sp_grammar.proofs.Readings.{at_tokens, fault_at_tokens}
@@ -19,7 +16,7 @@ use Rattle.sp_c_tokens.specs.Depths.{c_depths}
 use Rattle.sp_c_tokens.specs.Makers.{first_place}
 use Rattle.sp_c_tokens.specs.Ended.{IsEnded}
 use Rattle.sp_c_tokens.specs.Faults.{Wanted}
-use Rattle.sp_c_grammar.specs.Answers.{Language, kinds_of, BeginsTree, IsTree, IsFirstBad, IsLongest, IsNested}
+use Rattle.sp_c_grammar.specs.Answers.{Language, kinds_of, BeginsTree, IsTree, IsFirstBad, IsNested}
 use Rattle.sp_c_grammar.proofs.Lifts.{Reader, longest_tree, first_bad, nested_begins, nested_tree}
 use Rattle.sp_c_grammar.proofs.Calls.{expression_reader, type_name_reader, specifiers_reader, declarator_reader}
 use Rattle.sp_c_grammar.proofs.Instead.{Split, longer, same as alike, shorter, split, read_on, failed_later, failed_there, not_before, nested_later, within}

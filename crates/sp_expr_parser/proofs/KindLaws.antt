@@ -2,16 +2,16 @@
 use Rattle.std.proofs.Common.{◌≡◌, ◌≢◌, ℕ, Bool, true, false, ◌&&◌, ◌||◌, ◌⊎◌, inl, inr, List, ◌++◌, refl, sym, ap, ◌∙◌, subst}
 use Rattle.std.specs.Prelude.{◌↔◌, IsTrue, if◌then◌else◌}
 use Rattle.sp_tree.specs.declared.fault.FaultKind.{FaultKind}
-use Rattle.sp_tree.specs.declared.fault.FaultKind.TheVariants.{F7, U4, U5, U6, U7, U8, U9, U10}
+use Rattle.sp_tree.specs.declared.fault.FaultKind.TheVariants.{F7, U4, U5, U6, U7, U9}
 use Rattle.sp_tree.specs.declared.token.Token.{Token}
 use Rattle.sp_grammar.specs.CTokens as tokens
 use Rattle.sp_grammar.specs.CTokens.{Sort, is_mark, is_name, view}
 use Rattle.sp_c_tokens.specs.Sorts.{sort_of}
-use Rattle.sp_c_tokens.specs.Faults.{Wanted, context_of, fault_there, sort_there, begins_parameter, wants_type, ends_with_dots, takes_name, begins_declarator, is_type_name, is_long, ends_with_opening, ends_with_long}
+use Rattle.sp_c_tokens.specs.Faults.{context_of, fault_there, sort_there, begins_parameter, wants_type, ends_with_dots, takes_name, begins_declarator, is_type_name, is_long, ends_with_opening, ends_with_long}
 use Rattle.sp_c_tokens.specs.Refined.{choose, refine}
 use Rattle.sp_c_tokens.proofs.Viewing.{mark_viewed}
 use Rattle.sp_c_grammar.specs.Answers.{Language}
-use Rattle.sp_expr_parser.specs.Parsing.{Failing, sort_wanted, IsOldParameter, IsImplicitInt, IsVariadicBody, IsBitField, IsBlock, IsTypeForName, IsLongLong, IsKind}
+use Rattle.sp_expr_parser.specs.Parsing.{Failing, sort_wanted, IsOldParameter, IsImplicitInt, IsVariadicBody, IsBitField, IsTypeForName, IsKind}
 use Rattle.sp_expr_parser.specs.Calling.{IsTold, is_wanted, choose as first_of}
 
 pub clash : (b : Bool) → b ≡ false → b ≡ true → ⊥

@@ -1,12 +1,11 @@
 -- What the readers read, said by levelled trees.
-use Rattle.std.proofs.Common.{◌≡◌, ℕ, zero, suc, ◌+◌, ◌-◌, ◌≤◌, ◌<◌, Bool, true, false, List, [], ◌∷◌, ◌++◌, map, length, take, drop, Some, None, inl, inr, refl, sym, ap, ◌∙◌, subst, arith, length-append, length-drop}
+use Rattle.std.proofs.Common.{◌≡◌, ℕ, zero, suc, ◌+◌, ◌-◌, ◌≤◌, ◌<◌, Bool, true, false, List, [], ◌∷◌, ◌++◌, map, length, take, drop, Some, None, refl, sym, ap, ◌∙◌, subst, arith, length-append, length-drop}
 use Rattle.std.proofs.lemmas.List.{map-append}
 use Rattle.std.specs.Prelude.{Option, is_some, if◌then◌else◌}
 use Rattle.sp_tree.specs.declared.token.Token.{Token}
 use Rattle.sp_c_tokens.specs.declared.scope.Scope.{Scope}
 use Rattle.sp_c_tokens.specs.declared.scope.AlsoAllowed.TheVariants as purposes
 use Rattle.sp_c_tokens.specs.declared.part.ReadError.{ReadError}
-use Rattle.sp_c_tokens.specs.declared.part.ReadError.TheVariants as stops
 use Rattle.sp_grammar.specs.CTokens as tokens
 use Rattle.sp_grammar.specs.CTokens.{Sort, Seen, view, is_mark, add, nothing_seen}
 use Rattle.sp_grammar.specs.CTable as grammar
@@ -14,23 +13,19 @@ use Rattle.sp_grammar.specs.CTable.{Ask, Answer, Context, Item, at, outside, pla
 use Rattle.sp_grammar.specs.CTrees.{TokenOf}
 use Rattle.sp_grammar.specs.Table.{Plan, ask, done, Reads, Fails, asked, Opens, open_take, open_call}
 use Rattle.sp_grammar.specs.Depth.{Nests, nests, deep_here}
-use Rattle.sp_grammar.proofs.Readings.{front_of, fault_front, spelled, fault_spelled, at_tokens, fault_at_tokens}
+use Rattle.sp_grammar.proofs.Readings.{front_of, fault_front, spelled, fault_spelled, at_tokens}
 use Rattle.sp_grammar.proofs.Nesting.{deep_front, deep_spelled}
 use Rattle.sp_c_tokens.specs.Sorts.{Terminal, terminal, sort_of, c_tokens}
 use Rattle.sp_c_tokens.specs.SyntaxTrees.{syntax_trees, c_table}
 use Rattle.sp_c_tokens.specs.Depths.{c_depths}
 use Rattle.sp_c_tokens.specs.Depths as deep
-use Rattle.sp_c_tokens.specs.Makers.{first_place, all_specifiers}
-use Rattle.sp_syntax.specs.declared.tree.Specifier.{Specifier as CodeSpecifier}
-use Rattle.sp_syntax.specs.View.{specifiers_of}
-use Rattle.sp_syntax.specs.Depth.{specifiers_depth}
-use Rattle.sp_c_grammar.proofs.Calls.{specifiers_reader}
-use Rattle.sp_c_tokens.specs.Faults.{Wanted, fault_there, sort_there, fault_of, begins_declarator}
+use Rattle.sp_c_tokens.specs.Makers.{first_place}
+use Rattle.sp_c_tokens.specs.Faults.{Wanted, begins_declarator}
 use Rattle.sp_c_tokens.specs.Ended.{IsEnded}
-use Rattle.sp_c_grammar.specs.Answers.{Language, specifier_lists, specifiers_ask, IsLongest, IsFault, IsNested}
-use Rattle.sp_c_grammar.proofs.Lifts.{Reader, longest_tree, fault_tree, nested_tree}
+use Rattle.sp_c_grammar.specs.Answers.{Language, IsLongest}
+use Rattle.sp_c_grammar.proofs.Lifts.{Reader, longest_tree}
 use Rattle.sp_c_tokens.specs.Scopes.{there}
-use Rattle.sp_c_steps.specs.Reading.{kind_at, IsStop, IsStep}
+use Rattle.sp_c_steps.specs.Reading.{IsStop, IsStep}
 use Rattle.sp_c_tokens.specs.Expecting.{IsFaultFor}
 use Rattle.sp_expr_parser.specs.Parsing.{IsParsed}
 use Rattle.sp_expr_parser.specs.Calling.{sort_of_first}

@@ -1,5 +1,5 @@
 -- What the four parsers answer, said by levelled trees.
-use Rattle.std.specs.Prelude.{◌≡◌, ◌==◌, length, ℕ, ◌^◌, ◌-◌, ◌<◌, ◌≤◌, Bool, true, false, ◌&&◌, List, [], ◌∷◌, ◌++◌, take, drop, Result, Ok, Err, ⊤, ◌⊎◌, Vec}
+use Rattle.std.specs.Prelude.{◌≡◌, ◌==◌, length, ℕ, ◌^◌, ◌-◌, ◌<◌, ◌≤◌, true, false, ◌&&◌, List, [], ◌∷◌, ◌++◌, take, drop, Result, Ok, Err, ⊤, ◌⊎◌, Vec}
 use Rattle.std.specs.List.{list_any}
 use Rattle.std.specs.declared.alloc.Global.{Global}
 use Rattle.sp_tree.specs.declared.fault.Fault.{Fault}

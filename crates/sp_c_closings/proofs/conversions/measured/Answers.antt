@@ -14,7 +14,7 @@ use Rattle.sp_c_steps.proofs.Steps.{got, finished}
 use Rattle.sp_c_steps.proofs.Parts.{stop_part}
 use Rattle.sp_c_steps.proofs.ExpressionSteps.{built}
 use Rattle.sp_c_steps.proofs.Parentheses.{sizeof_unary_on}
-use Rattle.sp_c_closings.specs.Closing.{first_sort}
+use Rattle.sp_c_steps.specs.Reading.{first_sort}
 use Rattle.sp_c_closings.proofs.Firsts.{begun_by}
 use Rattle.sp_c_closings.proofs.conversions.measured.Goals as goal
 

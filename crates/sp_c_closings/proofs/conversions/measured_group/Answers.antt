@@ -1,13 +1,12 @@
-use Rattle.std.proofs.Common.{◌∷◌, ◌-◌, refl, sym, ap, ◌∙◌}
+use Rattle.std.proofs.Common.{◌∷◌, refl, sym, ap, ◌∙◌}
 use Rattle.std.specs.Result.{result_from_control_flow}
 use Rattle.std.proofs.lemmas.Result.{err_from_is_err_and, MatchResult-at_ok, MatchResult-at_err}
 use Rattle.sp_syntax.specs.View.{tree_of}
 use Rattle.sp_grammar.specs.CTokens.{is_specifier, view}
-use Rattle.sp_grammar.specs.CTable.{operand}
 use Rattle.sp_c_tokens.specs.Sorts.{sort_of}
 use Rattle.sp_c_steps.proofs.Marks.{opening_is}
 use Rattle.sp_c_steps.proofs.Unaries.{sizeof_group_stop, sizeof_group_read}
-use Rattle.sp_c_closings.specs.Closing.{first_sort}
+use Rattle.sp_c_steps.specs.Reading.{first_sort}
 use Rattle.sp_c_closings.proofs.Firsts.{begun_by}
 use Rattle.sp_c_closings.proofs.conversions.measured_group.Goals as goal
 

@@ -5,10 +5,9 @@ use Rattle.sp_syntax.specs.View.{type_name_of}
 use Rattle.sp_grammar.specs.CTokens.{is_specifier, view}
 use Rattle.sp_c_tokens.specs.Sorts.{sort_of}
 use Rattle.sp_c_tokens.specs.Scopes.{there}
-use Rattle.sp_c_steps.specs.Reading.{IsTypeName}
+use Rattle.sp_c_steps.specs.Reading.{IsTypeName, first_sort}
 use Rattle.sp_c_steps.proofs.Marks.{opening_is}
 use Rattle.sp_c_steps.proofs.Casts.{cast_type_stop, cast_unclosed}
-use Rattle.sp_c_closings.specs.Closing.{first_sort}
 use Rattle.sp_c_closings.proofs.Firsts.{begun_by}
 use Rattle.sp_c_closings.proofs.conversions.until_target.Goals as goal
 

@@ -11,7 +11,7 @@ use Rattle.sp_c_steps.proofs.Steps.{got}
 use Rattle.sp_c_steps.proofs.Parts.{stop_part, stop_mark}
 use Rattle.sp_c_steps.proofs.DeclaratorParts.{parameters_seen}
 use Rattle.sp_c_steps.proofs.GroupSteps.{absent_more, absent_closing, absent_on, absent_function}
-use Rattle.sp_c_closings.specs.Closing.{first_sort}
+use Rattle.sp_c_steps.specs.Reading.{first_sort}
 use Rattle.sp_c_closings.proofs.Firsts.{begun_by}
 use Rattle.sp_c_closings.proofs.declarators.absent_function.Goals as goal
 

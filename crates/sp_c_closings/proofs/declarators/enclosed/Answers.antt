@@ -11,7 +11,7 @@ use Rattle.sp_c_steps.specs.Declaring.{form_seen, declared_seen}
 use Rattle.sp_c_steps.proofs.Steps.{got}
 use Rattle.sp_c_steps.proofs.Parts.{stop_part, stop_mark}
 use Rattle.sp_c_steps.proofs.GroupSteps.{inner_more, inner_closing, inner_on, grouped_declarator}
-use Rattle.sp_c_closings.specs.Closing.{first_sort}
+use Rattle.sp_c_steps.specs.Reading.{first_sort}
 use Rattle.sp_c_closings.proofs.Firsts.{begun_by}
 use Rattle.sp_c_closings.proofs.declarators.enclosed.Goals as goal
 

@@ -1,4 +1,4 @@
-use Rattle.std.proofs.Common.{◌-◌, length, Some, refl, sym, ap, ◌∙◌, arith}
+use Rattle.std.proofs.Common.{Some, refl, sym, ap, ◌∙◌, arith}
 use Rattle.std.specs.Result.{result_from_control_flow}
 use Rattle.std.proofs.lemmas.Result.{err_from_is_err_and, MatchResult-at_ok, MatchResult-at_err}
 use Rattle.sp_syntax.specs.View.{tree_of}
@@ -10,7 +10,7 @@ use Rattle.sp_c_steps.proofs.Steps.{got, finished}
 use Rattle.sp_c_steps.proofs.Parts.{stop_part}
 use Rattle.sp_c_steps.proofs.ExpressionSteps.{built}
 use Rattle.sp_c_steps.proofs.DeclaratorSteps.{length_on}
-use Rattle.sp_c_closings.specs.Closing.{first_sort}
+use Rattle.sp_c_steps.specs.Reading.{first_sort}
 use Rattle.sp_c_closings.proofs.Firsts.{begun_by}
 use Rattle.sp_c_closings.proofs.declarators.given_length.Goals as goal
 

@@ -1,4 +1,4 @@
-use Rattle.std.proofs.Common.{◌-◌, arith}
+use Rattle.std.proofs.Common.{arith}
 use Rattle.std.proofs.lemmas.Result.{err_from_is_err_and, MatchResult-at_ok, MatchResult-at_err}
 use Rattle.sp_grammar.specs.CTable as grammar
 use Rattle.sp_grammar.specs.Table.{done}
@@ -6,7 +6,7 @@ use Rattle.sp_c_tokens.specs.Scopes.{there}
 use Rattle.sp_c_steps.proofs.Steps.{got}
 use Rattle.sp_c_steps.proofs.Parts.{stop_part}
 use Rattle.sp_c_steps.proofs.DeclaratorSteps.{parameter_on, given_made, given_settled, given_read}
-use Rattle.sp_syntax.specs.Syntax.{declarator, param}
+use Rattle.sp_syntax.specs.Syntax.{param}
 use Rattle.sp_syntax.specs.declared.tree.DeclaratorForm.TheFolds.{fold-roll-Param}
 use Rattle.sp_c_tokens.specs.Makers.{all_specifiers}
 use Rattle.sp_c_closings.proofs.declarators.parameter_named.Goals as goal

@@ -1,4 +1,4 @@
-use Rattle.std.proofs.Common.{◌-◌, refl, sym, ap, ◌∙◌}
+use Rattle.std.proofs.Common.{refl, sym, ap, ◌∙◌}
 use Rattle.std.specs.Prelude.{is_some}
 use Rattle.std.proofs.lemmas.Result.{err_from_is_err_and, MatchResult-at_ok, MatchResult-at_err}
 use Rattle.sp_syntax.specs.View.{declarator_of}

@@ -1,4 +1,4 @@
-use Rattle.std.proofs.Common.{◌-◌, refl, arith}
+use Rattle.std.proofs.Common.{refl, arith}
 use Rattle.std.proofs.lemmas.Result.{err_from_is_err_and, MatchResult-at_ok, MatchResult-at_err}
 use Rattle.sp_syntax.specs.View.{declarator_of, specifiers_of}
 use Rattle.sp_grammar.specs.CTable as grammar
@@ -7,7 +7,7 @@ use Rattle.sp_c_tokens.specs.Scopes.{there}
 use Rattle.sp_c_steps.proofs.Steps.{got}
 use Rattle.sp_c_steps.proofs.Parts.{stop_part}
 use Rattle.sp_c_steps.proofs.DeclaratorSteps.{type_on, type_made, type_name_read}
-use Rattle.sp_syntax.specs.Syntax.{declarator, type_name}
+use Rattle.sp_syntax.specs.Syntax.{type_name}
 use Rattle.sp_syntax.specs.declared.tree.DeclaratorForm.TheFolds.{fold-roll-TypeName}
 use Rattle.sp_c_closings.proofs.declarators.type_named.Goals as goal
 

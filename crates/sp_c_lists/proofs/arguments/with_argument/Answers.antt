@@ -16,4 +16,4 @@ returns c =
     let part = c.in_ok-part.part in
     let h = MatchResult-at_ok _ _ _ c.in_ok-part.ensures.0 c.requires.read in
     let items = c.in_ok-all.ensures ∙ ap (λ v. v.items ++ part.tree.tree ∷ []) c.in_ok-part.ensures.1 in
-    one_listed g c.args.depth c.args.tokens.now c.args.arguments.all.items c.in_ok-all.all.items part.tree c.args.arguments.depth part.depth c.max-depth.result c.args.arguments.rest.now part.rest.now c.past_comma-more.result.1.now c.past_comma-more.result.0 c.requires.before h items c.max-depth.ensures c.past_comma-more.ensures
+    one_listed g c.args.depth c.args.tokens.now c.args.arguments.all.items c.in_ok-all.all.items part.tree c.args.arguments.depth part.depth c.max-reached.result c.args.arguments.rest.now part.rest.now c.past_comma-more.result.1.now c.past_comma-more.result.0 c.requires.before h items c.max-reached.ensures c.past_comma-more.ensures

@@ -20,4 +20,4 @@ returns c =
     let part = c.in_ok-part.part in
     let h = MatchResult-at_ok _ _ _ c.in_ok-part.ensures.0 c.requires.read in
     let items = c.in_ok-all.ensures ∙ ap (λ v. v.items ++ part.tree ∷ []) c.in_ok-part.ensures.1 in
-    one_listed g c.args.context.scope c.args.depth c.args.head.rest.now c.args.constants.all.items c.in_ok-all.all.items part.tree c.args.constants.depth part.depth c.max-depth.result c.args.constants.rest.now part.rest.now c.past_comma-more.result.1.now c.past_comma-more.result.0 b h items c.max-depth.ensures c.past_comma-more.ensures
+    one_listed g c.args.context.scope c.args.depth c.args.head.rest.now c.args.constants.all.items c.in_ok-all.all.items part.tree c.args.constants.depth part.depth c.max-reached.result c.args.constants.rest.now part.rest.now c.past_comma-more.result.1.now c.past_comma-more.result.0 b h items c.max-reached.ensures c.past_comma-more.ensures

@@ -1,9 +1,12 @@
-use Rattle.std.proofs.Common.{◌≡◌, ◌∷◌, ◌+◌, Some, map, length, ap, ◌∙◌, arith}
+use Rattle.std.proofs.Common.{◌≡◌, ◌∷◌, ◌+◌, Some, map, length, ap, ◌∙◌, subst, arith}
 use Rattle.std.proofs.lemmas.Result.{err_from_is_err_and, MatchResult-at_ok, MatchResult-at_err}
 use Rattle.sp_syntax.specs.Syntax.{struct_specifier, struct_spec}
 use Rattle.sp_syntax.specs.View.{declaration_of}
 use Rattle.sp_c_tokens.specs.Makers.{is_union, some_members}
+use Rattle.sp_grammar.specs.CTokens as tokens
 use Rattle.sp_c_tokens.specs.Scopes.{there}
+use Rattle.sp_c_tokens.specs.Expecting.{IsExpected, IsUnexpected}
+use Rattle.sp_c_tokens.specs.declared.scope.AlsoAllowed.TheVariants as purposes
 use Rattle.sp_c_steps.proofs.StructureSteps.{inner}
 use Rattle.sp_c_lists.proofs.Opened.{struct_stop, struct_read}
 use Rattle.sp_c_lists.proofs.MemberLists.{at_brace, members_end}
@@ -29,7 +32,7 @@ returns-in_err-rest c =
       last = rest;
       more = members_end g inside ds rest b c.requires.behind.goes_on.1;
       ended = c.requires.behind.ended;
-      why = MatchResult-at_err _ _ _ c.in_err-rest.ensures c.expect-next.ensures;
+      why = subst (λ s. IsUnexpected types s tokens.unbrace purposes.TypeSpecifier rest stop) c.inside_structure.ensures.scope (subst (λ v. IsUnexpected v c.inside_structure.result.scope tokens.unbrace purposes.TypeSpecifier rest stop) c.inside_structure.ensures.types (MatchResult-at_err _ _ _ c.in_err-rest.ensures c.expect-next.ensures));
     })))
 
 pub returns : goal.returns
@@ -45,7 +48,7 @@ returns c =
     let h = c.requires.behind in
     let b = h.goes_on.0 in
     let word = c.args.word in
-    let closes = MatchResult-at_ok _ _ _ c.in_ok-rest.ensures.0 c.expect-next.ensures in
+    let closes = subst (λ v. IsExpected v tokens.unbrace rest c.in_ok-rest.rest.now) c.inside_structure.ensures.types (MatchResult-at_ok _ _ _ c.in_ok-rest.ensures.0 c.expect-next.ensures) in
     let less : length rest ≡ length (closes.first ∷ c.in_ok-rest.rest.now) = ap length closes.whole in
     struct_read types c.args.context.scope word c.args.depth c.args.tokens.now inside (omega (arith, room)) c.args.head.tag head.0 head.2 (record { tree = c.in_ok-structure.field-0; depth = 1 + members.depth; rest = c.in_ok-rest.rest }) (record {
       first = b.first;

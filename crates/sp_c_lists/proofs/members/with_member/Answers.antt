@@ -24,4 +24,4 @@ returns c =
     let h = MatchResult-at_ok _ _ _ c.in_ok-part.ensures.0 c.requires.read in
     let items = c.in_ok-all.ensures ∙ ap (λ v. v.items ++ part.tree ∷ []) c.in_ok-part.ensures.1 in
     let goes_on = c.begins_specifiers-more.ensures ∙ ap (λ s. begins_specifiers false c.args.context.scope.in_function s) c.sort_at-sort.ensures in
-    one_listed g (inner c.args.context.scope) c.args.depth c.args.head.rest.now c.args.members.all.items c.in_ok-all.all.items part.tree c.args.members.depth part.depth c.max-depth.result c.args.members.rest.now part.rest.now b h items c.max-depth.ensures c.next_token.result.1.now c.next_token.result.0 c.next_token.ensures c.begins_specifiers-more.result goes_on
+    one_listed g (inner c.args.context.scope) c.args.depth c.args.head.rest.now c.args.members.all.items c.in_ok-all.all.items part.tree c.args.members.depth part.depth c.max-reached.result c.args.members.rest.now part.rest.now b h items c.max-reached.ensures c.next_token.result.1.now c.next_token.result.0 c.next_token.ensures c.begins_specifiers-more.result goes_on

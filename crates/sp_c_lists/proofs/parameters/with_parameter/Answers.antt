@@ -18,4 +18,4 @@ returns c =
     let h = MatchResult-at_ok _ _ _ c.in_ok-part.ensures.0 c.requires.read in
     let items = c.in_ok-all.ensures ∙ ap (λ v. v.items ++ part.tree.tree ∷ []) c.in_ok-part.ensures.1 in
     let end = c.list_end-end.result in
-    one_listed g c.args.depth c.args.tokens.now was.given _ part.tree.tree part.tree.behind was.depth part.depth c.max-depth.result was.rest.now part.rest.now end.rest.now end.more c.requires.before h items c.max-depth.ensures c.list_end-end.ensures
+    one_listed g c.args.depth c.args.tokens.now was.given _ part.tree.tree part.tree.behind was.depth part.depth c.max-reached.result was.rest.now part.rest.now end.rest.now end.more c.requires.before h items c.max-reached.ensures c.list_end-end.ensures

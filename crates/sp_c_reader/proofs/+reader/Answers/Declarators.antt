@@ -11,7 +11,7 @@ use Rattle.sp_c_tokens.specs.Sorts.{terminal, sort_of, c_tokens}
 use Rattle.sp_c_tokens.specs.Ended.{IsEnded}
 use Rattle.std.specs.Prelude.{not, ◌&&◌, ◌||◌}
 use Rattle.sp_c_tokens.specs.Scopes.{there}
-use Rattle.sp_c_steps.specs.Reading.{IsStop, IsStep}
+use Rattle.sp_c_steps.specs.Reading.{IsStop, IsStep, first_sort}
 use Rattle.sp_c_steps.proofs.Steps.{got, last, joined, before_at}
 use Rattle.sp_c_steps.proofs.Parts.{stop_before, stop_part, IsOn}
 use Rattle.sp_c_steps.proofs.Marks.{opening_is, star_is}
@@ -22,7 +22,6 @@ use Rattle.sp_c_tokens.specs.Makers.{settle, first_place, make_absent}
 use Rattle.sp_c_steps.proofs.DeclaratorParts.{parts_read, part_deep, settled_deep, declared_deep, array_plan, array_deep, array_settled, array_step, array_stop}
 use Rattle.sp_c_steps.proofs.GroupSteps.{inner_deep, open_stop, open_suffixes, none_named, absent_seen, absent_tree, named_seen, named_settled, named_deep, named_ended, pending_of, group_deeper, group_star_on, group_open_on, group_named_on, group_array_on, group_refused}
 use Rattle.sp_c_reader.proofs.+reader.Goals as goal
-use Rattle.sp_c_closings.specs.Closing.{first_sort}
 
 pub declarators::read_type_name-returns-in_err-specifiers : goal.declarators::read_type_name-returns-in_err-specifiers
 declarators::read_type_name-returns-in_err-specifiers t c =

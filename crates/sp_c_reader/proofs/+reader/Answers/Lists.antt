@@ -1,5 +1,6 @@
--- The goals of the readers of lists: arguments, parameters, members, their declarators, and constants.
-use Rattle.std.proofs.Common.{◌≡◌, ℕ, true, false, map, length, refl, sym, ap, subst, arith, rules}
+-- The goals of the readers of lists: of arguments, parameters, members and their declarators, and
+-- constants.
+use Rattle.std.proofs.Common.{◌≡◌, ◌-◌, ℕ, true, false, map, length, refl, sym, ap, subst, arith, rules}
 use Rattle.std.specs.Prelude.{MatchResult, if◌then◌else◌}
 use Rattle.std.proofs.lemmas.Result.{err_from_is_err_and, MatchResult-at_ok, MatchResult-at_err}
 use Rattle.sp_syntax.specs.View.{tree_of, declaration_of}
@@ -8,7 +9,7 @@ use Rattle.sp_grammar.specs.CTable as grammar
 use Rattle.sp_grammar.specs.CTable.{get}
 use Rattle.sp_grammar.specs.Table.{done}
 use Rattle.sp_c_tokens.specs.Scopes.{there}
-use Rattle.sp_c_steps.specs.Reading.{IsStop}
+use Rattle.sp_c_steps.specs.Reading.{Answers, IsStop}
 use Rattle.sp_c_steps.specs.Declaring.{IsGiven, constant_seen}
 use Rattle.sp_c_steps.proofs.Parts.{stop_part}
 use Rattle.sp_c_steps.proofs.DeclaratorSteps.{parameter_on, given_made}
@@ -160,12 +161,16 @@ specifiers::read_members-read_member-next-requires t c =
 
 pub specifiers::read_members-with_member-requires : goal.specifiers::read_members-with_member-requires
 specifiers::read_members-with_member-requires t c =
-    let g = there c.args.context.types.now c.args.context.scope in
+    let types = c.args.context.types.now in
+    let g = there types c.args.context.scope in
     let now = c.members.members in
+    let room = c.args.depth - 1 in
+    let next = c.read_member-next.result in
     record {
       head = c.requires.head;
       before = subst (λ v. HasMembers g (inner c.args.context.scope) c.args.depth c.args.head.rest.now v (map declaration_of now.all.items) now.depth now.rest.now) c.members-test.true c.members.invariant.so_far;
-      read = c.read_member-next.ensures;
+      read = subst (λ s. Answers (there types s) grammar.member room now.rest.now declaration_of next) c.inside_structure-inner.ensures.scope
+          (subst (λ v. Answers (there v c.inside_structure-inner.result.scope) grammar.member room now.rest.now declaration_of next) c.inside_structure-inner.ensures.types c.read_member-next.ensures);
     }
 
 pub specifiers::read_members-returns-in_err-members : goal.specifiers::read_members-returns-in_err-members

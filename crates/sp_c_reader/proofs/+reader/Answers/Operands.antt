@@ -6,11 +6,11 @@ use Rattle.sp_syntax.specs.View.{tree_of}
 use Rattle.sp_grammar.specs.CTokens.{is_mark, is_specifier, view}
 use Rattle.sp_grammar.specs.CTokens as sorts_there
 use Rattle.sp_grammar.specs.CTable as grammar
-use Rattle.sp_grammar.specs.CTable.{get, begins_expression}
+use Rattle.sp_grammar.specs.CTable.{get}
 use Rattle.sp_grammar.specs.Table.{done}
 use Rattle.sp_c_tokens.specs.Sorts.{terminal, sort_of}
 use Rattle.sp_c_tokens.specs.Scopes.{there}
-use Rattle.sp_c_steps.specs.Reading.{is_suffix, is_prefix, Answers}
+use Rattle.sp_c_steps.specs.Reading.{is_suffix, is_prefix, Answers, first_sort}
 use Rattle.sp_c_steps.proofs.Steps.{got, last}
 use Rattle.sp_c_steps.proofs.Parts.{stop_part}
 use Rattle.sp_c_steps.proofs.Marks.{opening_is}
@@ -21,7 +21,6 @@ use Rattle.sp_c_steps.proofs.Parentheses.{primary_on, nested_deep, unary_grouped
 use Rattle.sp_c_steps.proofs.Faulting.{result_before}
 use Rattle.sp_c_reader.proofs.+reader.Goals as goal
 use Rattle.sp_c_tokens.specs.Ended.{IsEnded}
-use Rattle.sp_c_closings.specs.Closing.{first_sort}
 use Rattle.sp_c_closings.proofs.Firsts.{opened}
 
 pub expressions::read_suffixes-returns-then-part-depth : goal.expressions::read_suffixes-returns-then-part-depth

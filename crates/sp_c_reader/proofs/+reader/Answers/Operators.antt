@@ -10,7 +10,7 @@ use Rattle.sp_grammar.specs.Table.{done}
 use Rattle.sp_c_tokens.specs.Sorts.{terminal, sort_of, c_tokens}
 use Rattle.sp_c_tokens.specs.SyntaxTrees.{syntax_trees}
 use Rattle.sp_c_tokens.specs.Scopes.{there}
-use Rattle.sp_c_steps.specs.Reading.{IsStep, joined_tree, operand_seen, Answers, IsStop}
+use Rattle.sp_c_steps.specs.Reading.{IsStep, joined_tree, operand_seen, Answers, IsStop, first_sort}
 use Rattle.sp_c_steps.proofs.Steps.{begun, got, last}
 use Rattle.sp_c_steps.proofs.Parts.{stop_part}
 use Rattle.sp_c_steps.proofs.Marks.{opening_is}
@@ -20,7 +20,6 @@ use Rattle.sp_c_steps.proofs.Operators.{after_ends, after_deep, after_on, joined
 use Rattle.sp_c_steps.proofs.Parentheses.{grouped_result}
 use Rattle.sp_c_reader.proofs.+reader.Goals as goal
 use Rattle.sp_c_tokens.specs.Ended.{IsEnded}
-use Rattle.sp_c_closings.specs.Closing.{first_sort}
 use Rattle.sp_c_closings.proofs.Firsts.{opened}
 
 pub expressions::read_level-returns-in_err-part : goal.expressions::read_level-returns-in_err-part

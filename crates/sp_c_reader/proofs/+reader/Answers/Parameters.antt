@@ -9,7 +9,7 @@ use Rattle.sp_c_steps.proofs.Marks.{bracket_is}
 use Rattle.sp_c_steps.proofs.DeclaratorSteps.{no_length}
 use Rattle.sp_c_steps.proofs.DeclaratorParts.{array_result, begins_opening}
 use Rattle.sp_c_reader.proofs.+reader.Goals as goal
-use Rattle.sp_c_closings.specs.Closing.{first_sort}
+use Rattle.sp_c_steps.specs.Reading.{first_sort}
 
 pub declarators::read_length-returns-then-not-begins_expression : goal.declarators::read_length-returns-then-not-begins_expression
 declarators::read_length-returns-then-not-begins_expression t c =

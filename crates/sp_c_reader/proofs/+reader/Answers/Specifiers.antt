@@ -1,7 +1,7 @@
 -- The goals of the readers of specifiers, structures and members.
 use Rattle.std.proofs.Common.{◌≡◌, ◌==◌, ◌≤◌, ◌∷◌, ◌++◌, [], length, refl, sym, ap, ◌∙◌, subst, arith}
 use Rattle.std.proofs.lemmas.Result.{err_from_is_err_and, MatchResult-at_ok, MatchResult-at_err}
-use Rattle.sp_grammar.specs.CTokens.{is_mark, is_name, view, add}
+use Rattle.sp_grammar.specs.CTokens.{is_mark, view, add}
 use Rattle.sp_grammar.specs.CTokens as sorts_there
 use Rattle.sp_c_tokens.specs.Sorts.{sort_of}
 use Rattle.sp_c_tokens.specs.Scopes.{there}

@@ -1,11 +1,11 @@
 use Rattle.std.proofs.Common.{refl, sym, ap, ◌∙◌, arith}
 use Rattle.sp_grammar.specs.CTokens as sorts_there
-use Rattle.sp_grammar.specs.CTokens.{view}
+use Rattle.sp_grammar.specs.CTokens.{is_mark, view}
 use Rattle.sp_grammar.specs.CTable as grammar
 use Rattle.sp_c_tokens.specs.Sorts.{terminal, sort_of, c_tokens}
 use Rattle.sp_c_tokens.specs.Scopes.{there}
 use Rattle.sp_c_tokens.specs.declared.scope.AlsoAllowed.TheVariants as purposes
-use Rattle.sp_c_steps.specs.Reading.{begins_with, is_operand}
+use Rattle.sp_c_steps.specs.Reading.{first_sort, is_operand}
 use Rattle.sp_c_steps.proofs.Steps.{begun}
 use Rattle.sp_c_steps.proofs.ExpressionSteps.{first_deep}
 use Rattle.sp_c_steps.proofs.Faulting.{stop_unread, primary_none, operand_begins, leaf_result}
@@ -18,7 +18,7 @@ returns-then-not-is_operand c =
     let x = c.next_token.result.0 in
     let s = view types (sort_of x.kind) in
     let other = sym (c.is_operand.ensures ∙ ap (λ v. is_operand v) c.sort_at.ensures) ∙ c.if-not-is_operand.true in
-    let closed = sym (ap (λ v. begins_with sorts_there.opening types v) c.next_token.ensures) ∙ c.requires.no_group in
+    let closed = sym (ap (λ v. is_mark sorts_there.opening (first_sort types v)) c.next_token.ensures) ∙ c.requires.no_group in
     stop_unread types c.args.context.scope purposes.Name grammar.primary grammar.primary (λ a. a) c.args.depth c.args.tokens.now c.args.tokens.now c.next_token.result.1.now x (begun (grammar.at g grammar.primary) (c_tokens c.args.tokens.now)) c.next_token.ensures (primary_none g (terminal x) s other closed) (λ y. refl) c.requires.ended c.fault.result c.fault.ensures
 
 pub returns-then-depth-lt1 : goal.returns-then-depth-lt1

@@ -1,4 +1,4 @@
-use Rattle.std.proofs.Common.{◌≡◌, ◌≤◌, true, sym, ap, ◌∙◌, arith}
+use Rattle.std.proofs.Common.{true, sym, ap, ◌∙◌, arith}
 use Rattle.sp_syntax.specs.View.{specifiers_of}
 use Rattle.sp_syntax.specs.Depth.{specifiers_depth}
 use Rattle.sp_grammar.specs.CTable as grammar

@@ -1,6 +1,5 @@
-use Rattle.std.proofs.Common.{◌≡◌, ◌∷◌, ◌++◌, refl, sym, ap, ◌∙◌, subst, take, drop, arith}
+use Rattle.std.proofs.Common.{◌++◌, refl, sym, ap, ◌∙◌, subst, take, drop, arith}
 use Rattle.sp_tree.specs.declared.fault.FaultKind.TheVariants.{U4, U6, U7}
-use Rattle.sp_c_tokens.specs.Faults.{fault_there, sort_there}
 use Rattle.sp_c_steps.specs.Reading.{kind_at}
 use Rattle.sp_expr_parser.specs.Parsing.{language_of, Failing}
 use Rattle.sp_expr_parser.specs.Calling.{IsTold, IsUnanswered, IsFront, NoEnd}

@@ -1,4 +1,4 @@
-use Rattle.std.proofs.Common.{◌≤◌, refl, subst, drop, arith}
+use Rattle.std.proofs.Common.{◌≤◌, refl, subst, arith}
 use Rattle.sp_grammar.specs.CTable as grammar
 use Rattle.sp_syntax.specs.View.{tree_of}
 use Rattle.sp_syntax.specs.Depth.{depth}

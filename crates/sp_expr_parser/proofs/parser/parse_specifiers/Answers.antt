@@ -1,4 +1,4 @@
-use Rattle.std.proofs.Common.{length, ap, ◌∙◌, subst, drop, arith, length-drop}
+use Rattle.std.proofs.Common.{length, ap, ◌∙◌, subst, arith, length-drop}
 use Rattle.sp_grammar.specs.CTable as grammar
 use Rattle.sp_syntax.specs.View.{specifiers_of}
 use Rattle.sp_c_grammar.specs.Answers.{specifier_lists, specifiers_ask}

@@ -1,4 +1,4 @@
-use Rattle.std.proofs.Common.{◌≡◌, ◌≤◌, ap, ◌∙◌, subst, drop, arith}
+use Rattle.std.proofs.Common.{◌≡◌, ◌≤◌, ap, ◌∙◌, subst, arith}
 use Rattle.sp_grammar.specs.CTable as grammar
 use Rattle.sp_syntax.specs.View.{type_name_of}
 use Rattle.sp_syntax.specs.Depth.{type_name_depth}
