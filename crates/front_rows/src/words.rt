@@ -6,7 +6,7 @@ use sp_tree::{FaultKind, Keyword, Kind, Names, Punct, Token};
 use std::alloc::{AllocError, Global};
 
 /// Some of the kinds of faults: those that a row may ask for.
-const FAULTS: [FaultKind; 12] = [
+const FAULTS: [FaultKind; 13] = [
     FaultKind::F1,
     FaultKind::F2,
     FaultKind::F6,
@@ -18,6 +18,7 @@ const FAULTS: [FaultKind; 12] = [
     FaultKind::M1,
     FaultKind::M7,
     FaultKind::M8 { cells: 1_048_577 },
+    FaultKind::M10,
     FaultKind::Unbuilt,
 ];
 

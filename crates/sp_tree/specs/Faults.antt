@@ -2,7 +2,7 @@
 use Rattle.std.specs.Prelude.{List, ℕ, ◌++◌, codes}
 use Rattle.std.specs.Fmt.{decimal}
 use Rattle.sp_tree.specs.declared.fault.FaultKind.{FaultKind}
-use Rattle.sp_tree.specs.declared.fault.FaultKind.TheVariants.{F1, F2, F3, F4, F5, F6, F7, F8, F9, F10, F11, F12, F13, F14, F15, F16, F17, F18, F19, F20, F21, F22, F23, F24, F25, U1, U2, U3, U4, U5, U6, U7, U8, U9, U10, U11, M1, M2, M3, M4, M5, M6, M7, M8, M9, Unbuilt}
+use Rattle.sp_tree.specs.declared.fault.FaultKind.TheVariants.{F1, F2, F3, F4, F5, F6, F7, F8, F9, F10, F11, F12, F13, F14, F15, F16, F17, F18, F19, F20, F21, F22, F23, F24, F25, U1, U2, U3, U4, U5, U6, U7, U8, U9, U10, U11, M1, M2, M3, M4, M5, M6, M7, M8, M9, M10, Unbuilt}
 
 -- the code
 abbrev pub code_of : FaultKind → List ℕ
@@ -51,6 +51,7 @@ code_of M6 = codes "M6"
 code_of M7 = codes "M7"
 code_of (M8 cells) = codes "M8"
 code_of M9 = codes "M9"
+code_of M10 = codes "M10"
 code_of Unbuilt = codes "N0"
 
 -- the words of the text
@@ -100,6 +101,7 @@ words_of M6 = codes "dependencies past 50000000"
 words_of M7 = codes "text past 16777216 bytes"
 words_of (M8 cells) = codes "dense slots"
 words_of M9 = codes "files past 64"
+words_of M10 = codes "type past 1000 parts"
 words_of Unbuilt = codes "form not built yet"
 
 -- the text: the words, and for M8 the number and a space before them

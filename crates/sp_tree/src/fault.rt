@@ -117,6 +117,8 @@ pub enum FaultKind {
     M8 { cells: u64 },
     /// Too many files.
     M9,
+    /// A type of too many parts.
+    M10,
     /// A form that isn't built yet.
     Unbuilt,
 }
@@ -172,6 +174,7 @@ impl FaultKind {
             FaultKind::M7 => "M7",
             FaultKind::M8 { .. } => "M8",
             FaultKind::M9 => "M9",
+            FaultKind::M10 => "M10",
             FaultKind::Unbuilt => "N0",
         }
     }
@@ -226,6 +229,7 @@ impl FaultKind {
             FaultKind::M7 => "text past 16777216 bytes",
             FaultKind::M8 { .. } => "dense slots",
             FaultKind::M9 => "files past 64",
+            FaultKind::M10 => "type past 1000 parts",
             FaultKind::Unbuilt => "form not built yet",
         }
     }

@@ -1,6 +1,6 @@
 -- What declarators derive from a type (C90 6.5.4).
-use Rattle.std.specs.Prelude.{ℕ, suc, max, nat_le, Bool, not, ◌||◌, List, [], ◌∷◌, Option}
-use Rattle.sp_tree.specs.declared.fault.FaultKind.TheVariants.{F14, M2}
+use Rattle.std.specs.Prelude.{ℕ, suc, ◌+◌, max, nat_le, Bool, not, ◌||◌, List, [], ◌∷◌, Option}
+use Rattle.sp_tree.specs.declared.fault.FaultKind.TheVariants.{F14, M2, M10}
 use Rattle.sp_tree.specs.declared.fault.Place.{Place}
 use Rattle.sp_types.specs.Types.{CType, pointer, array, function, Signature, signature, Parameters, untold, listed, CTypes, no_types, next_type, Struct}
 use Rattle.sp_operands.specs.Answers.{Checked, accepted, and_then, where_met}
@@ -46,10 +46,32 @@ abbrev mutual
   derivations_in_types no_types = 0
   derivations_in_types (next_type t ts) = max (derivations_in t) (derivations_in_types ts)
 
+-- ---- how many parts a type has
+
+-- a type itself, and the parts of each type that it is derived from; a struct is one
+abbrev mutual
+  pub parts_in : CType → ℕ
+  parts_in (pointer t) = suc (parts_in t)
+  parts_in (array t n) = suc (parts_in t)
+  parts_in (function s) = suc (parts_in_signature s)
+  parts_in _ = 1
+
+  pub parts_in_signature : Signature → ℕ
+  parts_in_signature (signature r ps dots) = parts_in r + parts_in_parameters ps
+
+  pub parts_in_parameters : Parameters → ℕ
+  parts_in_parameters untold = 0
+  parts_in_parameters (listed ts) = parts_in_types ts
+
+  pub parts_in_types : CTypes → ℕ
+  parts_in_types no_types = 0
+  parts_in_types (next_type t ts) = parts_in t + parts_in_types ts
+
 -- the type of a whole declarator at this place: at most 200 derivations lie inside one another in it
--- (5.2.4.1 asks for 12)
+-- (5.2.4.1 asks for 12), and it has at most 1000 parts
 abbrev pub made : List Struct → Place → List Derivation → CType → Checked CType
 made ss p ds t =
     and_then (derived ss ds t) (λ u.
-    where_met (nat_le (derivations_in u) 200) M2 p
-    (accepted u))
+    where_met (nat_le (derivations_in u) 200) M2 p (
+    where_met (nat_le (parts_in u) 1000) M10 p
+    (accepted u)))

@@ -1,5 +1,5 @@
 //! What declarators derive from a type (C90 6.5.4).
-ghost use Rattle.std.specs.Prelude.{◌≡◌, suc, IfOk, map};
+ghost use Rattle.std.specs.Prelude.{◌≡◌, ◌+◌, suc, IfOk, map};
 ghost use Rattle.sp_types.specs.View.{type_of, signature_of, types, struct_of};
 ghost use Rattle.sp_operands.specs.Answers.{Answers};
 ghost use Rattle.sp_type_rules.specs.Derivations.{
@@ -8,6 +8,9 @@ ghost use Rattle.sp_type_rules.specs.Derivations.{
   derivations_in,
   derivations_in_signature,
   derivations_in_types,
+  parts_in,
+  parts_in_signature,
+  parts_in_types,
   made,
 };
 ghost use Rattle.sp_type_rules.specs.DerivationView.{derivation_of};
@@ -20,6 +23,10 @@ use std::alloc::{AllocError, Global};
 
 /// How many derivations may lie inside one another in a type: calls of all layers are as deep.
 pub const MAX_DERIVATIONS: u32 = 200;
+
+/// How many parts the type of a declarator may have. Types share what they are derived from, but
+/// whoever walks through one takes as many steps as it has parts.
+pub const MAX_PARTS: u32 = 1000;
 
 /// One step of a declarator.
 #[derive(Drop)]
@@ -122,8 +129,53 @@ fn derivations_in_all(all: &[CType]) -> Result<u32, AllocError>
     Ok(most)
 }
 
-/// The type that the derivations of a whole declarator make of a base: M2 stands at the declarator
-/// where more than 200 lie inside one another, and else what [`derived`] refuses.
+/// Two numbers of parts together.
+fn together(a: u32, b: u32) -> Result<u32, AllocError>
+    ensures { IfOk result (λ n. n ≡ a + b) }
+{
+    a.checked_add(b).ok_or(AllocError)
+}
+
+/// How many parts a type has: itself, and those of each type that it is derived from.
+#[cycle(parts)]
+fn parts_in(of: &CType) -> Result<u32, AllocError>
+    ensures { IfOk result (λ n. n ≡ parts_in (type_of of.now)) }
+{
+    match of {
+        CType::Pointer(to) => one_more(parts_in(to)?),
+        CType::Array(element, _) => one_more(parts_in(element)?),
+        CType::Function(signature) => one_more(parts_in_signature(signature)?),
+        CType::Void | CType::Int(_) | CType::Float(_) | CType::Struct(_) => Ok(1),
+    }
+}
+
+#[cycle(parts)]
+fn parts_in_signature(of: &Signature) -> Result<u32, AllocError>
+    ensures { IfOk result (λ n. n ≡ parts_in_signature (signature_of of.now)) }
+{
+    let result = parts_in(&of.result)?;
+    match &of.params {
+        None => Ok(result),
+        Some(params) => together(result, parts_in_all(params)?),
+    }
+}
+
+#[cycle(parts)]
+fn parts_in_all(all: &[CType]) -> Result<u32, AllocError>
+    ensures { IfOk result (λ n. n ≡ parts_in_types (types (map type_of all.now))) }
+{
+    let mut parts = 0;
+    let mut left = all.len();
+    'types: while left > 0 {
+        left -= 1;
+        parts = together(parts_in(&all[left])?, parts)?;
+    }
+    Ok(parts)
+}
+
+/// The type that the derivations of a whole declarator make of a base, or what [`derived`] refuses.
+/// Behind that, M2 stands at the declarator where more than 200 derivations lie inside one another,
+/// and M10 where the type has more than 1,000 parts.
 pub fn made(
     alloc: Global,
     structs: &[StructType],
@@ -137,6 +189,9 @@ pub fn made(
     let of = derived(alloc, structs, derivations, base)?;
     if derivations_in(&of)? > MAX_DERIVATIONS {
         return fault(FaultKind::M2, place);
+    }
+    if parts_in(&of)? > MAX_PARTS {
+        return fault(FaultKind::M10, place);
     }
     Ok(of)
 }

@@ -7,7 +7,8 @@
 //!
 //! So in `unsigned char *a[3]` the words name `unsigned char`, and the list is an array of 3 and a
 //! pointer: `a` is an array of 3 pointers to it (6.5.4.2). A type in which more than 200
-//! derivations lie inside one another is the fault M2 at its declarator.
+//! derivations lie inside one another is the fault M2 at its declarator, and one of more than 1,000
+//! parts M10.
 //!
 //! The checks of declarations use the calls. Each answers exactly what the definition of its name
 //! in `specs/` gives, or its fault.
@@ -17,6 +18,6 @@ mod derivations;
 mod tags;
 mod words;
 
-pub use derivations::{Derivation, MAX_DERIVATIONS, made};
+pub use derivations::{Derivation, MAX_DERIVATIONS, MAX_PARTS, made};
 pub use tags::{enum_referred, named_checked, struct_at, struct_referred, tag_found};
 pub use words::words_type;

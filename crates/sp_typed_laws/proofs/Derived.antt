@@ -7,7 +7,7 @@ use Rattle.sp_types.specs.View.{types}
 use Rattle.sp_types.specs.Layout.{layout}
 use Rattle.sp_operands.specs.Conversions.{is_array, is_function}
 use Rattle.sp_syntax.specs.Syntax.{Params, no_params, next_param}
-use Rattle.sp_type_rules.specs.Derivations.{Derivation, to_pointer, to_array, to_function, derive, derived, made, derivations_in}
+use Rattle.sp_type_rules.specs.Derivations.{Derivation, to_pointer, to_array, to_function, derive, derived, made, derivations_in, parts_in}
 use Rattle.sp_member_rules.specs.Parameters.{adjusted}
 use Rattle.sp_expr_check.specs.Parameters.{told_types}
 use Rattle.sp_unit_laws.proofs.Lists.{Each, each_behind}
@@ -50,7 +50,8 @@ made_sound : (ss : List Struct) (p : Place) (ds : List Derivation) (t : CType) �
     → IsSound t → Gives IsSound (made ss p ds t)
 made_sound ss p ds t h s =
     gives_then (steps_sound ss ds t h s)
-    (λ u g. gives_met {b = nat_le (derivations_in u) 200} _ _ (λ few. gives g))
+    (λ u g. gives_met {b = nat_le (derivations_in u) 200} _ _ (λ shallow.
+    gives_met {b = nat_le (parts_in u) 1000} _ _ (λ few. gives g)))
 
 -- formed and sound
 abbrev pub IsGoodStep : List Struct → Derivation → Type 0

@@ -8,7 +8,7 @@ use Rattle.sp_types.specs.declared.extents.Extent.{Extent}
 use Rattle.sp_types.specs.Types.{CType, void, integer, floating, pointer, array, structure, function, signature, Struct}
 use Rattle.sp_types.specs.Layout.{extent, layout, repeated}
 use Rattle.sp_operands.specs.Conversions.{is_complete}
-use Rattle.sp_type_rules.specs.Derivations.{Derivation, to_pointer, to_array, to_function, derive, derived, made, derivations_in}
+use Rattle.sp_type_rules.specs.Derivations.{Derivation, to_pointer, to_array, to_function, derive, derived, made, derivations_in, parts_in}
 use Rattle.sp_type_rules.specs.Words.{has_word, words_type}
 use Rattle.sp_unit_laws.proofs.After.{Gives, gives, gives_then, gives_met, gives_given, anything}
 use Rattle.sp_unit_laws.proofs.Stays.{Stays, type_stays}
@@ -67,7 +67,8 @@ pub made_elements : (ss : List Struct) (p : Place) (ds : List Derivation) (t : C
     → KnowsElements ss t → Gives (KnowsElements ss) (made ss p ds t)
 made_elements ss p ds t h =
     gives_then (derived_elements ss ds t h)
-    (λ u g. gives_met {b = nat_le (derivations_in u) 200} _ _ (λ few. gives g))
+    (λ u g. gives_met {b = nat_le (derivations_in u) 200} _ _ (λ shallow.
+    gives_met {b = nat_le (parts_in u) 1000} _ _ (λ few. gives g)))
 
 -- ---- words
 

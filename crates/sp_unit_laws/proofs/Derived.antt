@@ -9,7 +9,7 @@ use Rattle.sp_types.specs.Layout.{layout}
 use Rattle.sp_types.specs.Structs.{IsFormed, AreFormedParameters, AreFormed}
 use Rattle.sp_operands.specs.Conversions.{is_function}
 use Rattle.sp_rules.specs.Lengths.{length_from, length_given}
-use Rattle.sp_type_rules.specs.Derivations.{Derivation, to_pointer, to_array, to_function, derive, derived, made}
+use Rattle.sp_type_rules.specs.Derivations.{Derivation, to_pointer, to_array, to_function, derive, derived, made, derivations_in, parts_in}
 use Rattle.sp_member_rules.specs.Parameters.{adjusted}
 use Rattle.sp_unit_laws.proofs.Lists.{some_is, none_some, Each, each_behind}
 use Rattle.sp_unit_laws.proofs.Longer.{parameters_longer}
@@ -78,7 +78,8 @@ module _ (ss : List Struct) where
   steps_made (d ∷ ds) t h f = gives_then (steps_made ds t (each_behind (IsFormedStep ss) d ds h) f) (λ u g. step_made d u (h zero d refl) g.0)
 
   pub type_made : (p : Place) (ds : List Derivation) (t : CType) → Each (IsFormedStep ss) ds → IsFormed ss t → Gives (Made (ends_in_function ds (is_function t))) (made ss p ds t)
-  type_made p ds t h f = gives_then (steps_made ds t h f) (λ u g. gives_met _ _ (λ few. gives g))
+  type_made p ds t h f = gives_then (steps_made ds t h f) (λ u g. gives_met {b = nat_le (derivations_in u) 200} _ _ (λ shallow.
+      gives_met {b = nat_le (parts_in u) 1000} _ _ (λ few. gives g)))
 
   -- ---- parameters
 
