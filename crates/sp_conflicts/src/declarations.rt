@@ -53,18 +53,14 @@ fn object_declared(alloc: Global, unit: u32, object: &ObjectDef) -> Result<Decla
 }
 
 /// A function of a unit.
-fn function_declared(
-    alloc: Global,
-    unit: u32,
-    function: &FunctionDef,
-) -> Result<Declaration, AllocError>
+fn function_declared(unit: u32, function: &FunctionDef) -> Result<Declaration, AllocError>
     ensures { IfOk result (λ d. declaration_of d ≡
         rules.function_declared unit (function_of function.now)) }
 {
     Ok(Declaration {
         unit,
         name: function.name,
-        of: CType::function(alloc, function.of.copy(alloc)?)?,
+        of: CType::Function(function.of.clone()?),
         defines: defines_function(function),
         place: function.place,
     })
@@ -118,7 +114,7 @@ fn add_functions(
 {
     'functions: for function in functions {
         if is_external(function.linkage) {
-            all.push(function_declared(alloc, unit, function)?)?;
+            all.push(function_declared(unit, function)?)?;
         }
     }
     Ok(())

@@ -49,7 +49,7 @@ fn defined(
     let place = own.place;
     Ok(FunctionDef {
         name: old.name,
-        of: old.of.copy(alloc)?,
+        of: old.of.clone()?,
         linkage: old.linkage,
         formals: own.formals,
         locals: locals_of(alloc, &body)?,

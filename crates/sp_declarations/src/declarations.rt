@@ -1,12 +1,11 @@
 //! Declarations (C90 6.5).
-ghost use Rattle.std.specs.Prelude.{◌≡◌, IfOk, [], map, option_map};
+ghost use Rattle.std.specs.Prelude.{◌≡◌, [], map};
 ghost use Rattle.sp_syntax.specs.Syntax.{init_declarator};
 ghost use Rattle.sp_syntax.specs.View.{declarator_of, declaration_of, init_declarators};
-ghost use Rattle.sp_types.specs.View.{type_of, signature_of};
+ghost use Rattle.sp_types.specs.View.{type_of};
 ghost use Rattle.sp_operands.specs.Answers.{AnswersIn};
 ghost use Rattle.sp_env.specs.Declaring.{LeadsTo};
 ghost use Rattle.sp_env.specs.Views.{env_of};
-ghost use Rattle.sp_rules.specs.Rules.{function_type};
 ghost use Rattle.sp_expr_check.specs.SyntaxView.{init_declarator_of};
 ghost use Rattle.sp_declarations.specs.ItemView.{start_of};
 ghost use Rattle.sp_declarations.specs.Declarations.{
@@ -30,12 +29,12 @@ use sp_expr_check::{check_declarator, check_specifiers};
 use sp_member_rules::declared_name;
 use sp_names::{extern_linkage, function_declared};
 use sp_operands::{CheckError, fault};
+use sp_rules::function_type;
 use sp_scopes::Meaning;
 use sp_syntax::{Declaration, Declarator, Init, InitDeclarator};
 use sp_tree::{FaultKind, Keyword, Names, Place};
-use sp_types::{CType, Linkage, Signature};
-use std::alloc::{AllocError, Global};
-use std::rc::Rc;
+use sp_types::{CType, Linkage};
+use std::alloc::Global;
 
 /// The linkage that a declaration gives the name of a function here (C90 6.1.2.2).
 fn function_linkage(env: &Env, name: u32, class: Option<Keyword>) -> Linkage
@@ -55,19 +54,6 @@ fn may_declare(env: &Env, class: Option<Keyword>) -> bool
         None | Some(Keyword::Extern) => true,
         Some(Keyword::Static) => env.is_file_scope(),
         Some(_) => false,
-    }
-}
-
-/// The type of a function, where the type is one.
-fn function_type(alloc: Global, of: CType) -> Result<Option<Signature>, AllocError>
-    ensures { IfOk result (λ s. option_map signature_of s ≡ function_type (type_of of)) }
-{
-    match of {
-        CType::Function(signature) => match Rc::try_unwrap(signature) {
-            Ok(signature) => Ok(Some(signature)),
-            Err(shared) => Ok(Some(shared.copy(alloc)?)),
-        },
-        _ => Ok(None),
     }
 }
 
@@ -93,7 +79,7 @@ fn function_told(
     if valued {
         return fault(FaultKind::F14, declarator);
     }
-    let Some(of) = function_type(alloc, of)? else {
+    let Some(of) = function_type(of) else {
         return fault(FaultKind::F14, declarator);
     };
     let linkage = function_linkage(env, name, class);

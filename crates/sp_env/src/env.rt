@@ -14,7 +14,7 @@ ghost use Rattle.std.specs.Prelude.{
 };
 ghost use Rattle.std.specs.Option.{option_copied};
 ghost use Rattle.sp_types.specs.Programs.{object_of, function_of};
-ghost use Rattle.sp_types.specs.View.{type_of, signature_of, struct_of};
+ghost use Rattle.sp_types.specs.View.{type_of, shared_signature_of, struct_of};
 ghost use Rattle.sp_scopes.specs.Meanings.{meaning_of};
 ghost use Rattle.sp_scopes.specs.Scopes.{entry, visible_meaning, visible_tag, is_file_scope};
 ghost use Rattle.sp_scopes.specs.Views.{scope_of};
@@ -59,6 +59,7 @@ use sp_tree::{FaultKind, Place};
 use sp_types::{CType, FunctionDef, Linkage, ObjectDef, Signature, StructType};
 use sp_units::Typing;
 use std::alloc::{AllocError, Global};
+use std::rc::Rc;
 
 /// What a name with linkage stands for in the whole unit (C90 6.1.2.2).
 #[derive(Clone, Copy, Debug, PartialEq, Eq)]
@@ -99,9 +100,9 @@ fn set_item<T: Drop>(items: &mut Vec<T>, number: u32, to: T)
 }
 
 /// Gives the function of a number another type.
-fn set_type(functions: &mut Vec<FunctionDef>, number: u32, of: Signature)
+fn set_type(functions: &mut Vec<FunctionDef>, number: u32, of: Rc<Signature>)
     ensures { map function_of functions.new.items ≡
-        changed (typed_by (signature_of of)) (map function_of functions.old.items) number }
+        changed (typed_by (shared_signature_of of)) (map function_of functions.old.items) number }
 {
     if let Some(function) = functions.get_mut(number as usize) {
         function.of = of;
@@ -306,8 +307,8 @@ impl Env {
     }
 
     /// The type of a function of the tables.
-    pub fn function_type(&self, number: u32) -> Option<&Signature>
-        ensures { option_map signature_of (option_copied result) ≡
+    pub fn function_type(&self, number: u32) -> Option<&Rc<Signature>>
+        ensures { option_map shared_signature_of (option_copied result) ≡
             function_type (slice_get (env_of self.now).tables.functions number) }
     {
         match self.tables.functions.get(number as usize) {
@@ -392,9 +393,9 @@ impl Env {
     }
 
     /// Gives a function of the tables another type.
-    pub fn set_function_type(&mut self, number: u32, of: Signature)
+    pub fn set_function_type(&mut self, number: u32, of: Rc<Signature>)
         ensures { env_of self.new ≡
-            with_function_type (env_of self.old) number (signature_of of) }
+            with_function_type (env_of self.old) number (shared_signature_of of) }
     {
         set_type(&mut self.tables.functions, number, of);
     }

@@ -1,6 +1,6 @@
 -- What the code's formals stand for.
 use Rattle.std.specs.Prelude.{map}
-use Rattle.sp_types.specs.View.{type_of, signature_of}
+use Rattle.sp_types.specs.View.{type_of, shared_signature_of}
 use Rattle.sp_scopes.specs.declared.scope.Scope.{Scope as CodeScope}
 use Rattle.sp_scopes.specs.Scopes.{Scope}
 use Rattle.sp_scopes.specs.Views.{scope_of}
@@ -17,7 +17,7 @@ abbrev pub steps_of : CodeSteps → Steps
 steps_of x = record { steps = map derivation_of x.steps.items; formals = x.formals.items; scope = scope_of x.scope }
 
 abbrev pub own_of : CodeOwn → Own
-own_of x = record { name = x.name; place = x.place; of = signature_of x.of; formals = x.formals.items }
+own_of x = record { name = x.name; place = x.place; of = shared_signature_of x.of; formals = x.formals.items }
 
 abbrev pub own_in_scope : CodeOwn × CodeScope → Own × Scope
 own_in_scope x = (own_of x.0, scope_of x.1)

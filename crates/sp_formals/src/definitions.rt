@@ -1,10 +1,9 @@
 //! The declarator of a definition as a whole (C90 6.7.1).
-ghost use Rattle.std.specs.Prelude.{◌≡◌, IfOk, map, option_map};
+ghost use Rattle.std.specs.Prelude.{◌≡◌, map};
 ghost use Rattle.sp_syntax.specs.View.{declarator_of};
-ghost use Rattle.sp_types.specs.View.{type_of, signature_of, struct_of};
+ghost use Rattle.sp_types.specs.View.{type_of, struct_of};
 ghost use Rattle.sp_operands.specs.Answers.{Answers, AnswersIn};
 ghost use Rattle.sp_env.specs.Views.{env_of};
-ghost use Rattle.sp_rules.specs.Rules.{function_type};
 ghost use Rattle.sp_formals.specs.FormalsView.{own_of, own_in_scope};
 ghost use Rattle.sp_formals.specs.Formals.{is_floating_array, own_told, own_declared};
 
@@ -12,12 +11,13 @@ use crate::steps::own_steps;
 use sp_env::Env;
 use sp_member_rules::declared_name;
 use sp_operands::{CheckError, fault, is_complete, is_void};
+use sp_rules::function_type;
 use sp_scopes::Scope;
 use sp_syntax::Declarator;
 use sp_tree::{FaultKind, Names, Place};
 use sp_type_rules::made;
 use sp_types::{CType, Signature, StructType};
-use std::alloc::{AllocError, Global};
+use std::alloc::Global;
 use std::rc::Rc;
 
 /// What the declarator of a definition declares: its name, with its place, the type of the
@@ -26,20 +26,8 @@ use std::rc::Rc;
 pub struct Own {
     pub name: u32,
     pub place: Place,
-    pub of: Signature,
+    pub of: Rc<Signature>,
     pub formals: Vec<u32>,
-}
-
-fn function_type(alloc: Global, of: CType) -> Result<Option<Signature>, AllocError>
-    ensures { IfOk result (λ s. option_map signature_of s ≡ function_type (type_of of)) }
-{
-    match of {
-        CType::Function(signature) => match Rc::try_unwrap(signature) {
-            Ok(signature) => Ok(Some(signature)),
-            Err(shared) => Ok(Some(shared.copy(alloc)?)),
-        },
-        _ => Ok(None),
-    }
 }
 
 /// Whether a type is a floating one, or an array of such.
@@ -66,7 +54,7 @@ fn own_told(
     ensures { Answers own_of
         (own_told (map struct_of structs.now) at name formals.items (type_of of)) result }
 {
-    let Some(of) = function_type(alloc, of)? else {
+    let Some(of) = function_type(of) else {
         return fault(FaultKind::F14, at);
     };
     if is_floating_array(of.result()) {

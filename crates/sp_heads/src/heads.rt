@@ -74,7 +74,7 @@ fn own_defined(
 {
     let (own, scope) = declared;
     let linkage = function_linkage(env, own.name, class);
-    let of = own.of.copy(alloc)?;
+    let of = own.of.clone()?;
     let number = function_declared(alloc, env, own.name, linkage, of, own.place)?;
     if has_body(env, number) {
         return fault(FaultKind::F9, own.place);

@@ -1,5 +1,6 @@
 //! Entries of a program, and numbers of units.
 use sp_types::{CType, FunctionDef, ObjectDef, Signature};
+use std::rc::Rc;
 
 /// An object of the program: its type there, and the declaration that tells all else, with the
 /// number of its unit, and whether its struct is incomplete in that unit.
@@ -14,7 +15,7 @@ pub struct ObjectEntry<'a> {
 /// A function alike.
 #[derive(Drop)]
 pub struct FunctionEntry<'a> {
-    pub of: Signature,
+    pub of: Rc<Signature>,
     pub source: &'a FunctionDef,
     pub unit: u32,
 }

@@ -13,6 +13,7 @@ use sp_names::composite_signature;
 use sp_renaming::renamed_signature;
 use sp_types::FunctionDef;
 use std::alloc::{AllocError, Global};
+use std::rc::Rc;
 
 /// An entry that one declaration tells, with the composite type of it and another.
 fn told<'a>(
@@ -25,7 +26,7 @@ fn told<'a>(
 {
     let of = composite_signature(alloc, &told.of, &other.of)?;
     Ok(FunctionEntry {
-        of,
+        of: Rc::new(alloc, of)?,
         source: told.source,
         unit: told.unit,
     })

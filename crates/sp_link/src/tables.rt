@@ -94,7 +94,7 @@ fn function_renamed(
     let source = entry.source;
     Ok(FunctionDef {
         name: source.name,
-        of: entry.of.copy(alloc)?,
+        of: entry.of.clone()?,
         linkage: source.linkage,
         formals: renumbered(alloc, &to.objects, &source.formals)?,
         locals: renumbered(alloc, &to.objects, &source.locals)?,

@@ -1,9 +1,9 @@
 //! Expressions without operands.
 ghost use Rattle.std.specs.Prelude.{◌≡◌, IfOk, pos, map, slice_get, ◌+◌, length};
-ghost use Rattle.sp_types.specs.Types.{void};
+ghost use Rattle.sp_types.specs.Types.{void, function};
 ghost use Rattle.sp_types.specs.Typed.{of};
 ghost use Rattle.sp_types.specs.Programs.{object_of, function_of};
-ghost use Rattle.sp_types.specs.View.{type_of};
+ghost use Rattle.sp_types.specs.View.{type_of, shared_signature_of};
 ghost use Rattle.sp_types.specs.TypedView.{typed_of};
 ghost use Rattle.sp_ir.specs.Commands.{number, direct};
 ghost use Rattle.sp_ir.specs.View.{expression_of, lvalue_of};
@@ -19,8 +19,9 @@ ghost use Rattle.sp_draft.specs.View.{context_of};
 
 use sp_draft::{Scope, kind_of, number_behind};
 use sp_ir::{Expr, Lvalue};
-use sp_types::{CType, FunctionDef, ObjectDef, TypedExpr};
+use sp_types::{CType, FunctionDef, ObjectDef, Signature, TypedExpr};
 use std::alloc::{AllocError, Global};
+use std::rc::Rc;
 
 /// A constant of this value.
 pub fn constant(e: &TypedExpr, value: i128) -> Expr
@@ -61,16 +62,19 @@ pub fn object_at(scope: &Scope<'_>, number: u32) -> Result<Lvalue, AllocError>
     Ok(Lvalue::direct(number, type_of_object(scope.alloc, scope.objects, number)?))
 }
 
-fn type_of_function(
-    alloc: Global,
-    functions: &[FunctionDef],
-    number: u32,
-) -> Result<CType, AllocError>
+/// A function of this type, which is shared.
+fn shared(of: &Rc<Signature>) -> Result<CType, AllocError>
+    ensures { IfOk result (λ t. type_of t ≡ function (shared_signature_of of.now)) }
+{
+    Ok(CType::Function(of.clone()?))
+}
+
+fn type_of_function(functions: &[FunctionDef], number: u32) -> Result<CType, AllocError>
     ensures { IfOk result (λ t. type_of t ≡
         type_of_function (slice_get (map function_of functions.now) number)) }
 {
     match functions.get(number as usize) {
-        Some(function) => CType::function(alloc, function.of.copy(alloc)?),
+        Some(function) => shared(&function.of),
         None => Ok(no_type()),
     }
 }
@@ -81,6 +85,6 @@ pub fn function_at(scope: &Scope<'_>, number: u32) -> Result<Lvalue, AllocError>
         direct (function_object (context_of scope.now) number)
         (function_type (context_of scope.now) number)) }
 {
-    let of = type_of_function(scope.alloc, scope.functions, number)?;
+    let of = type_of_function(scope.functions, number)?;
     Ok(Lvalue::direct(number_behind(number, scope.objects.len())?, of))
 }

@@ -3,7 +3,7 @@ ghost use Rattle.std.specs.Prelude.{◌≡◌, IfOk, OnOk, option_map, slice_get
 ghost use Rattle.std.specs.Option.{option_copied};
 ghost use Rattle.sp_types.specs.Compatible.{compatible};
 ghost use Rattle.sp_types.specs.Types.{function};
-ghost use Rattle.sp_types.specs.View.{type_of, signature_of};
+ghost use Rattle.sp_types.specs.View.{type_of, shared_signature_of};
 ghost use Rattle.sp_operands.specs.Answers.{Answers, AnswersIn};
 ghost use Rattle.sp_scopes.specs.Meanings.{meaning_of};
 ghost use Rattle.sp_env.specs.Env.{function_type};
@@ -28,6 +28,7 @@ use sp_scopes::Meaning;
 use sp_tree::{FaultKind, Place};
 use sp_types::{CType, FunctionDef, Linkage, Signature, compatible, same};
 use std::alloc::{AllocError, Global};
+use std::rc::Rc;
 
 /// The linkage that `extern` gives a name, and a function without a storage class: that of the
 /// visible declaration, where it has one, else external (C90 6.1.2.2).
@@ -66,11 +67,11 @@ pub fn function_declared(
     env: &mut Env,
     name: u32,
     linkage: Linkage,
-    of: Signature,
+    of: Rc<Signature>,
     place: Place,
 ) -> Result<u32, CheckError>
     ensures { AnswersIn (λ k. k)
-        (function_declared (env_of env.old) name linkage (signature_of of) place)
+        (function_declared (env_of env.old) name linkage (shared_signature_of of) place)
         (env_of env.new) result }
 {
     match env.linked(name) {
@@ -88,14 +89,14 @@ fn function_added(
     env: &mut Env,
     name: u32,
     linkage: Linkage,
-    of: Signature,
+    of: Rc<Signature>,
     place: Place,
 ) -> Result<u32, CheckError>
     ensures { AnswersIn (λ k. k)
-        (function_added (env_of env.old) name linkage (signature_of of) place)
+        (function_added (env_of env.old) name linkage (shared_signature_of of) place)
         (env_of env.new) result }
 {
-    let typing = CType::function(alloc, of.copy(alloc)?)?;
+    let typing = CType::Function(of.clone()?);
     let number = env.add_function(FunctionDef {
         name,
         of,
@@ -142,12 +143,7 @@ pub fn retype(
 }
 
 /// Whether a further declarator gives a function another type than it had.
-fn is_function_retyped(
-    alloc: Global,
-    env: &Env,
-    number: u32,
-    of: &CType,
-) -> Result<bool, AllocError>
+fn is_function_retyped(env: &Env, number: u32, of: &CType) -> Result<bool, AllocError>
     ensures { IfOk result (λ b. b ≡
         is_retyped
         (as_function (function_type (slice_get (env_of env.now).tables.functions number)))
@@ -156,7 +152,7 @@ fn is_function_retyped(
     match env.function_type(number) {
         None => Ok(is_retyped(None, of)),
         Some(old) => {
-            let old = CType::function(alloc, old.copy(alloc)?)?;
+            let old = CType::Function(old.clone()?);
             Ok(is_retyped(Some(&old), of))
         }
     }
@@ -164,23 +160,22 @@ fn is_function_retyped(
 
 /// Tells the type that a function takes by a further declarator, where it is another one.
 fn retype_function(
-    alloc: Global,
     env: &mut Env,
     name: u32,
     linkage: Linkage,
-    of: &Signature,
+    of: &Rc<Signature>,
     place: Place,
     number: u32,
 ) -> Result<(), AllocError>
-    ensures { let t = function (signature_of of.now) in OnOk result (env_of env.new ≡
+    ensures { let t = function (shared_signature_of of.now) in OnOk result (env_of env.new ≡
         retyped (env_of env.old)
         (is_retyped
         (as_function (function_type (slice_get (env_of env.old).tables.functions number)))
         t)
         linkage name t place) }
 {
-    let of = CType::function(alloc, of.copy(alloc)?)?;
-    let changed = is_function_retyped(alloc, env, number, &of)?;
+    let of = CType::Function(of.clone()?);
+    let changed = is_function_retyped(env, number, &of)?;
     retype(env, changed, linkage, name, of, place)
 }
 
@@ -190,16 +185,16 @@ fn function_joined(
     env: &mut Env,
     name: u32,
     linkage: Linkage,
-    of: &Signature,
+    of: &Rc<Signature>,
     place: Place,
     number: u32,
 ) -> Result<u32, CheckError>
     ensures { AnswersIn (λ k. k)
-        (function_joined (env_of env.old) name linkage (signature_of of.now) place number)
+        (function_joined (env_of env.old) name linkage (shared_signature_of of.now) place number)
         (env_of env.new) result }
 {
     let of = joined_type(alloc, env, linkage, of, place, number)?;
-    retype_function(alloc, env, name, linkage, &of, place, number)?;
+    retype_function(env, name, linkage, &of, place, number)?;
     env.set_function_type(number, of);
     env.declare_in_block(name, Meaning::Function(number), place)?;
     Ok(number)
@@ -210,12 +205,12 @@ fn joined_type(
     alloc: Global,
     env: &Env,
     linkage: Linkage,
-    of: &Signature,
+    of: &Rc<Signature>,
     place: Place,
     number: u32,
-) -> Result<Signature, CheckError>
-    ensures { Answers signature_of
-        (joined_type (env_of env.now) linkage (signature_of of.now) place number) result }
+) -> Result<Rc<Signature>, CheckError>
+    ensures { Answers shared_signature_of
+        (joined_type (env_of env.now) linkage (shared_signature_of of.now) place number) result }
 {
     let Some(old_linkage) = env.function_linkage(number) else {
         return fault(FaultKind::F9, place);
@@ -223,19 +218,21 @@ fn joined_type(
     let Some(old) = env.function_type(number) else {
         return fault(FaultKind::F9, place);
     };
-    let agree = are_compatible(alloc, old, of)?;
+    let agree = are_compatible(old, of)?;
     if !(is_same_linkage(old_linkage, linkage) && agree) {
         return fault(FaultKind::F9, place);
     }
-    Ok(composite_signature(alloc, old, of)?)
+    let joined = composite_signature(alloc, old, of)?;
+    Ok(Rc::new(alloc, joined)?)
 }
 
 /// Whether two functions have compatible types.
-fn are_compatible(alloc: Global, left: &Signature, right: &Signature) -> Result<bool, AllocError>
+fn are_compatible(left: &Rc<Signature>, right: &Rc<Signature>) -> Result<bool, AllocError>
     ensures { IfOk result (λ agree. agree ≡
-        compatible (function (signature_of left.now)) (function (signature_of right.now))) }
+        compatible (function (shared_signature_of left.now))
+        (function (shared_signature_of right.now))) }
 {
-    let left = CType::function(alloc, left.copy(alloc)?)?;
-    let right = CType::function(alloc, right.copy(alloc)?)?;
+    let left = CType::Function(left.clone()?);
+    let right = CType::Function(right.clone()?);
     Ok(compatible(&left, &right))
 }

@@ -16,6 +16,7 @@ use sp_scopes::Meaning;
 use sp_tree::{FaultKind, Names, Place};
 use sp_types::{CType, IntKind, Signature, TypedExpr, TypedForm};
 use std::alloc::Global;
+use std::rc::Rc;
 
 /// The bytes of a name.
 pub(crate) fn bytes_of(names: &Names, name: u32) -> &[u8]
@@ -62,7 +63,7 @@ fn designated(
             let Some(of) = env.function_type(*number) else {
                 return fault(FaultKind::F8, place);
             };
-            let of = CType::function(alloc, of.copy(alloc)?)?;
+            let of = CType::Function(of.clone()?);
             Ok(TypedExpr::boxed(alloc, TypedForm::Function(*number), of, place, place)?)
         }
         Some(Meaning::Constant(value)) => {
@@ -106,11 +107,12 @@ pub fn implicit_name(
         return Ok(());
     }
     let linkage = extern_linkage(env, name);
-    let of = Signature {
+    let signature = Signature {
         result: CType::Int(IntKind::Int),
         params: None,
         variadic: false,
     };
+    let of = Rc::new(alloc, signature)?;
     function_declared(alloc, env, name, linkage, of, place)?;
     Ok(())
 }

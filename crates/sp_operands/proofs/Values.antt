@@ -1,5 +1,6 @@
--- Values that are no arrays, functions or structs.
-use Rattle.std.proofs.Common.{◌≡◌, Bool, true, false, not, List, None, refl, sym, true≢false}
+-- Values that are integers or pointers.
+use Rattle.std.proofs.Common.{◌≡◌, Bool, true, false, not, List, None, refl}
+use Rattle.std.proofs.lemmas.Bool.{false≢true}
 use Rattle.sp_tree.specs.declared.fault.Place.{Place}
 use Rattle.sp_types.specs.Types.{CType, void, integer, floating, pointer, array, structure, function, Struct}
 use Rattle.sp_types.specs.Typed.{Typed, of}
@@ -7,24 +8,24 @@ use Rattle.sp_operands.specs.Answers.{accepted}
 use Rattle.sp_operands.specs.Conversions.{is_scalar, is_lvalue, is_open_struct, decayed_type, decayed, value}
 
 stays : (lvalue : Bool) (t : CType) → is_scalar t ≡ true → decayed_type lvalue t ≡ None
-stays lvalue void h = absurd (true≢false (sym h))
+stays lvalue void h = absurd (false≢true h)
 stays true (integer k) h = refl
 stays false (integer k) h = refl
-stays lvalue (floating k) h = absurd (true≢false (sym h))
+stays lvalue (floating k) h = absurd (false≢true h)
 stays true (pointer t) h = refl
 stays false (pointer t) h = refl
-stays lvalue (array t n) h = absurd (true≢false (sym h))
-stays lvalue (structure k) h = absurd (true≢false (sym h))
-stays lvalue (function s) h = absurd (true≢false (sym h))
+stays lvalue (array t n) h = absurd (false≢true h)
+stays lvalue (structure k) h = absurd (false≢true h)
+stays lvalue (function s) h = absurd (false≢true h)
 
 closed : (ss : List Struct) (t : CType) → is_scalar t ≡ true → not (is_open_struct ss t) ≡ true
-closed ss void h = absurd (true≢false (sym h))
+closed ss void h = absurd (false≢true h)
 closed ss (integer k) h = refl
-closed ss (floating k) h = absurd (true≢false (sym h))
+closed ss (floating k) h = absurd (false≢true h)
 closed ss (pointer t) h = refl
-closed ss (array t n) h = absurd (true≢false (sym h))
-closed ss (structure k) h = absurd (true≢false (sym h))
-closed ss (function s) h = absurd (true≢false (sym h))
+closed ss (array t n) h = absurd (false≢true h)
+closed ss (structure k) h = absurd (false≢true h)
+closed ss (function s) h = absurd (false≢true h)
 
 as_it_stands : (e : Typed) → is_scalar (of e) ≡ true → decayed e ≡ e
 as_it_stands e h = rw (stays (is_lvalue e) (of e) h, decayed) refl

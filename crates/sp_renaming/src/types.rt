@@ -1,10 +1,17 @@
 //! Renamings, and types under them.
 ghost use Rattle.std.specs.Prelude.{◌≡◌, IfOk, map};
-ghost use Rattle.sp_types.specs.View.{type_of, signature_of, types};
-ghost use Rattle.sp_renaming.specs.Renaming.{number_in, renamed_type, renamed_types, renamed_signature};
+ghost use Rattle.sp_types.specs.View.{type_of, signature_of, shared_signature_of, types};
+ghost use Rattle.sp_renaming.specs.Renaming.{
+  number_in,
+  renamed_type,
+  renamed_types,
+  renamed_signature,
+};
+ghost use Rattle.sp_renaming.specs.Keeping.{keeps, keeps_signature, keeps_types};
 
 use sp_types::{CType, Signature};
 use std::alloc::{AllocError, Global};
+use std::rc::Rc;
 
 /// The number in the program of each struct, object and function of a unit, and the type that each
 /// object of the unit has there.
@@ -26,35 +33,70 @@ pub(crate) fn number_in(numbers: &[u32], old: u32) -> u32
     }
 }
 
-/// A type, with its structs renamed.
+/// Whether a type stays as it is: each struct in it keeps its number.
+#[cycle(keeps)]
+fn keeps(of: &CType, structs: &[u32]) -> bool
+    ensures { result ≡ keeps structs.now (type_of of.now) }
+{
+    match of {
+        CType::Pointer(to) => keeps(to, structs),
+        CType::Array(element, _) => keeps(element, structs),
+        CType::Struct(number) => number_in(structs, *number) == *number,
+        CType::Function(of) => keeps_signature(of, structs),
+        CType::Void | CType::Int(_) | CType::Float(_) => true,
+    }
+}
+
+#[cycle(keeps)]
+fn keeps_signature(of: &Signature, structs: &[u32]) -> bool
+    ensures { result ≡ keeps_signature structs.now (signature_of of.now) }
+{
+    if !keeps(&of.result, structs) {
+        return false;
+    }
+    match &of.params {
+        None => true,
+        Some(params) => keeps_all(params, structs),
+    }
+}
+
+#[cycle(keeps)]
+fn keeps_all(these: &[CType], structs: &[u32]) -> bool
+    ensures { result ≡ keeps_types structs.now (types (map type_of these.now)) }
+{
+    let mut kept = true;
+    let mut left = these.len();
+    'these: while left > 0 {
+        left -= 1;
+        kept = keeps(&these[left], structs) && kept;
+    }
+    kept
+}
+
+/// A type, with its structs renamed, made anew.
 #[cycle(types)]
-pub fn renamed_type(alloc: Global, of: &CType, structs: &[u32]) -> Result<CType, AllocError>
+fn type_anew(alloc: Global, of: &CType, structs: &[u32]) -> Result<CType, AllocError>
     ensures { IfOk result (λ t. type_of t ≡ renamed_type structs.now (type_of of.now)) }
 {
     match of {
         CType::Void => Ok(CType::Void),
         CType::Int(kind) => Ok(CType::Int(*kind)),
         CType::Float(kind) => Ok(CType::Float(*kind)),
-        CType::Pointer(to) => CType::pointer(alloc, renamed_type(alloc, to, structs)?),
+        CType::Pointer(to) => CType::pointer(alloc, type_anew(alloc, to, structs)?),
         CType::Array(element, length) => {
-            CType::array(alloc, renamed_type(alloc, element, structs)?, *length)
+            CType::array(alloc, type_anew(alloc, element, structs)?, *length)
         }
         CType::Struct(number) => Ok(CType::Struct(number_in(structs, *number))),
-        CType::Function(of) => CType::function(alloc, renamed_signature(alloc, of, structs)?),
+        CType::Function(of) => CType::function(alloc, signature_anew(alloc, of, structs)?),
     }
 }
 
-/// The type of a function, with its structs renamed.
 #[cycle(types)]
-pub fn renamed_signature(
-    alloc: Global,
-    of: &Signature,
-    structs: &[u32],
-) -> Result<Signature, AllocError>
+fn signature_anew(alloc: Global, of: &Signature, structs: &[u32]) -> Result<Signature, AllocError>
     ensures { IfOk result (λ s. signature_of s ≡
         renamed_signature structs.now (signature_of of.now)) }
 {
-    let result = renamed_type(alloc, &of.result, structs)?;
+    let result = type_anew(alloc, &of.result, structs)?;
     match &of.params {
         None => Ok(Signature {
             result,
@@ -63,20 +105,47 @@ pub fn renamed_signature(
         }),
         Some(params) => Ok(Signature {
             result,
-            params: Some(renamed_all(alloc, params, structs)?),
+            params: Some(all_anew(alloc, params, structs)?),
             variadic: of.variadic,
         }),
     }
 }
 
 #[cycle(types)]
-fn renamed_all(alloc: Global, these: &[CType], structs: &[u32]) -> Result<Vec<CType>, AllocError>
+fn all_anew(alloc: Global, these: &[CType], structs: &[u32]) -> Result<Vec<CType>, AllocError>
     ensures { IfOk result (λ all. types (map type_of all.items) ≡
         renamed_types structs.now (types (map type_of these.now))) }
 {
     let mut all = Vec::with_capacity(alloc, these.len())?;
     'these: for (i, t) in these.iter().enumerate() {
-        all.push(renamed_type(alloc, t, structs)?)?;
+        all.push(type_anew(alloc, t, structs)?)?;
     }
     Ok(all)
+}
+
+/// A type, with its structs renamed. It is shared where each struct keeps its number.
+#[tactic(auto, using(crate::proofs::Keeping::keeping))]
+pub fn renamed_type(alloc: Global, of: &CType, structs: &[u32]) -> Result<CType, AllocError>
+    ensures { IfOk result (λ t. type_of t ≡ renamed_type structs.now (type_of of.now)) }
+{
+    if keeps(of, structs) {
+        return of.copy(alloc);
+    }
+    type_anew(alloc, of, structs)
+}
+
+/// The type of a function, with its structs renamed. It is shared where each struct keeps its number.
+#[tactic(auto, using(crate::proofs::Keeping::keeping))]
+pub fn renamed_signature(
+    alloc: Global,
+    of: &Rc<Signature>,
+    structs: &[u32],
+) -> Result<Rc<Signature>, AllocError>
+    ensures { IfOk result (λ s. shared_signature_of s ≡
+        renamed_signature structs.now (shared_signature_of of.now)) }
+{
+    if keeps_signature(of, structs) {
+        return of.clone();
+    }
+    Ok(Rc::new(alloc, signature_anew(alloc, of, structs)?)?)
 }

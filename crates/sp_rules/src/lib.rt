@@ -8,7 +8,7 @@
 //! that, unless memory runs out.
 //!
 //! The definitions of all forms are here. The calls are those of casts, operators between operands,
-//! assignments and arrays; `sp_unary_rules` has the others.
+//! assignments and arrays, and what a type says of a function; `sp_unary_rules` has the others.
 //!
 //! So `binary` on `p` and `1`, where `p` points to `int`, takes the balance of `+`: the pointer
 //! stays, the integer stays, and the whole is a pointer to `int` (6.3.6). On a pointer to `void` it
@@ -17,6 +17,8 @@
 
 mod lengths;
 mod rules;
+mod signatures;
 
 pub use lengths::{length_given, made_array};
 pub use rules::{assign, binary, cast_to, choice, is_modifiable, not_floating};
+pub use signatures::function_type;

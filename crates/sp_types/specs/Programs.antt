@@ -4,7 +4,7 @@ use Rattle.sp_tree.specs.declared.fault.Place.{Place}
 use Rattle.sp_types.specs.Types.{CType, Signature, Struct}
 use Rattle.sp_types.specs.Typed.{Typed}
 use Rattle.sp_types.specs.Statements.{TypedStatement}
-use Rattle.sp_types.specs.View.{type_of, signature_of, struct_of}
+use Rattle.sp_types.specs.View.{type_of, shared_signature_of, struct_of}
 use Rattle.sp_types.specs.TypedView.{typed_of, statement_of}
 use Rattle.sp_types.specs.declared.program.Storage.{Storage}
 use Rattle.sp_types.specs.declared.program.Linkage.{Linkage}
@@ -44,7 +44,7 @@ abbrev pub object_of : ObjectDef → Object
 object_of o = record { name = o.name; of = type_of o.of; storage = o.storage; linkage = o.linkage; start = map (λ s. (s.0, typed_of s.1)) o.start.items; place = o.place }
 
 abbrev pub function_of : FunctionDef → Function
-function_of f = record { name = f.name; of = signature_of f.of; linkage = f.linkage; formals = f.formals.items; locals = f.locals.items; body = option_map statement_of f.body; place = f.place; end = f.end }
+function_of f = record { name = f.name; of = shared_signature_of f.of; linkage = f.linkage; formals = f.formals.items; locals = f.locals.items; body = option_map statement_of f.body; place = f.place; end = f.end }
 
 abbrev pub program_of : CodeProgram → Program
 program_of p = record { structs = map struct_of p.structs.items; objects = map object_of p.objects.items; functions = map function_of p.functions.items; definitions = p.definitions.items; constants = p.constants.items; main = p.main }

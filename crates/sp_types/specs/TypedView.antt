@@ -46,6 +46,7 @@ typed_of = fold-TypedExpr TypedForm Typed form_step typed_step
 abbrev pub typed_form_of : CodeForm → TypedForm
 typed_form_of = fold-TypedForm TypedForm Typed form_step typed_step
 
+-- the tree that a box holds
 abbrev pub boxed_of : Box TypedExpr Global → Typed
 boxed_of e = typed_of e.value
 

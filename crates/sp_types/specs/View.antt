@@ -34,6 +34,7 @@ type_of = fold-CType CType Signature type_step signature_step
 abbrev pub signature_of : CodeSignature → Signature
 signature_of = fold-Signature CType Signature type_step signature_step
 
+-- the signature that is shared
 abbrev pub shared_signature_of : Rc CodeSignature Global → Signature
 shared_signature_of s = signature_of s.value
 

@@ -4,8 +4,8 @@ ghost use Rattle.sp_types.specs.Arithmetic.{promoted_kind, common_kind};
 
 use std::rc::Rc;
 
-/// A type. An enumeration is `Int(Int)`, since C90 6.5.2.2 lets each be compatible with `int`. Copies share what they derive
-/// from, so none is made anew.
+/// A type. An enumeration is `Int(Int)`, since C90 6.5.2.2 lets each be compatible with `int`. A
+/// copy shares what the type is derived from, which no call changes.
 #[derive(Drop)]
 #[cycle(ctype)]
 pub enum CType {

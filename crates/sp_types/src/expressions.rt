@@ -58,7 +58,8 @@ impl TypedExpr {
         place: Place,
         mark: Place,
     ) -> Result<Box<TypedExpr>, AllocError>
-        ensures { IfOk result (λ e. boxed_of e ≡ typed (typed_form_of form) (type_of of) place mark) }
+        ensures { IfOk result (λ e. boxed_of e ≡
+            typed (typed_form_of form) (type_of of) place mark) }
     {
         Ok(Box::new(alloc, TypedExpr::leaf(form, of, place, mark))?)
     }

@@ -1,6 +1,7 @@
 //! Objects, functions and programs.
 use crate::{CType, Signature, StructType, TypedExpr, TypedStatement};
 use sp_tree::Place;
+use std::rc::Rc;
 
 /// How an object is stored (C90 6.1.2.4).
 #[derive(Clone, Copy, Debug, PartialEq, Eq)]
@@ -48,7 +49,8 @@ pub struct ObjectDef {
 pub struct FunctionDef {
     /// The number of its name.
     pub name: u32,
-    pub of: Signature,
+    /// Its type, which expressions that name it share.
+    pub of: Rc<Signature>,
     pub linkage: Linkage,
     /// The objects of its parameters, in their order.
     pub formals: Vec<u32>,

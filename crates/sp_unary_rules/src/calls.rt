@@ -26,21 +26,21 @@ use std::alloc::{AllocError, Global};
 use std::rc::Rc;
 
 /// What a pointer to a function says of it (C90 6.3.2.2).
-fn callee_type(of: &CType) -> Result<Option<Rc<Signature>>, AllocError>
-    ensures { IfOk result (λ s. option_map shared_signature_of s ≡ callee_type (type_of of.now)) }
+fn callee_type(of: &CType) -> Option<&Rc<Signature>>
+    ensures { option_map (λ s. shared_signature_of s.now) result ≡ callee_type (type_of of.now) }
 {
     match of {
         CType::Pointer(to) => pointed_signature(to),
-        _ => Ok(None),
+        _ => None,
     }
 }
 
-fn pointed_signature(of: &CType) -> Result<Option<Rc<Signature>>, AllocError>
-    ensures { IfOk result (λ s. option_map shared_signature_of s ≡ function_type (type_of of.now)) }
+fn pointed_signature(of: &CType) -> Option<&Rc<Signature>>
+    ensures { option_map (λ s. shared_signature_of s.now) result ≡ function_type (type_of of.now) }
 {
     match of {
-        CType::Function(signature) => Ok(Some(signature.clone()?)),
-        _ => Ok(None),
+        CType::Function(signature) => Some(signature),
+        _ => None,
     }
 }
 
@@ -48,14 +48,14 @@ fn pointed_signature(of: &CType) -> Result<Option<Rc<Signature>>, AllocError>
 pub fn called_signature(at: Place, of: &CType) -> Result<Rc<Signature>, CheckError>
     ensures { Answers shared_signature_of (called_signature at (type_of of.now)) result }
 {
-    let Some(signature) = callee_type(of)? else {
+    let Some(signature) = callee_type(of) else {
         return fault(FaultKind::F16, at);
     };
-    Ok(signature)
+    Ok(signature.clone()?)
 }
 
 /// An argument for a parameter of this type.
-pub fn argument(
+fn argument(
     alloc: Global,
     to: &CType,
     at: Place,

@@ -5,8 +5,8 @@ use Rattle.sp_renaming.specs.Renaming.{renamed_type}
 use Rattle.sp_renaming.proofs.Lists.{types_renamed}
 use Rattle.sp_renaming.proofs.types.+types.Goals as goal
 
-pub renamed_all-returns : goal.renamed_all-returns
-renamed_all-returns t c =
+pub all_anew-returns : goal.all_anew-returns
+all_anew-returns t c =
     ap types c.these.invariant
     ∙ ap (λ xs. types (map (renamed_type c.args.structs.now) (map type_of xs))) (take_all c.these.i c.args.these.now c.these-test.false)
     ∙ types_renamed c.args.structs.now (map type_of c.args.these.now)
