@@ -67,7 +67,8 @@ use sp_expr_steps::{
 };
 use sp_kept::{keeping, pushed};
 use sp_member_rules::{
-    declared_name, enumerator, has_parameter_storage, is_lone_void, reserved, with_enum_tag,
+    MemberList, declared_name, enumerator, has_parameter_storage, is_lone_void, reserved,
+    with_enum_tag,
 };
 use sp_names::{character_checked, name_checked, number_checked, text_checked};
 use sp_operands::{CheckError, fault};
@@ -548,12 +549,12 @@ fn members_checked(
     spec: &StructSpec,
     env: &mut Env,
     names: &Names,
-) -> Result<Vec<(u32, CType)>, CheckError>
-    ensures { AnswersIn (λ all. members_seen all.items)
+) -> Result<MemberList, CheckError>
+    ensures { AnswersIn members_seen
         (members_checked names.now (env_of env.old) [] (declarations_in (struct_spec_of spec.now)))
         (env_of env.new) result }
 {
-    let mut all = Vec::new(alloc);
+    let mut all = MemberList::new(alloc);
     let Some(members) = &spec.members else {
         return Ok(all);
     };
@@ -570,12 +571,12 @@ fn declaration_members(
     declaration: &Declaration,
     env: &mut Env,
     names: &Names,
-    all: &mut Vec<(u32, CType)>,
+    all: &mut MemberList,
 ) -> Result<(), CheckError>
     ensures { LeadsTo
-        (declaration_members names.now (env_of env.old) (members_seen all.old.items)
+        (declaration_members names.now (env_of env.old) (members_seen all.old)
         (declaration_of declaration.now))
-        (members_seen all.new.items, env_of env.new) result }
+        (members_seen all.new, env_of env.new) result }
 {
     let at = declaration.place;
     let base = specifiers_checked(alloc, &declaration.specifiers, env, names, false, at)?;
@@ -589,12 +590,12 @@ fn items_checked(
     env: &mut Env,
     names: &Names,
     base: &CType,
-    all: &mut Vec<(u32, CType)>,
+    all: &mut MemberList,
 ) -> Result<(), CheckError>
     ensures { LeadsTo
-        (items_checked names.now (env_of env.old) (type_of base.now) (members_seen all.old.items)
+        (items_checked names.now (env_of env.old) (type_of base.now) (members_seen all.old)
         (items_in (declaration_of declaration.now)))
-        (members_seen all.new.items, env_of env.new) result }
+        (members_seen all.new, env_of env.new) result }
 {
     'items: for (i, item) in declaration.items.iter().enumerate() {
         item_checked(alloc, item, env, names, base, all)?;
@@ -610,12 +611,12 @@ fn item_checked(
     env: &mut Env,
     names: &Names,
     base: &CType,
-    all: &mut Vec<(u32, CType)>,
+    all: &mut MemberList,
 ) -> Result<(), CheckError>
     ensures { LeadsTo
-        (item_checked names.now (env_of env.old) (type_of base.now) (members_seen all.old.items)
+        (item_checked names.now (env_of env.old) (type_of base.now) (members_seen all.old)
         (init_declarator_of item.now))
-        (members_seen all.new.items, env_of env.new) result }
+        (members_seen all.new, env_of env.new) result }
 {
     let of = declared_type(alloc, &item.declarator, env, names, base.copy(alloc)?);
     member_added(env, all, of, &item.declarator)

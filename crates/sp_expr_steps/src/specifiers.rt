@@ -35,7 +35,7 @@ ghost use Rattle.sp_expr_steps.specs.Specifiers.{
 use sp_constants::constant;
 use sp_env::Env;
 use sp_member_rules::{
-    adjusted, begun, completed, declared_name, enumerator, has_member, is_open, named_parameter,
+    MemberList, adjusted, begun, completed, declared_name, enumerator, is_open, named_parameter,
 };
 use sp_operands::{CheckError, fault, is_complete, is_void};
 use sp_syntax::{Declarator, DeclaratorForm, Param, Specifier};
@@ -82,15 +82,15 @@ pub fn struct_closed(
     number: u32,
     union: bool,
     place: Place,
-    members: Result<Vec<(u32, CType)>, CheckError>,
+    members: Result<MemberList, CheckError>,
 ) -> Result<CType, CheckError>
     ensures { MatchResult members
         (λ members. AnswersIn type_of
-        (and_then (completed (env_of env.old) number union place (members_seen members.items))
+        (and_then (completed (env_of env.old) number union place (members_seen members))
         (λ env. accepted (structure number, env))) (env_of env.new) result)
         (λ error. result ≡ Err error) }
 {
-    completed(env, number, union, place, members?)?;
+    completed(env, number, union, place, members?.into_members())?;
     Ok(CType::Struct(number))
 }
 
@@ -99,13 +99,13 @@ pub fn struct_closed(
 #[tactic(auto, using(crate::proofs::Places::places))]
 fn added(
     structs: &[StructType],
-    all: &mut Vec<(u32, CType)>,
+    all: &mut MemberList,
     of: CType,
     declarator: &Declarator,
 ) -> Result<(), CheckError>
     ensures { LeadsTo
-        (member_added (map struct_of structs.now) (members_seen all.old.items) (type_of of)
-        (declarator_of declarator.now)) (members_seen all.new.items) result }
+        (member_added (map struct_of structs.now) (members_seen all.old) (type_of of)
+        (declarator_of declarator.now)) (members_seen all.new) result }
 {
     if !is_complete(&of, structs) {
         return fault(FaultKind::F13, declarator.place);
@@ -113,25 +113,25 @@ fn added(
     let Some((name, at)) = declared_name(declarator) else {
         return fault(FaultKind::F14, declarator.place);
     };
-    if has_member(all, name) {
+    if all.has(name) {
         return fault(FaultKind::F9, at);
     }
-    all.push((name, of))?;
+    all.push(name, of)?;
     Ok(())
 }
 
 /// A member behind the others, of the type that its declarator gives.
 pub fn member_added(
     env: &Env,
-    all: &mut Vec<(u32, CType)>,
+    all: &mut MemberList,
     of: Result<CType, CheckError>,
     declarator: &Declarator,
 ) -> Result<(), CheckError>
     ensures { MatchResult of
         (λ of. LeadsTo
         (stays (env_of env.now) (member_added (env_of env.now).tables.structs
-        (members_seen all.old.items) (type_of of) (declarator_of declarator.now)))
-        (members_seen all.new.items, env_of env.now) result)
+        (members_seen all.old) (type_of of) (declarator_of declarator.now)))
+        (members_seen all.new, env_of env.now) result)
         (λ error. result ≡ Err error) }
 {
     added(env.structs(), all, of?, declarator)

@@ -17,11 +17,13 @@
 
 mod enumerators;
 mod extents;
+mod member_list;
 mod members;
 mod parameters;
 
 pub use enumerators::{enumerator, with_enum_tag};
-pub use members::{MAX_CELLS, MAX_DEPTH, begun, completed, has_member, is_open};
+pub use member_list::MemberList;
+pub use members::{MAX_CELLS, MAX_DEPTH, begun, completed, is_open};
 pub use parameters::{
     adjusted, declared_name, has_parameter_storage, is_lone_void, named_parameter, reserved,
 };

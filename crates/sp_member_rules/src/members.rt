@@ -18,7 +18,6 @@ ghost use Rattle.sp_member_rules.specs.Members.{
   is_open_level,
   is_open,
   begun,
-  has_member,
   next_extent,
   members_extent,
   head_of,
@@ -75,18 +74,6 @@ pub fn begun(env: &mut Env, number: u32, tag: Option<u32>, union: bool)
             cells: 0,
         },
     );
-}
-
-/// Whether a member has the name.
-pub fn has_member(members: &[(u32, CType)], name: u32) -> bool
-    ensures { result ≡ has_member (members_seen members.now) name }
-{
-    'members: for (i, member) in members.iter().enumerate() {
-        if member.0 == name {
-            return true;
-        }
-    }
-    false
 }
 
 /// The extent with a member of this type.

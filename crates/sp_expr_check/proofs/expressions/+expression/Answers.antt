@@ -130,7 +130,7 @@ pub members_checked-members-init : goal.members_checked-members-init
 members_checked-members-init t c =
     let items = c.deref-declaration-items.result.now in
     let same : declarations_in (struct_spec_of c.args.spec.now) ≡ declarations (map declaration_of items) = declarations_in-view c.args.spec.now c.in-Some.members c.in-Some.is ∙ ap (λ xs. declarations (map declaration_of xs)) (sym c.deref-declaration-items.ensures.value) in
-    ap (λ ms. members_checked c.args.names.now (env_of c.args.env.now) (members_seen ms) (declarations (map declaration_of items))) c.new-all.ensures.items
+    ap (λ ms. members_checked c.args.names.now (env_of c.args.env.now) (members_seen ms) (declarations (map declaration_of items))) c.new-all.ensures
     ∙ sym (ap (members_checked c.args.names.now (env_of c.args.env.now) []) same)
 
 pub members_checked-members-preserved : goal.members_checked-members-preserved
@@ -139,15 +139,15 @@ members_checked-members-preserved t c =
     let names = c.args.names.now in
     let whole = members_checked names (env_of c.args.env.now) [] (declarations_in (struct_spec_of c.args.spec.now)) in
     let rest = declarations (map declaration_of (drop (suc c.members.i) items)) in
-    let part = declaration_members names (env_of c.members.env) (members_seen c.members.all.items) (declaration_of c.declaration-item.result) in
+    let part = declaration_members names (env_of c.members.env) (members_seen c.members.all) (declaration_of c.declaration-item.result) in
     let first = first_declaration items c.members.i c.declaration-item.result c.members-test.true c.declaration-item.is in
-    let h : and_then part (λ x. members_checked names x.1 x.0 rest) ≡ whole = sym (ap (members_checked names (env_of c.members.env) (members_seen c.members.all.items)) first) ∙ c.members.invariant in
-    rw add-one (taken part (λ x. members_checked names x.1 x.0 rest) (members_seen c.declaration_members.new.all.items, env_of c.declaration_members.new.env) whole h c.in_ok-declaration_members.ensures)
+    let h : and_then part (λ x. members_checked names x.1 x.0 rest) ≡ whole = sym (ap (members_checked names (env_of c.members.env) (members_seen c.members.all)) first) ∙ c.members.invariant in
+    rw add-one (taken part (λ x. members_checked names x.1 x.0 rest) (members_seen c.declaration_members.new.all, env_of c.declaration_members.new.env) whole h c.in_ok-declaration_members.ensures)
 
 pub members_checked-returns : goal.members_checked-returns
 members_checked-returns t c =
     let items = c.deref-declaration-items.result.now in
-    sym c.members.invariant ∙ ap (members_checked c.args.names.now (env_of c.members.env) (members_seen c.members.all.items)) (no_declaration_left items c.members.i c.members-test.false)
+    sym c.members.invariant ∙ ap (members_checked c.args.names.now (env_of c.members.env) (members_seen c.members.all)) (no_declaration_left items c.members.i c.members-test.false)
 
 pub members_checked-returns-in_err-declaration_members : goal.members_checked-returns-in_err-declaration_members
 members_checked-returns-in_err-declaration_members t c =
@@ -155,12 +155,11 @@ members_checked-returns-in_err-declaration_members t c =
     let names = c.args.names.now in
     let whole = members_checked names (env_of c.args.env.now) [] (declarations_in (struct_spec_of c.args.spec.now)) in
     let rest = declarations (map declaration_of (drop (suc c.members.i) items)) in
-    let part = declaration_members names (env_of c.members.env) (members_seen c.members.all.items) (declaration_of c.declaration-item.result) in
+    let part = declaration_members names (env_of c.members.env) (members_seen c.members.all) (declaration_of c.declaration-item.result) in
     let first = first_declaration items c.members.i c.declaration-item.result c.members-test.true c.declaration-item.is in
-    let h : and_then part (λ x. members_checked names x.1 x.0 rest) ≡ whole = sym (ap (members_checked names (env_of c.members.env) (members_seen c.members.all.items)) first) ∙ c.members.invariant in
-    let seen : Vec (ℕ × CodeType) Global → List (ℕ × CType) = λ ms. members_seen ms.items in
-    let made : AnswersIn seen whole (env_of c.declaration_members.new.env) (Err c.in_err-declaration_members.field-0.0) =
-    part_failed seen whole part (members_seen c.declaration_members.new.all.items, env_of c.declaration_members.new.env) (env_of c.declaration_members.new.env) c.in_err-declaration_members.field-0.0 (ended part (λ x. members_checked names x.1 x.0 rest) whole h) c.in_err-declaration_members.ensures in
+    let h : and_then part (λ x. members_checked names x.1 x.0 rest) ≡ whole = sym (ap (members_checked names (env_of c.members.env) (members_seen c.members.all)) first) ∙ c.members.invariant in
+    let made : AnswersIn members_seen whole (env_of c.declaration_members.new.env) (Err c.in_err-declaration_members.field-0.0) =
+    part_failed members_seen whole part (members_seen c.declaration_members.new.all, env_of c.declaration_members.new.env) (env_of c.declaration_members.new.env) c.in_err-declaration_members.field-0.0 (ended part (λ x. members_checked names x.1 x.0 rest) whole h) c.in_err-declaration_members.ensures in
     let p = err_from_is_err_and c.from_residual.result c.from_residual.ensures.1 in
     rw (p.1, p.2) made
 
@@ -168,37 +167,37 @@ pub items_checked-items-init : goal.items_checked-items-init
 items_checked-items-init t c =
     let items = c.deref-item-items.result.now in
     let same : items_in (declaration_of c.args.declaration.now) ≡ init_declarators (map init_declarator_of items) = items_in-view c.args.declaration.now ∙ ap (λ xs. init_declarators (map init_declarator_of xs)) (sym c.deref-item-items.ensures.value) in
-    sym (ap (items_checked c.args.names.now (env_of c.args.env.now) (type_of c.args.base.now) (members_seen c.args.all.now.items)) same)
+    sym (ap (items_checked c.args.names.now (env_of c.args.env.now) (type_of c.args.base.now) (members_seen c.args.all.now)) same)
 
 pub items_checked-items-preserved : goal.items_checked-items-preserved
 items_checked-items-preserved t c =
     let items = c.deref-item-items.result.now in
     let names = c.args.names.now in
     let base = type_of c.args.base.now in
-    let whole = items_checked names (env_of c.args.env.now) base (members_seen c.args.all.now.items) (items_in (declaration_of c.args.declaration.now)) in
+    let whole = items_checked names (env_of c.args.env.now) base (members_seen c.args.all.now) (items_in (declaration_of c.args.declaration.now)) in
     let rest = init_declarators (map init_declarator_of (drop (suc c.items.i) items)) in
-    let part = item_checked names (env_of c.items.env) base (members_seen c.items.all.items) (init_declarator_of c.item-item.result) in
+    let part = item_checked names (env_of c.items.env) base (members_seen c.items.all) (init_declarator_of c.item-item.result) in
     let first = first_item items c.items.i c.item-item.result c.items-test.true c.item-item.is in
-    let h : and_then part (λ x. items_checked names x.1 base x.0 rest) ≡ whole = sym (ap (items_checked names (env_of c.items.env) base (members_seen c.items.all.items)) first) ∙ c.items.invariant in
-    rw add-one (taken part (λ x. items_checked names x.1 base x.0 rest) (members_seen c.item_checked.new.all.items, env_of c.item_checked.new.env) whole h c.in_ok-item_checked.ensures)
+    let h : and_then part (λ x. items_checked names x.1 base x.0 rest) ≡ whole = sym (ap (items_checked names (env_of c.items.env) base (members_seen c.items.all)) first) ∙ c.items.invariant in
+    rw add-one (taken part (λ x. items_checked names x.1 base x.0 rest) (members_seen c.item_checked.new.all, env_of c.item_checked.new.env) whole h c.in_ok-item_checked.ensures)
 
 pub items_checked-returns : goal.items_checked-returns
 items_checked-returns t c =
     let items = c.deref-item-items.result.now in
-    sym c.items.invariant ∙ ap (items_checked c.args.names.now (env_of c.items.env) (type_of c.args.base.now) (members_seen c.items.all.items)) (no_item_left items c.items.i c.items-test.false)
+    sym c.items.invariant ∙ ap (items_checked c.args.names.now (env_of c.items.env) (type_of c.args.base.now) (members_seen c.items.all)) (no_item_left items c.items.i c.items-test.false)
 
 pub items_checked-returns-in_err-item_checked : goal.items_checked-returns-in_err-item_checked
 items_checked-returns-in_err-item_checked t c =
     let items = c.deref-item-items.result.now in
     let names = c.args.names.now in
     let base = type_of c.args.base.now in
-    let whole = items_checked names (env_of c.args.env.now) base (members_seen c.args.all.now.items) (items_in (declaration_of c.args.declaration.now)) in
+    let whole = items_checked names (env_of c.args.env.now) base (members_seen c.args.all.now) (items_in (declaration_of c.args.declaration.now)) in
     let rest = init_declarators (map init_declarator_of (drop (suc c.items.i) items)) in
-    let part = item_checked names (env_of c.items.env) base (members_seen c.items.all.items) (init_declarator_of c.item-item.result) in
+    let part = item_checked names (env_of c.items.env) base (members_seen c.items.all) (init_declarator_of c.item-item.result) in
     let first = first_item items c.items.i c.item-item.result c.items-test.true c.item-item.is in
-    let h : and_then part (λ x. items_checked names x.1 base x.0 rest) ≡ whole = sym (ap (items_checked names (env_of c.items.env) base (members_seen c.items.all.items)) first) ∙ c.items.invariant in
-    let made : LeadsTo whole (members_seen c.item_checked.new.all.items, env_of c.item_checked.new.env) (Err c.in_err-item_checked.field-0.0) =
-    part_stopped whole part (members_seen c.item_checked.new.all.items, env_of c.item_checked.new.env) (members_seen c.item_checked.new.all.items, env_of c.item_checked.new.env) c.in_err-item_checked.field-0.0 (ended part (λ x. items_checked names x.1 base x.0 rest) whole h) c.in_err-item_checked.ensures in
+    let h : and_then part (λ x. items_checked names x.1 base x.0 rest) ≡ whole = sym (ap (items_checked names (env_of c.items.env) base (members_seen c.items.all)) first) ∙ c.items.invariant in
+    let made : LeadsTo whole (members_seen c.item_checked.new.all, env_of c.item_checked.new.env) (Err c.in_err-item_checked.field-0.0) =
+    part_stopped whole part (members_seen c.item_checked.new.all, env_of c.item_checked.new.env) (members_seen c.item_checked.new.all, env_of c.item_checked.new.env) c.in_err-item_checked.field-0.0 (ended part (λ x. items_checked names x.1 base x.0 rest) whole h) c.in_err-item_checked.ensures in
     let p = err_from_is_err_and c.from_residual.result c.from_residual.ensures.1 in
     rw (p.1, p.2) made
 

@@ -31,13 +31,13 @@ invariant-specifiers_checked-specifiers l =
 
 abbrev pub invariant-members_checked-members : goal.invariant-members_checked-members
 invariant-members_checked-members l =
-    members_checked l.names (env_of l.env) (members_seen l.all.items) (declarations (map declaration_of (drop l.i l.declaration-items)))
+    members_checked l.names (env_of l.env) (members_seen l.all) (declarations (map declaration_of (drop l.i l.declaration-items)))
     ≡ members_checked l.names (env_of l.initial.env) [] (declarations_in (struct_spec_of l.spec))
 
 abbrev pub invariant-items_checked-items : goal.invariant-items_checked-items
 invariant-items_checked-items l =
-    items_checked l.names (env_of l.env) (type_of l.base) (members_seen l.all.items) (init_declarators (map init_declarator_of (drop l.i l.item-items)))
-    ≡ items_checked l.names (env_of l.initial.env) (type_of l.base) (members_seen l.initial.all.items) (items_in (declaration_of l.declaration))
+    items_checked l.names (env_of l.env) (type_of l.base) (members_seen l.all) (init_declarators (map init_declarator_of (drop l.i l.item-items)))
+    ≡ items_checked l.names (env_of l.initial.env) (type_of l.base) (members_seen l.initial.all) (items_in (declaration_of l.declaration))
 
 abbrev pub invariant-constants_checked-constants : goal.invariant-constants_checked-constants
 invariant-constants_checked-constants l =
