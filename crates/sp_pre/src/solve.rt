@@ -56,8 +56,9 @@ fn all_waiting(alloc: Global, count: u32) -> Result<Queue, AllocError>
     ensures few { IfOk result (λ queue. length queue.numbers ≤ count) }
 {
     let mut queue = Queue::none(alloc, count)?;
-    for node in 0..count {
-        queue.push(node)?;
+    // The last to come is served first. So readers of a row come ascending, and go last in its set.
+    for before in 0..count {
+        queue.push(count - 1 - before)?;
     }
     Ok(queue)
 }
