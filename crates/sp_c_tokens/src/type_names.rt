@@ -58,6 +58,6 @@ impl TypeNames {
     pub fn holds(&self, name: u32) -> bool
         ensures { result ≡ list_any (λ t. t == name) self.now }
     {
-        self.set.contains(&name)
+        !self.names.is_empty() && self.set.contains(&name)
     }
 }
