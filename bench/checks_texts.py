@@ -34,6 +34,12 @@ def calls(size):
     return ["int f(int x){return x;}\nint main(void){\n" + nested * (size // 50) + "return 0;}\n"]
 
 
+def mentions(size):
+    """So many mentions of a function of 990 parameters."""
+    declared = "int g(" + ",".join(["int"] * 990) + ");\n"
+    return [declared + "int main(void){\n" + "g;\n" * size + "return 0;}\n"]
+
+
 def units(size):
     """64 files with so many external names in all, each defined in one and declared in the next."""
     each = size // 64
@@ -56,7 +62,7 @@ def same_structs(size):
     return texts
 
 
-KINDS = [(ordinary, 2000000), (names, 100000), (structs, 50000), (calls, 100000), (units, 100000), (same_structs, 64000)]
+KINDS = [(ordinary, 2000000), (names, 100000), (structs, 50000), (calls, 100000), (mentions, 100000), (units, 100000), (same_structs, 64000)]
 
 
 def main():
