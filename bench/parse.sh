@@ -10,7 +10,7 @@ mkdir -p "$room/texts"
 python3 "$top/bench/parse_texts.py" "$room/texts"
 (cd "$room/crates/parse_bench" && rt run -- "$room/texts/parens-1-expression" expression) > "$room/built.txt"
 printf '%-10s %10s %9s %8s %8s %9s %7s\n' text tokens trees ms M/s KiB ratio
-for kind in ordinary elses blocks inits declarators mixed parens minus and comma assign choice prefix cast index calls strings members constants pointers parameters; do
+for kind in ordinary wide elses blocks inits declarators mixed parens minus and comma assign choice prefix cast index calls strings members constants pointers parameters; do
     last=
     for size in 1 2; do
         text=$(echo "$room/texts/$kind-$size"-*)

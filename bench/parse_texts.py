@@ -64,10 +64,19 @@ int f%d(int n, char *s)
 """
 
 
+def widened(text, length):
+    """The text with blanks behind marks, of so many bytes about."""
+    marks = sum(text.count(mark) for mark in ";{}")
+    blanks = " " * ((length - len(text)) // marks)
+    return "".join(byte + blanks if byte in ";{}" else byte for byte in text)
+
+
 def units(tokens):
     """Units of C, of so many tokens about."""
     begun = "struct pair { int left; char *right; };\nstatic int count;\n"
-    yield "ordinary", begun + "".join(ORDINARY % i for i in range(tokens // 128))
+    ordinary = begun + "".join(ORDINARY % i for i in range(tokens // 128))
+    yield "ordinary", ordinary
+    yield "wide", widened(ordinary, 8 * tokens)
     elses = "int f(void){" + "else ".join(["if(a)b;"] * 190) + "}\n"
     yield "elses", elses * (tokens // 1336)
     yield "blocks", ("int f(void)" + "{" * 195 + "}" * 195 + "\n") * (tokens // 395)
