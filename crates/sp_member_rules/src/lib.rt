@@ -2,10 +2,10 @@
 //! constants and parameters (C90 6.5.2.1 to 6.5.2.3, 6.5.4.3).
 //!
 //! Members lie one behind the other, each where its alignment divides; those of a union lie all at
-//! 0. [`completed`] gives a struct of the tables its members, with its size and alignment and what
-//! else the table keeps of it. An enumeration constant is a value of `int` ([`enumerator`]). A
-//! parameter of array or function type is a pointer ([`adjusted`]), and a named one is declared in
-//! its list's scope.
+//! 0. A [`MemberList`] has those that are read so far. [`completed`] gives a struct of the tables
+//! its members, with its size and alignment and what else the table keeps of it. An enumeration
+//! constant is a value of `int` ([`enumerator`]). A parameter of array or function type is a
+//! pointer ([`adjusted`]), and a named one is declared in its list's scope.
 //!
 //! So `struct s { char c; int i; }` has size 8 and alignment 4, with `i` at 4. A struct of more
 //! than 2^40 bytes is the fault F21 at its specifier, one of more than 256 cells M3, one in which

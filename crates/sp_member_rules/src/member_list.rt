@@ -8,13 +8,14 @@ use sp_types::CType;
 use std::alloc::{AllocError, Global};
 use std::marker::Model;
 
-/// How many members are walked through for a name. Most structs have no more, and those need no
-/// set.
+/// How many members are walked through for a name, which the invariant of [`MemberList`] names too.
+/// Most structs have no more, and those hash nothing.
 const WALKED: usize = 8;
 
 /// Members by their names and types, in the order in which they were read.
 ///
-/// Contracts see them as the list. Whether a member has a name is answered in constant time.
+/// Contracts see them as the list. A name is looked for in the first eight, and behind them in a
+/// set: else each new member would walk through all before it.
 #[derive(Drop)]
 pub struct MemberList {
     members: Vec<(u32, CType)>,
@@ -25,7 +26,7 @@ pub struct MemberList {
 impl Model for MemberList {
     ghost use Rattle.std.specs.Prelude.{List, ℕ, ◌≡◌, nat_eq, drop};
     ghost use Rattle.indexmap.specs.IndexSet.{contains};
-    ghost use Rattle.std.specs.Coded.{codes};
+    ghost use Rattle.std.specs.Coded.{coded_list, coded×, coded_ℕ};
     ghost use Rattle.sp_types.specs.contracts.ctype.CType as the_type;
     ghost use Rattle.sp_types.specs.declared.ctype.CType.{CType};
     ghost use Rattle.sp_operands.specs.Balances.{members_seen};
@@ -33,7 +34,7 @@ impl Model for MemberList {
 
     ghost Value = { List (ℕ × CType) };
 
-    ghost coded = { Prim.hlevel (codes, the_type.the_row.coded) };
+    ghost coded = { coded_list (coded× coded_ℕ the_type.the_row.coded) };
 
     ghost view = { λ l. l.members.items };
 
@@ -89,6 +90,7 @@ impl MemberList {
     }
 }
 
+/// Whether one of these members has the name.
 fn has_member(members: &[(u32, CType)], name: u32) -> bool
     ensures { result ≡ has_member (members_seen members.now) name }
 {

@@ -21,7 +21,6 @@ use Rattle.sp_env.specs.Views.{env_of}
 use Rattle.sp_expr_steps.specs.SyntaxView.{form_of}
 use Rattle.sp_rules.specs.Rules.{told, behind_by}
 use Rattle.sp_expr_steps.specs.Expressions.{arguments_checked, arguments_of, one_checked}
-use Rattle.std.proofs.Common.{ℕ}
 use Rattle.sp_expr_steps.specs.Parameters.{params_of, is_alone_in}
 use Rattle.std.specs.Prelude.{ℤ, pos, Option, unwrap_or}
 use Rattle.sp_operands.specs.Answers.{and_then}
