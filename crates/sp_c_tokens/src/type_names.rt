@@ -58,6 +58,7 @@ impl TypeNames {
     pub fn holds(&self, name: u32) -> bool
         ensures { result ≡ list_any (λ t. t == name) self.now }
     {
+        // Many units have no type names: no hash is taken for those.
         !self.names.is_empty() && self.set.contains(&name)
     }
 }
