@@ -85,7 +85,8 @@ fn derived(
     Ok(of)
 }
 
-/// One more than a number of derivations.
+/// One more than a number of derivations or of parts. It fails, as memory that is wanting, past
+/// 2^32 - 1 alone: no text within the limits has as many.
 fn one_more(inside: u32) -> Result<u32, AllocError>
     ensures { IfOk result (λ n. n ≡ suc inside) }
 {
@@ -129,7 +130,7 @@ fn derivations_in_all(all: &[CType]) -> Result<u32, AllocError>
     Ok(most)
 }
 
-/// Two numbers of parts together.
+/// Two numbers of parts together. It fails as [`one_more`] does.
 fn together(a: u32, b: u32) -> Result<u32, AllocError>
     ensures { IfOk result (λ n. n ≡ a + b) }
 {
