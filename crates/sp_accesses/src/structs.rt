@@ -97,7 +97,7 @@ fn struct_of(expr: &Expr) -> Option<&Lvalue>
             | CType::Int(_)
             | CType::Float(_)
             | CType::Pointer(_)
-            | CType::Array(_, _)
+            | CType::Array(_)
             | CType::Function(_) => None,
         },
         Expr::Number(..)

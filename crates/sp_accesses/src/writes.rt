@@ -127,11 +127,7 @@ fn add_cells_of(
             set.add(region)?;
             Ok(())
         }
-        CType::Void
-        | CType::Float(_)
-        | CType::Struct(_)
-        | CType::Array(_, _)
-        | CType::Function(_) => {
+        CType::Void | CType::Float(_) | CType::Struct(_) | CType::Array(_) | CType::Function(_) => {
             add_under(analysis, region, set)?;
             Ok(())
         }

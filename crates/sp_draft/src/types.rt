@@ -101,7 +101,7 @@ pub fn has_pointer(flags: &[bool], of: &CType) -> bool
 {
     match of {
         CType::Pointer(_) => true,
-        CType::Array(element, _) => has_pointer(flags, element),
+        CType::Array(array) => has_pointer(flags, &array.element),
         CType::Struct(number) => flag_at(flags, *number),
         CType::Void | CType::Int(_) | CType::Float(_) | CType::Function(_) => false,
     }

@@ -87,11 +87,8 @@ pub fn foreign_type(alloc: Global, of: &CType, site: &Value) -> Result<Value, Al
     match of {
         CType::Int(_) => Ok(Value::of_numbers(alloc, every_number(of))),
         CType::Pointer(_) => site.with_numbers(alloc, Interval::Empty),
-        CType::Void
-        | CType::Float(_)
-        | CType::Array(_, _)
-        | CType::Struct(_)
-        | CType::Function(_) => Ok(Value::of_numbers(alloc, Interval::Empty)),
+        CType::Void | CType::Float(_) | CType::Array(_) | CType::Struct(_) | CType::Function(_) =>
+            Ok(Value::of_numbers(alloc, Interval::Empty)),
     }
 }
 

@@ -52,14 +52,11 @@ pub fn every_number(of: &CType) -> Interval
     match of {
         CType::Int(kind) => every(range_of(*kind)),
         CType::Pointer(_) => every(Range::unsigned(64)),
-        CType::Void
-        | CType::Float(_)
-        | CType::Array(_, _)
-        | CType::Struct(_)
-        | CType::Function(_) => Interval::Of {
-            lo: MIN_LONG,
-            hi: MODULUS - 1,
-        },
+        CType::Void | CType::Float(_) | CType::Array(_) | CType::Struct(_) | CType::Function(_) =>
+            Interval::Of {
+                lo: MIN_LONG,
+                hi: MODULUS - 1,
+            },
     }
 }
 

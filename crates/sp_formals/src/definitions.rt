@@ -35,7 +35,7 @@ fn is_floating_array(of: &CType) -> bool
     ensures { result ≡ is_floating_array (type_of of.now) }
 {
     match of {
-        CType::Array(element, _) => is_floating_array(element),
+        CType::Array(array) => is_floating_array(&array.element),
         CType::Float(_) => true,
         CType::Void | CType::Int(_) | CType::Pointer(_) | CType::Struct(_) | CType::Function(_) =>
             false,

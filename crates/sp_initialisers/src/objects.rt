@@ -43,7 +43,7 @@ fn alone(
 {
     match of {
         CType::Struct(_) => struct_given(alloc, env, names, target, of, e),
-        CType::Array(_, _) => array_given(alloc, env, names, target, of, e),
+        CType::Array(_) => array_given(alloc, env, names, target, of, e),
         CType::Void | CType::Int(_) | CType::Float(_) | CType::Pointer(_) | CType::Function(_) => {
             one_given(alloc, env, names, target, Vec::new(alloc), of, 0, e)
         }
@@ -77,7 +77,10 @@ fn with_length(env: &mut Env, before: bool, of: &CType) -> Result<(), AllocError
         with_length (env_of env.old) before (type_of of.now)) }
 {
     match of {
-        CType::Array(_, Some(length)) if before => env.add_constant(*length as i128),
+        CType::Array(array) if before => match array.length {
+            Some(length) => env.add_constant(length as i128),
+            None => Ok(()),
+        },
         _ => Ok(()),
     }
 }

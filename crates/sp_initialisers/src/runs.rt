@@ -256,8 +256,9 @@ pub(crate) fn with_parts(
         parts (map struct_of structs.now) (type_of of.now) from ++ runs_of runs.items) }
 {
     match of {
-        CType::Array(element, length) => {
-            runs.push(Run::Elements(element.copy(alloc)?, from, *length))?;
+        CType::Array(array) => {
+            let element = array.element.copy(alloc)?;
+            runs.push(Run::Elements(element, from, array.length))?;
             Ok(runs)
         }
         CType::Struct(number) => struct_parts(alloc, structs, runs, *number, from),
@@ -298,11 +299,12 @@ fn into_arrays(
         (init_of init.now) (type_of of.now) from (runs_of behind.items)) }
 {
     match of {
-        CType::Array(element, length) => {
+        CType::Array(array) => {
             if is_string_for(of, init) {
                 part_here(alloc, of, from, behind)
             } else {
-                behind.push(elements_behind(alloc, structs, element, from, *length)?)?;
+                let element = &array.element;
+                behind.push(elements_behind(alloc, structs, element, from, array.length)?)?;
                 into_arrays(alloc, element, structs, init, from, behind)
             }
         }

@@ -43,11 +43,8 @@ pub(crate) fn is_static(e: &TypedExpr, objects: &[ObjectDef]) -> bool
     match &e.of {
         CType::Int(_) => constant(e).is_some(),
         CType::Pointer(_) => is_address(&e.form, objects),
-        CType::Void
-        | CType::Float(_)
-        | CType::Array(_, _)
-        | CType::Struct(_)
-        | CType::Function(_) => false,
+        CType::Void | CType::Float(_) | CType::Array(_) | CType::Struct(_) | CType::Function(_) =>
+            false,
     }
 }
 

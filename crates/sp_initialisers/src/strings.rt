@@ -54,7 +54,7 @@ fn is_character_array(of: &CType) -> bool
     ensures { result ≡ is_character_array (type_of of.now) }
 {
     match of {
-        CType::Array(element, _) => is_character(element),
+        CType::Array(array) => is_character(&array.element),
         _ => false,
     }
 }
@@ -234,7 +234,7 @@ fn integers_in(of: &CType) -> Option<(IntKind, Option<u64>)>
     ensures { result ≡ integers_in (type_of of.now) }
 {
     match of {
-        CType::Array(element, length) => integer_elements(element, *length),
+        CType::Array(array) => integer_elements(&array.element, array.length),
         _ => None,
     }
 }

@@ -162,7 +162,7 @@ pub(crate) fn only_given(
 pub(crate) fn is_aggregate(of: &CType) -> bool
     ensures { result ≡ is_aggregate (type_of of.now) }
 {
-    matches!(of, CType::Array(_, _) | CType::Struct(_))
+    matches!(of, CType::Array(_) | CType::Struct(_))
 }
 
 /// The value of a struct or a union as a whole, by one expression of its type.
@@ -257,15 +257,19 @@ pub(crate) fn measured(
         (measured (map struct_of structs.now) at (map leaf_seen values.now) (type_of of)) result }
 {
     match of {
-        CType::Array(element, None) => {
-            let Some(length) = how_many(last_leaf(values), leaves(&element, structs)) else {
-                return Err(CheckError::NoMemory);
-            };
-            if length > LONGEST {
-                return fault(FaultKind::F21, at);
+        CType::Array(array) => match array.length {
+            Some(_) => Ok(CType::Array(array)),
+            None => {
+                let each = leaves(&array.element, structs);
+                let Some(length) = how_many(last_leaf(values), each) else {
+                    return Err(CheckError::NoMemory);
+                };
+                if length > LONGEST {
+                    return fault(FaultKind::F21, at);
+                }
+                made_array(alloc, structs, array.element.copy(alloc)?, Some(length), at)
             }
-            made_array(alloc, structs, element.copy(alloc)?, Some(length), at)
-        }
+        },
         _ => Ok(of),
     }
 }
@@ -274,5 +278,5 @@ pub(crate) fn measured(
 pub(crate) fn is_unmeasured(of: &CType) -> bool
     ensures { result ≡ is_unmeasured (type_of of.now) }
 {
-    matches!(of, CType::Array(_, None))
+    matches!(of, CType::Array(array) if array.length.is_none())
 }

@@ -95,7 +95,7 @@ impl Lowered {
             | CType::Int(_)
             | CType::Float(_)
             | CType::Pointer(_)
-            | CType::Array(_, _)
+            | CType::Array(_)
             | CType::Function(_) => 0,
         }
     }
@@ -155,7 +155,9 @@ pub fn matches(of: &CType, access: &CType) -> bool
         (CType::Int(a), CType::Int(b)) => width(*a) == width(*b),
         (CType::Pointer(_), CType::Pointer(_)) => true,
         (CType::Struct(a), CType::Struct(b)) => a == b,
-        (CType::Array(a, n), CType::Array(b, m)) => same_length(*n, *m) && matches(a, b),
+        (CType::Array(a), CType::Array(b)) => {
+            same_length(a.length, b.length) && matches(&a.element, &b.element)
+        }
         _ => false,
     }
 }

@@ -103,12 +103,15 @@ pub fn leaf_cell(layouts: &Layouts<'_>, of: &CType, leaf: u64) -> Result<Option<
     match of {
         CType::Int(_) | CType::Pointer(_) => Ok(Some(0)),
         CType::Float(_) => Ok(None),
-        CType::Array(element, Some(_)) => {
-            let inside = remainder(leaf, leaf_count(layouts, element)?)?;
-            further(1, leaf_cell(layouts, element, inside)?)
+        CType::Array(array) => {
+            if array.length.is_none() {
+                return Ok(None);
+            }
+            let inside = remainder(leaf, leaf_count(layouts, &array.element)?)?;
+            further(1, leaf_cell(layouts, &array.element, inside)?)
         }
         CType::Struct(number) => struct_cell(layouts, *number, of, leaf),
-        CType::Void | CType::Array(_, None) | CType::Function(_) => Ok(None),
+        CType::Void | CType::Function(_) => Ok(None),
     }
 }
 
@@ -281,14 +284,15 @@ fn add_left(
     }
     match of {
         CType::Int(_) | CType::Pointer(_) => push_left(cells, left, root, count),
-        CType::Array(element, Some(length)) => {
-            let count = times(count, *length)?;
-            add_left(layouts, cells, left, plus(root, 1)?, count, element)
-        }
+        CType::Array(array) => match array.length {
+            Some(length) => {
+                let count = times(count, length)?;
+                add_left(layouts, cells, left, plus(root, 1)?, count, &array.element)
+            }
+            None => push_left(cells, left, root, 0),
+        },
         CType::Struct(number) => struct_left(layouts, cells, left, root, count, *number, of),
-        CType::Float(_) | CType::Void | CType::Array(_, None) | CType::Function(_) => {
-            push_left(cells, left, root, 0)
-        }
+        CType::Float(_) | CType::Void | CType::Function(_) => push_left(cells, left, root, 0),
     }
 }
 

@@ -120,20 +120,21 @@ pub fn add_regions(
         CType::Int(_) | CType::Pointer(_) | CType::Float(_) => {
             push_region(alloc, all, part, Some(of), size_of(layouts.structs, of))
         }
-        CType::Array(element, Some(length)) => {
+        CType::Array(array) => {
+            let Some(length) = array.length else {
+                return push_region(alloc, all, part, Some(of), 0);
+            };
             push_region(alloc, all, part, Some(of), size_of(layouts.structs, of))?;
             let path = behind(alloc, part.path, Step::Element)?;
             let inside = Part {
                 object: part.object,
                 path: path.as_slice(),
-                count: Some(*length),
+                count: Some(length),
             };
-            add_regions(alloc, layouts, all, &inside, element)
+            add_regions(alloc, layouts, all, &inside, &array.element)
         }
         CType::Struct(number) => add_struct(alloc, layouts, all, part, *number, of),
-        CType::Void | CType::Array(_, None) | CType::Function(_) => {
-            push_region(alloc, all, part, Some(of), 0)
-        }
+        CType::Void | CType::Function(_) => push_region(alloc, all, part, Some(of), 0),
     }
 }
 

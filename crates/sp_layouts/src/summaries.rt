@@ -59,7 +59,7 @@ pub(crate) fn is_floating(of: &CType) -> bool
         CType::Float(_) => true,
         CType::Int(_)
         | CType::Pointer(_)
-        | CType::Array(..)
+        | CType::Array(_)
         | CType::Struct(_)
         | CType::Void
         | CType::Function(_) => false,
@@ -109,12 +109,15 @@ pub fn summary_by(summaries: &[Summary], of: &CType) -> Result<Summary, AllocErr
             points: true,
             cells: true,
         }),
-        CType::Array(element, Some(count)) => {
-            let element = summary_by(summaries, element)?;
-            of_elements(*count, &element)
-        }
+        CType::Array(array) => match array.length {
+            Some(count) => {
+                let element = summary_by(summaries, &array.element)?;
+                of_elements(count, &element)
+            }
+            None => Ok(NOTHING),
+        },
         CType::Struct(number) => Ok(summary_at(summaries, *number)),
-        CType::Array(_, None) | CType::Void | CType::Function(_) => Ok(NOTHING),
+        CType::Void | CType::Function(_) => Ok(NOTHING),
     }
 }
 

@@ -17,7 +17,7 @@ fn lacks_length(of: &CType) -> bool
     ensures { result ≡ lacks_length (type_of of.now) }
 {
     match of {
-        CType::Array(_, length) => length.is_none(),
+        CType::Array(array) => array.length.is_none(),
         CType::Void
         | CType::Int(_)
         | CType::Float(_)
@@ -44,9 +44,11 @@ pub(crate) fn completed(alloc: Global, of: &CType) -> Result<CType, AllocError>
     ensures { IfOk result (λ t. type_of t ≡ completed (type_of of.now)) }
 {
     match of {
-        CType::Array(element, None) => CType::array(alloc, element.copy(alloc)?, Some(1)),
-        CType::Array(_, Some(_))
-        | CType::Void
+        CType::Array(array) => match array.length {
+            None => CType::array_of(alloc, array.element.clone()?, Some(1)),
+            Some(_) => of.copy(alloc),
+        },
+        CType::Void
         | CType::Int(_)
         | CType::Float(_)
         | CType::Pointer(_)

@@ -19,9 +19,8 @@ ghost use Rattle.sp_draft.specs.View.{context_of};
 
 use sp_draft::{Scope, kind_of, number_behind};
 use sp_ir::{Expr, Lvalue};
-use sp_types::{CType, FunctionDef, ObjectDef, Signature, TypedExpr};
+use sp_types::{CType, FunctionDef, ObjectDef, TypedExpr};
 use std::alloc::{AllocError, Global};
-use std::rc::Rc;
 
 /// A constant of this value.
 pub fn constant(e: &TypedExpr, value: i128) -> Expr
@@ -62,19 +61,12 @@ pub fn object_at(scope: &Scope<'_>, number: u32) -> Result<Lvalue, AllocError>
     Ok(Lvalue::direct(number, type_of_object(scope.alloc, scope.objects, number)?))
 }
 
-/// A function of this type, which is shared.
-fn shared(of: &Rc<Signature>) -> Result<CType, AllocError>
-    ensures { IfOk result (λ t. type_of t ≡ function (shared_signature_of of.now)) }
-{
-    Ok(CType::Function(of.clone()?))
-}
-
 fn type_of_function(functions: &[FunctionDef], number: u32) -> Result<CType, AllocError>
     ensures { IfOk result (λ t. type_of t ≡
         type_of_function (slice_get (map function_of functions.now) number)) }
 {
     match functions.get(number as usize) {
-        Some(function) => shared(&function.of),
+        Some(function) => Ok(CType::function_of(function.of.clone()?)),
         None => Ok(no_type()),
     }
 }

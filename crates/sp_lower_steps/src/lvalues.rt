@@ -75,10 +75,7 @@ pub fn loaded(scope: &Scope<'_>, of: &CType, place: Lvalue) -> Result<Expr, Allo
         loaded (context_of scope.now) (type_of of.now) (lvalue_of place)) }
 {
     match of {
-        CType::Array(element, _) => {
-            let pointer = CType::pointer(scope.alloc, element.copy(scope.alloc)?)?;
-            decayed(scope, pointer, place)
-        }
+        CType::Array(array) => decayed(scope, CType::Pointer(array.element.clone()?), place),
         CType::Function(_) | CType::Void => {
             let pointer = CType::pointer(scope.alloc, of.copy(scope.alloc)?)?;
             addressed(scope, pointer, place)

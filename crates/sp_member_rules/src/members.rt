@@ -200,8 +200,8 @@ fn depth(env: &Env, of: &CType) -> Result<u32, AllocError>
     ensures { IfOk result (λ n. n ≡ depth (env_of env.now).depths (type_of of.now)) }
 {
     match of {
-        CType::Array(element, _) => {
-            let inside = depth(env, element)?;
+        CType::Array(array) => {
+            let inside = depth(env, &array.element)?;
             inside.checked_add(1).ok_or(AllocError)
         }
         CType::Struct(number) => Ok(env.struct_depth(*number)),

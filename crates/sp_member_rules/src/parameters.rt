@@ -94,7 +94,7 @@ pub fn adjusted(alloc: Global, of: CType) -> Result<CType, AllocError>
     ensures { IfOk result (λ t. type_of t ≡ adjusted (type_of of)) }
 {
     match of {
-        CType::Array(element, _) => Ok(CType::Pointer(element)),
+        CType::Array(array) => Ok(CType::Pointer(array.element.clone()?)),
         CType::Function(_) => CType::pointer(alloc, of),
         _ => Ok(of),
     }

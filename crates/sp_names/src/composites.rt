@@ -23,8 +23,9 @@ pub fn composite(alloc: Global, left: &CType, right: &CType) -> Result<CType, Al
 {
     match (left, right) {
         (CType::Pointer(a), CType::Pointer(b)) => CType::pointer(alloc, composite(alloc, a, b)?),
-        (CType::Array(a, n), CType::Array(b, m)) => {
-            CType::array(alloc, composite(alloc, a, b)?, told_length(*n, *m))
+        (CType::Array(a), CType::Array(b)) => {
+            let element = composite(alloc, &a.element, &b.element)?;
+            CType::array(alloc, element, told_length(a.length, b.length))
         }
         (CType::Function(a), CType::Function(b)) => {
             CType::function(alloc, composite_signature(alloc, a, b)?)

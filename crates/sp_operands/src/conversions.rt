@@ -61,7 +61,7 @@ pub fn is_void(of: &CType) -> bool
 pub fn is_array(of: &CType) -> bool
     ensures { result ≡ is_array (type_of of.now) }
 {
-    matches!(of, CType::Array(_, _))
+    matches!(of, CType::Array(_))
 }
 
 /// Whether a type is that of a function.
@@ -102,7 +102,7 @@ fn decayed_type(alloc: Global, lvalue: bool, of: &CType) -> Result<Option<CType>
     ensures { IfOk result (λ t. option_map type_of t ≡ decayed_type lvalue (type_of of.now)) }
 {
     match of {
-        CType::Array(element, _) if lvalue => { Ok(Some(CType::Pointer(element.clone()?))) }
+        CType::Array(array) if lvalue => Ok(Some(CType::Pointer(array.element.clone()?))),
         CType::Function(_) => {
             let pointer = CType::pointer(alloc, of.copy(alloc)?)?;
             Ok(Some(pointer))

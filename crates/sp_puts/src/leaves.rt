@@ -35,7 +35,7 @@ fn part_type<'a>(structs: &'a [StructType], of: &'a CType, step: Step) -> Option
 {
     match step {
         Step::Element => match of {
-            CType::Array(element, _) => Some(element),
+            CType::Array(array) => Some(&array.element),
             CType::Void
             | CType::Int(_)
             | CType::Float(_)
@@ -49,7 +49,7 @@ fn part_type<'a>(structs: &'a [StructType], of: &'a CType, step: Step) -> Option
             | CType::Int(_)
             | CType::Float(_)
             | CType::Pointer(_)
-            | CType::Array(_, _)
+            | CType::Array(_)
             | CType::Function(_) => None,
         },
     }

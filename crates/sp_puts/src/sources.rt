@@ -72,11 +72,8 @@ pub fn is_scalar(of: &CType) -> bool
 {
     match of {
         CType::Int(_) | CType::Pointer(_) => true,
-        CType::Void
-        | CType::Float(_)
-        | CType::Struct(_)
-        | CType::Array(_, _)
-        | CType::Function(_) => false,
+        CType::Void | CType::Float(_) | CType::Struct(_) | CType::Array(_) | CType::Function(_) =>
+            false,
     }
 }
 
@@ -100,7 +97,7 @@ fn is_struct(of: &CType, number: u32) -> bool
         | CType::Int(_)
         | CType::Float(_)
         | CType::Pointer(_)
-        | CType::Array(_, _)
+        | CType::Array(_)
         | CType::Function(_) => false,
     }
 }

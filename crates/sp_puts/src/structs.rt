@@ -29,7 +29,7 @@ fn struct_in(of: &CType) -> Option<u32>
         | CType::Int(_)
         | CType::Float(_)
         | CType::Pointer(_)
-        | CType::Array(_, _)
+        | CType::Array(_)
         | CType::Function(_) => None,
     }
 }

@@ -12,14 +12,19 @@ use sp_types::{CType, TypedExpr, TypedForm};
 use std::alloc::{AllocError, Global};
 
 /// The type of an object, with the length or the members that the program tells.
-fn told_by(there: Option<&CType>, of: CType) -> CType
-    ensures { type_of result ≡
-        told_by (option_map type_of (option_copied there.entry)) (type_of of) }
+fn told_by(alloc: Global, there: Option<&CType>, of: CType) -> Result<CType, AllocError>
+    ensures { IfOk result (λ t. type_of t ≡
+        told_by (option_map type_of (option_copied there.entry)) (type_of of)) }
 {
     match (there, of) {
-        (Some(CType::Array(_, length)), CType::Array(element, _)) => CType::Array(element, *length),
-        (Some(CType::Struct(number)), CType::Struct(_)) => CType::Struct(*number),
-        (_, of) => of,
+        (Some(CType::Array(there)), CType::Array(here)) => {
+            if there.length == here.length {
+                return Ok(CType::Array(here));
+            }
+            CType::array_of(alloc, here.element.clone()?, there.length)
+        }
+        (Some(CType::Struct(number)), CType::Struct(_)) => Ok(CType::Struct(*number)),
+        (_, of) => Ok(of),
     }
 }
 
@@ -29,7 +34,7 @@ fn object_type(alloc: Global, object: u32, of: &CType, to: &Renaming) -> Result<
         type_in (renaming_of to.now) (tree.object object) (type_of of.now)) }
 {
     let here = renamed_type(alloc, of, &to.structs)?;
-    Ok(told_by(to.types.get(object as usize), here))
+    told_by(alloc, to.types.get(object as usize), here)
 }
 
 /// The type of an expression of this form.

@@ -1,5 +1,5 @@
 //! Renamings, and types under them.
-ghost use Rattle.std.specs.Prelude.{◌≡◌, IfOk, map};
+ghost use Rattle.std.specs.Prelude.{◌≡◌, true, IfOk, map};
 ghost use Rattle.sp_types.specs.View.{type_of, signature_of, shared_signature_of, types};
 ghost use Rattle.sp_renaming.specs.Renaming.{
   number_in,
@@ -7,7 +7,6 @@ ghost use Rattle.sp_renaming.specs.Renaming.{
   renamed_types,
   renamed_signature,
 };
-ghost use Rattle.sp_renaming.specs.Keeping.{keeps, keeps_signature, keeps_types};
 
 use sp_types::{CType, Signature};
 use std::alloc::{AllocError, Global};
@@ -33,14 +32,14 @@ pub(crate) fn number_in(numbers: &[u32], old: u32) -> u32
     }
 }
 
-/// Whether a type stays as it is: each struct in it keeps its number.
+/// Whether each struct in a type keeps its number: then the type stays as it is.
 #[cycle(keeps)]
 fn keeps(of: &CType, structs: &[u32]) -> bool
-    ensures { result ≡ keeps structs.now (type_of of.now) }
+    ensures { result ≡ true → renamed_type structs.now (type_of of.now) ≡ type_of of.now }
 {
     match of {
         CType::Pointer(to) => keeps(to, structs),
-        CType::Array(element, _) => keeps(element, structs),
+        CType::Array(array) => keeps(&array.element, structs),
         CType::Struct(number) => number_in(structs, *number) == *number,
         CType::Function(of) => keeps_signature(of, structs),
         CType::Void | CType::Int(_) | CType::Float(_) => true,
@@ -49,7 +48,8 @@ fn keeps(of: &CType, structs: &[u32]) -> bool
 
 #[cycle(keeps)]
 fn keeps_signature(of: &Signature, structs: &[u32]) -> bool
-    ensures { result ≡ keeps_signature structs.now (signature_of of.now) }
+    ensures { result ≡ true →
+        renamed_signature structs.now (signature_of of.now) ≡ signature_of of.now }
 {
     if !keeps(&of.result, structs) {
         return false;
@@ -62,15 +62,17 @@ fn keeps_signature(of: &Signature, structs: &[u32]) -> bool
 
 #[cycle(keeps)]
 fn keeps_all(these: &[CType], structs: &[u32]) -> bool
-    ensures { result ≡ keeps_types structs.now (types (map type_of these.now)) }
+    ensures { result ≡ true → renamed_types structs.now (types (map type_of these.now)) ≡
+        types (map type_of these.now) }
 {
-    let mut kept = true;
     let mut left = these.len();
     'these: while left > 0 {
         left -= 1;
-        kept = keeps(&these[left], structs) && kept;
+        if !keeps(&these[left], structs) {
+            return false;
+        }
     }
-    kept
+    true
 }
 
 /// A type, with its structs renamed, made anew.
@@ -83,8 +85,12 @@ fn type_anew(alloc: Global, of: &CType, structs: &[u32]) -> Result<CType, AllocE
         CType::Int(kind) => Ok(CType::Int(*kind)),
         CType::Float(kind) => Ok(CType::Float(*kind)),
         CType::Pointer(to) => CType::pointer(alloc, type_anew(alloc, to, structs)?),
-        CType::Array(element, length) => {
-            CType::array(alloc, type_anew(alloc, element, structs)?, *length)
+        CType::Array(array) => {
+            CType::array(
+                alloc,
+                type_anew(alloc, &array.element, structs)?,
+                array.length,
+            )
         }
         CType::Struct(number) => Ok(CType::Struct(number_in(structs, *number))),
         CType::Function(of) => CType::function(alloc, signature_anew(alloc, of, structs)?),
@@ -124,7 +130,6 @@ fn all_anew(alloc: Global, these: &[CType], structs: &[u32]) -> Result<Vec<CType
 }
 
 /// A type, with its structs renamed. It is shared where each struct keeps its number.
-#[tactic(auto, using(crate::proofs::Keeping::keeping))]
 pub fn renamed_type(alloc: Global, of: &CType, structs: &[u32]) -> Result<CType, AllocError>
     ensures { IfOk result (λ t. type_of t ≡ renamed_type structs.now (type_of of.now)) }
 {
@@ -135,7 +140,6 @@ pub fn renamed_type(alloc: Global, of: &CType, structs: &[u32]) -> Result<CType,
 }
 
 /// The type of a function, with its structs renamed. It is shared where each struct keeps its number.
-#[tactic(auto, using(crate::proofs::Keeping::keeping))]
 pub fn renamed_signature(
     alloc: Global,
     of: &Rc<Signature>,

@@ -54,7 +54,7 @@ fn element_of(of: Option<&CType>) -> Option<&CType>
         element_of (option_map (λ t. type_of t.now) of.entry) }
 {
     match of {
-        Some(CType::Array(element, _)) => Some(element),
+        Some(CType::Array(array)) => Some(&array.element),
         _ => None,
     }
 }

@@ -19,6 +19,7 @@
 mod meaning;
 mod scope;
 mod scopes;
+mod space;
 
 pub use meaning::{Meaning, Tag};
 pub use scope::{Scope, ScopeKind};

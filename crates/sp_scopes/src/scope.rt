@@ -5,8 +5,8 @@ ghost use Rattle.std.specs.Prelude.{◌≡◌, OnOk, OnErr, option_map};
 ghost use Rattle.std.specs.Option.{option_copied};
 ghost use Rattle.sp_scopes.specs.Scopes.{empty_scope, entry, is_block, name_added, tag_added};
 
+use crate::space::Space;
 use crate::{Meaning, Tag};
-use indexmap::IndexMap;
 use std::alloc::{AllocError, Global};
 
 /// The kinds of scopes (C90 6.1.2.1).
@@ -25,8 +25,8 @@ pub enum ScopeKind {
 #[derive(Drop)]
 pub struct Scope {
     kind: ScopeKind,
-    names: IndexMap<u32, Meaning>,
-    tags: IndexMap<u32, Tag>,
+    names: Space<Meaning>,
+    tags: Space<Tag>,
 }
 
 impl Scope {
@@ -39,8 +39,8 @@ impl Scope {
     {
         Scope {
             kind,
-            names: IndexMap::new(alloc),
-            tags: IndexMap::new(alloc),
+            names: Space::new(alloc),
+            tags: Space::new(alloc),
         }
     }
 
@@ -67,21 +67,14 @@ impl Scope {
         ensures { option_map meaning_of (option_copied result) ≡
             entry (scope_of self.now).names name }
     {
-        // Most scopes of blocks declare nothing: no hash is taken for them.
-        if self.names.is_empty() {
-            return None;
-        }
-        self.names.get(&name)
+        self.names.get(name)
     }
 
     /// What the scope has for a tag.
     pub fn tag(&self, name: u32) -> Option<Tag>
         ensures { result ≡ entry (scope_of self.now).tags name }
     {
-        if self.tags.is_empty() {
-            return None;
-        }
-        self.tags.get(&name).copied()
+        self.tags.get(name).copied()
     }
 
     /// Gives a name its meaning: a new name goes last, and one that is there takes the meaning.
@@ -90,8 +83,7 @@ impl Scope {
             name_added (scope_of self.old) name (meaning_of meaning)) }
         ensures err { OnErr result (scope_of self.new ≡ scope_of self.old) }
     {
-        self.names.insert(name, meaning)?;
-        Ok(())
+        self.names.insert(name, meaning)
     }
 
     /// The same for a tag.
@@ -99,7 +91,6 @@ impl Scope {
         ensures ok { OnOk result (scope_of self.new ≡ tag_added (scope_of self.old) name tag) }
         ensures err { OnErr result (scope_of self.new ≡ scope_of self.old) }
     {
-        self.tags.insert(name, tag)?;
-        Ok(())
+        self.tags.insert(name, tag)
     }
 }

@@ -26,11 +26,11 @@ pub(crate) fn compare(
         (CType::Int(a), CType::Int(b)) => Ok(a == b),
         (CType::Float(a), CType::Float(b)) => Ok(a == b),
         (CType::Pointer(a), CType::Pointer(b)) => compare(a, b, found),
-        (CType::Array(a, n), CType::Array(b, m)) => {
-            if !lengths_agree(*n, *m) {
+        (CType::Array(a), CType::Array(b)) => {
+            if !lengths_agree(a.length, b.length) {
                 return Ok(false);
             }
-            compare(a, b, found)
+            compare(&a.element, &b.element, found)
         }
         (CType::Struct(a), CType::Struct(b)) => {
             found.push((*a, *b))?;

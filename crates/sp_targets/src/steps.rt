@@ -30,11 +30,8 @@ pub fn keeps_targets(of: &CType) -> bool
             | IntKind::UInt,
         ) => false,
         CType::Pointer(_) => true,
-        CType::Void
-        | CType::Float(_)
-        | CType::Struct(_)
-        | CType::Array(_, _)
-        | CType::Function(_) => false,
+        CType::Void | CType::Float(_) | CType::Struct(_) | CType::Array(_) | CType::Function(_) =>
+            false,
     }
 }
 

@@ -1,5 +1,5 @@
 //! What declarators derive from a type (C90 6.5.4).
-ghost use Rattle.std.specs.Prelude.{◌≡◌, ◌+◌, suc, IfOk, map};
+ghost use Rattle.std.specs.Prelude.{◌≡◌, ◌+◌, suc, max, IfOk, map};
 ghost use Rattle.sp_types.specs.View.{type_of, signature_of, types, struct_of};
 ghost use Rattle.sp_operands.specs.Answers.{Answers};
 ghost use Rattle.sp_type_rules.specs.Derivations.{
@@ -85,93 +85,84 @@ fn derived(
     Ok(of)
 }
 
-/// One more than a number of derivations or of parts. It fails, as memory that is wanting, past
-/// 2^32 - 1 alone: no text within the limits has as many.
-fn one_more(inside: u32) -> Result<u32, AllocError>
-    ensures { IfOk result (λ n. n ≡ suc inside) }
-{
-    inside.checked_add(1).ok_or(AllocError)
+/// How many derivations lie inside one another in types, and how many parts these have: a type is
+/// one, and has those of each type that it is derived from.
+#[derive(Clone, Copy)]
+struct Measure {
+    derivations: u32,
+    parts: u32,
 }
 
-/// How many derivations lie inside one another in a type.
-#[cycle(derivations)]
-fn derivations_in(of: &CType) -> Result<u32, AllocError>
-    ensures { IfOk result (λ n. n ≡ derivations_in (type_of of.now)) }
+/// That of a type that is derived from types of this measure. It fails, as memory that is wanting,
+/// past 2^32 - 1 alone: no text within the limits has as many.
+fn one_more(inside: Measure) -> Result<Measure, AllocError>
+    ensures { IfOk result (λ m. (m.derivations ≡ suc inside.derivations) ×
+        (m.parts ≡ suc inside.parts)) }
+{
+    let derivations = inside.derivations.checked_add(1).ok_or(AllocError)?;
+    let parts = inside.parts.checked_add(1).ok_or(AllocError)?;
+    Ok(Measure { derivations, parts })
+}
+
+/// That of both beside one another. It fails as [`one_more`] does.
+fn together(a: Measure, b: Measure) -> Result<Measure, AllocError>
+    ensures { IfOk result (λ m. (m.derivations ≡ max a.derivations b.derivations) ×
+        (m.parts ≡ a.parts + b.parts)) }
+{
+    let parts = a.parts.checked_add(b.parts).ok_or(AllocError)?;
+    Ok(Measure {
+        derivations: a.derivations.max(b.derivations),
+        parts,
+    })
+}
+
+#[cycle(measured)]
+fn measured(of: &CType) -> Result<Measure, AllocError>
+    ensures { IfOk result (λ m. (m.derivations ≡ derivations_in (type_of of.now)) ×
+        (m.parts ≡ parts_in (type_of of.now))) }
 {
     match of {
-        CType::Pointer(to) => one_more(derivations_in(to)?),
-        CType::Array(element, _) => one_more(derivations_in(element)?),
-        CType::Function(signature) => one_more(derivations_in_signature(signature)?),
-        CType::Void | CType::Int(_) | CType::Float(_) | CType::Struct(_) => Ok(0),
+        CType::Pointer(to) => one_more(measured(to)?),
+        CType::Array(array) => one_more(measured(&array.element)?),
+        CType::Function(signature) => one_more(signature_measured(signature)?),
+        CType::Void | CType::Int(_) | CType::Float(_) | CType::Struct(_) => Ok(Measure {
+            derivations: 0,
+            parts: 1,
+        }),
     }
 }
 
-#[cycle(derivations)]
-fn derivations_in_signature(of: &Signature) -> Result<u32, AllocError>
-    ensures { IfOk result (λ n. n ≡ derivations_in_signature (signature_of of.now)) }
+#[cycle(measured)]
+fn signature_measured(of: &Signature) -> Result<Measure, AllocError>
+    ensures { IfOk result (λ m.
+        (m.derivations ≡ derivations_in_signature (signature_of of.now)) ×
+        (m.parts ≡ parts_in_signature (signature_of of.now))) }
 {
-    let result = derivations_in(&of.result)?;
     match &of.params {
-        None => Ok(result),
-        Some(params) => Ok(result.max(derivations_in_all(params)?)),
+        None => measured(&of.result),
+        Some(params) => {
+            let params = all_measured(params)?;
+            together(measured(&of.result)?, params)
+        }
     }
 }
 
-#[cycle(derivations)]
-fn derivations_in_all(all: &[CType]) -> Result<u32, AllocError>
-    ensures { IfOk result (λ n. n ≡ derivations_in_types (types (map type_of all.now))) }
+#[cycle(measured)]
+fn all_measured(all: &[CType]) -> Result<Measure, AllocError>
+    ensures { IfOk result (λ m.
+        (m.derivations ≡ derivations_in_types (types (map type_of all.now))) ×
+        (m.parts ≡ parts_in_types (types (map type_of all.now)))) }
 {
-    let mut most = 0;
+    let mut sum = Measure {
+        derivations: 0,
+        parts: 0,
+    };
     let mut left = all.len();
     'types: while left > 0 {
         left -= 1;
-        most = derivations_in(&all[left])?.max(most);
+        sum = together(measured(&all[left])?, sum)?;
     }
-    Ok(most)
-}
-
-/// Two numbers of parts together. It fails as [`one_more`] does.
-fn together(a: u32, b: u32) -> Result<u32, AllocError>
-    ensures { IfOk result (λ n. n ≡ a + b) }
-{
-    a.checked_add(b).ok_or(AllocError)
-}
-
-/// How many parts a type has: itself, and those of each type that it is derived from.
-#[cycle(parts)]
-fn parts_in(of: &CType) -> Result<u32, AllocError>
-    ensures { IfOk result (λ n. n ≡ parts_in (type_of of.now)) }
-{
-    match of {
-        CType::Pointer(to) => one_more(parts_in(to)?),
-        CType::Array(element, _) => one_more(parts_in(element)?),
-        CType::Function(signature) => one_more(parts_in_signature(signature)?),
-        CType::Void | CType::Int(_) | CType::Float(_) | CType::Struct(_) => Ok(1),
-    }
-}
-
-#[cycle(parts)]
-fn parts_in_signature(of: &Signature) -> Result<u32, AllocError>
-    ensures { IfOk result (λ n. n ≡ parts_in_signature (signature_of of.now)) }
-{
-    let result = parts_in(&of.result)?;
-    match &of.params {
-        None => Ok(result),
-        Some(params) => together(result, parts_in_all(params)?),
-    }
-}
-
-#[cycle(parts)]
-fn parts_in_all(all: &[CType]) -> Result<u32, AllocError>
-    ensures { IfOk result (λ n. n ≡ parts_in_types (types (map type_of all.now))) }
-{
-    let mut parts = 0;
-    let mut left = all.len();
-    'types: while left > 0 {
-        left -= 1;
-        parts = together(parts_in(&all[left])?, parts)?;
-    }
-    Ok(parts)
+    Ok(sum)
 }
 
 /// The type that the derivations of a whole declarator make of a base, or what [`derived`] refuses.
@@ -188,10 +179,11 @@ pub fn made(
         (map derivation_of derivations.items) (type_of base)) result }
 {
     let of = derived(alloc, structs, derivations, base)?;
-    if derivations_in(&of)? > MAX_DERIVATIONS {
+    let measure = measured(&of)?;
+    if measure.derivations > MAX_DERIVATIONS {
         return fault(FaultKind::M2, place);
     }
-    if parts_in(&of)? > MAX_PARTS {
+    if measure.parts > MAX_PARTS {
         return fault(FaultKind::M10, place);
     }
     Ok(of)

@@ -1,8 +1,7 @@
 -- The plain typed tree that a value of the code stands for.
-use Rattle.std.specs.Prelude.{ℕ, List, [], ◌∷◌, map, Option, Some, None, Vec, option_map}
+use Rattle.std.specs.Prelude.{List, [], ◌∷◌, Option, Some, None, option_map}
 use Rattle.std.specs.declared.alloc.Global.{Global}
 use Rattle.std.specs.declared.boxed.Box.{Box}
-use Rattle.sp_types.specs.Types.{CType}
 use Rattle.sp_types.specs.View.{type_of}
 use Rattle.sp_types.specs.Typed.{Typed, typed, TypedForm, number, character, constant, object, function, convert, decay, index, call, member, arrow, after, unary, cast, binary, choice, assign, comma, TypedList, no_typed, next_typed}
 use Rattle.sp_types.specs.Statements.{TypedStatement, typed_statement, TypedStatementForm, label, case_of, default_of, block, empty, single, if_else, switch_on, while_loop, do_loop, for_loop, goto_name, continue_loop, break_out, return_value, MaybeTypedStatement, no_statement, some_statement, TypedStatements, no_statements, next_statement}

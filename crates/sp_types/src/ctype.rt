@@ -13,11 +13,19 @@ pub enum CType {
     Int(IntKind),
     Float(FloatKind),
     Pointer(Rc<CType>),
-    /// The type of its elements, and how many it has where that is known.
-    Array(Rc<CType>, Option<u64>),
+    Array(Rc<ArrayType>),
     /// A struct or a union, by its number in the table of structs.
     Struct(u32),
     Function(Rc<Signature>),
+}
+
+/// The type of an array (C90 6.5.4.2): that of its elements, and how many it has where that is
+/// known.
+#[derive(Drop)]
+#[cycle(ctype)]
+pub struct ArrayType {
+    pub element: Rc<CType>,
+    pub length: Option<u64>,
 }
 
 /// The type of a function (C90 6.5.4.3): its result, its parameters where it has a prototype, and whether more arguments may

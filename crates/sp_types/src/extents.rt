@@ -67,11 +67,11 @@ pub fn layout(of: &CType, structs: &[StructType]) -> Option<Extent>
     ensures { result ≡ layout (map struct_of structs.now) (type_of of.now) }
 {
     match of {
-        CType::Void | CType::Function(_) | CType::Array(_, None) => None,
+        CType::Void | CType::Function(_) => None,
         CType::Int(kind) => Some(of_kind(*kind)),
         CType::Float(kind) => Some(of_float(*kind)),
         CType::Pointer(_) => Some(Extent { size: 8, align: 8 }),
-        CType::Array(element, Some(length)) => { repeated(*length, layout(element, structs)?) }
+        CType::Array(array) => repeated(array.length?, layout(&array.element, structs)?),
         CType::Struct(number) => extent_of(structs, *number),
     }
 }

@@ -27,7 +27,7 @@ mod structs;
 mod typed;
 
 pub use compatibility::{compatible, convertible, same};
-pub use ctype::{CType, FloatKind, IntKind, Signature, common, promote};
+pub use ctype::{ArrayType, CType, FloatKind, IntKind, Signature, common, promote};
 pub use extents::{Extent, MAX_SIZE, layout};
 pub use program::{FunctionDef, Linkage, ObjectDef, Program, Storage};
 pub use statement::{TypedStatement, TypedStatementForm};

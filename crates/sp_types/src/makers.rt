@@ -1,9 +1,9 @@
 //! Makers of types, and what is read of them.
 ghost use Rattle.std.specs.Prelude.{◌≡◌, IfOk, map, option_map};
 ghost use Rattle.sp_types.specs.Types.{pointer, array, function, result_of, parameters_of, is_variadic};
-ghost use Rattle.sp_types.specs.View.{type_of, signature_of, told};
+ghost use Rattle.sp_types.specs.View.{type_of, signature_of, shared_signature_of, told};
 
-use crate::{CType, Signature};
+use crate::{ArrayType, CType, Signature};
 use std::alloc::{AllocError, Global};
 use std::rc::Rc;
 
@@ -17,7 +17,7 @@ impl CType {
             CType::Int(kind) => Ok(CType::Int(*kind)),
             CType::Float(kind) => Ok(CType::Float(*kind)),
             CType::Pointer(to) => Ok(CType::Pointer(to.clone()?)),
-            CType::Array(element, length) => Ok(CType::Array(element.clone()?, *length)),
+            CType::Array(of) => Ok(CType::Array(of.clone()?)),
             CType::Struct(number) => Ok(CType::Struct(*number)),
             CType::Function(of) => Ok(CType::Function(of.clone()?)),
         }
@@ -34,35 +34,32 @@ impl CType {
     pub fn array(alloc: Global, element: CType, length: Option<u64>) -> Result<CType, AllocError>
         ensures { IfOk result (λ t. type_of t ≡ array (type_of element) length) }
     {
-        Ok(CType::Array(Rc::new(alloc, element)?, length))
+        CType::array_of(alloc, Rc::new(alloc, element)?, length)
+    }
+
+    /// The same of a type that is shared.
+    pub fn array_of(
+        alloc: Global,
+        element: Rc<CType>,
+        length: Option<u64>,
+    ) -> Result<CType, AllocError>
+        ensures { IfOk result (λ t. type_of t ≡ array (type_of element.value) length) }
+    {
+        Ok(CType::Array(Rc::new(alloc, ArrayType { element, length })?))
     }
 
     /// A function of the signature.
     pub fn function(alloc: Global, of: Signature) -> Result<CType, AllocError>
         ensures { IfOk result (λ t. type_of t ≡ function (signature_of of)) }
     {
-        Ok(CType::Function(Rc::new(alloc, of)?))
+        Ok(CType::function_of(Rc::new(alloc, of)?))
     }
-}
 
-impl Signature {
-    /// The same signature again.
-    pub fn copy(&self, alloc: Global) -> Result<Signature, AllocError>
-        ensures { IfOk result (λ s. signature_of s ≡ signature_of self.now) }
+    /// The same of a signature that is shared.
+    pub fn function_of(of: Rc<Signature>) -> CType
+        ensures { type_of result ≡ function (shared_signature_of of) }
     {
-        let result = self.result.copy(alloc)?;
-        match &self.params {
-            None => Ok(Signature {
-                result,
-                params: None,
-                variadic: self.variadic,
-            }),
-            Some(params) => Ok(Signature {
-                result,
-                params: Some(copy_all(alloc, params)?),
-                variadic: self.variadic,
-            }),
-        }
+        CType::Function(of)
     }
 }
 
@@ -90,14 +87,4 @@ impl Signature {
             Some(params) => Some(params.as_slice()),
         }
     }
-}
-
-fn copy_all(alloc: Global, types: &[CType]) -> Result<Vec<CType>, AllocError>
-    ensures { IfOk result (λ all. map type_of all.items ≡ map type_of types.now) }
-{
-    let mut all = Vec::with_capacity(alloc, types.len())?;
-    'types: for (i, t) in types.iter().enumerate() {
-        all.push(t.copy(alloc)?)?;
-    }
-    Ok(all)
 }

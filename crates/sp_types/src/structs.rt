@@ -40,7 +40,7 @@ pub fn height(of: &CType, structs: &[StructType]) -> u32
     ensures { result ≡ height (map struct_of structs.now) (type_of of.now) }
 {
     match of {
-        CType::Array(element, _) => height(element, structs),
+        CType::Array(array) => height(&array.element, structs),
         CType::Struct(number) => height_of(structs, *number),
         CType::Void | CType::Int(_) | CType::Float(_) | CType::Pointer(_) | CType::Function(_) => 0,
     }
@@ -68,9 +68,12 @@ pub fn leaves(of: &CType, structs: &[StructType]) -> u64
 {
     match of {
         CType::Int(_) | CType::Float(_) | CType::Pointer(_) => 1,
-        CType::Array(element, Some(length)) => times(*length, leaves(element, structs)),
+        CType::Array(array) => match array.length {
+            Some(length) => times(length, leaves(&array.element, structs)),
+            None => 0,
+        },
         CType::Struct(number) => leaves_of(structs, *number),
-        CType::Array(_, None) | CType::Void | CType::Function(_) => 0,
+        CType::Void | CType::Function(_) => 0,
     }
 }
 
@@ -89,7 +92,7 @@ pub fn cells(of: &CType, structs: &[StructType]) -> u64
 {
     match of {
         CType::Int(_) | CType::Pointer(_) => 1,
-        CType::Array(element, _) => cells(element, structs),
+        CType::Array(array) => cells(&array.element, structs),
         CType::Struct(number) => cells_of(structs, *number),
         CType::Float(_) | CType::Void | CType::Function(_) => 0,
     }

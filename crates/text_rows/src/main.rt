@@ -1,17 +1,11 @@
-//! Rows on types, and from the texts of a program to its supergraph.
+//! Rows from the texts of a program to its supergraph.
 //!
-//! Each line of standard input is a row: the name of a call, and what it is given, each field behind a
-//! tab. The answer is a line of standard output. The calls on types stand in `type_calls`; the others
-//! are given the texts of a program. The files have the names `a.c`, `b.c` and `c.c`. In texts `\n`,
-//! `\t`, `\r`, `\\` and `\xHH` stand for those bytes. The answer is the first fault with its place,
-//! or what the call tells.
+//! Each line of standard input is a row: the name of a call, and the texts, each behind a tab. The
+//! answer is a line of standard output. The files have the names `a.c`, `b.c` and `c.c`. In texts
+//! `\n`, `\t`, `\r`, `\\` and `\xHH` stand for those bytes. The answer is the first fault with its
+//! place, or what the call tells.
 //!
 //! ```text
-//! check    whether the one text is a checked unit: ok
-//! tables   how much is in its tables
-//! judge    whether the texts are a program: ok
-//! link     the tables of the program: its structs by number, its objects with their storage, type
-//!          and constant start values by leaf, its functions, the number of main, the constants
 //! lower    its lowering
 //! built    how much there is of each part of that for one long text: each of its pieces stands
 //!          behind a number and a blank, and is repeated so often; % in it is how often it came before
@@ -47,11 +41,6 @@ mod commands;
 mod expressions;
 mod graph;
 mod lowered;
-mod programs;
-mod tables;
-mod type_calls;
-mod types;
-mod units;
 mod words;
 
 ghost use Rattle.sp_ir.specs.Programs as ir;
@@ -95,17 +84,10 @@ fn answer_for(alloc: Global, part: Part, texts: &[Vec<u8>]) -> Result<String, Al
 fn answer(alloc: Global, row: &str) -> Result<String, AllocError> {
     let (call, fields) = row.split_once('\t').unwrap_or((row, ""));
     match call {
-        "check" => units::checked(alloc, fields),
-        "tables" => units::tables(alloc, fields),
-        "judge" => programs::judged(alloc, fields),
-        "link" => programs::linked(alloc, fields),
         "lower" => answer_for(alloc, Part::Whole, &texts_of(alloc, fields)?),
         "built" => answer_for(alloc, Part::Counts, &text_of_pieces(alloc, fields)?),
         "graph" => answer_for(alloc, Part::Graph, &texts_of(alloc, fields)?),
-        _ => match type_calls::answer(alloc, call, fields)? {
-            Some(answer) => Ok(answer),
-            None => format!(in alloc; "no call {call:?}, or no types for it"),
-        },
+        _ => format!(in alloc; "no call {call:?}"),
     }
 }
 

@@ -34,9 +34,9 @@ pub fn add_type(line: &mut String, of: &CType) -> Result<(), AllocError> {
         CType::Pointer(_) => line.push_str("ptr"),
         CType::Struct(_) => line.push_str("struct"),
         CType::Function(_) => line.push_str("fun"),
-        CType::Array(element, length) => {
-            add_type(line, element)?;
-            add_length(line, *length)
+        CType::Array(array) => {
+            add_type(line, &array.element)?;
+            add_length(line, array.length)
         }
     }
 }

@@ -1,10 +1,20 @@
-//! Rows on types. A type is written as words behind what they apply to: `int ptr`, `int 3 array`, `char - array` without a
-//! length, `0 struct`, `int fn` without a prototype, `int char fn1` with one parameter, `int char fn1...` with more behind it.
+//! Rows on types.
+//!
+//! Each line of standard input is a row: the name of a call, and one type or two, each behind a tab.
+//! The answer is a line of standard output. The calls are those of `sp_types`; `counts` tells how
+//! many structs lie inside one another, the leaves and the cells; `copy` whether a copy is the same.
+//!
+//! A type is written as words behind what they apply to: `int ptr`, `int 3 array`, `char - array`
+//! without a length, `0 struct`, `int fn` without a prototype, `int char fn1` with one parameter,
+//! `int char fn1...` with more behind it.
+#![tactic(auto)]
+
 use sp_types::{
     CType, Extent, FloatKind, IntKind, Signature, StructType, cells, common, compatible,
     convertible, height, layout, leaves, promote, same,
 };
 use std::alloc::{AllocError, Global};
+use std::io::{self, BufRead, BufReader};
 
 fn kind_of(word: &str) -> Option<IntKind> {
     Some(match word {
@@ -185,7 +195,7 @@ fn two(
 }
 
 /// The answer to a call on one type or two, or `None` where it isn't one.
-pub fn answer(alloc: Global, call: &str, given: &str) -> Result<Option<String>, AllocError> {
+fn answered(alloc: Global, call: &str, given: &str) -> Result<Option<String>, AllocError> {
     let Some((left, right)) = given.split_once('\t') else {
         let Some(of) = type_of(alloc, given)? else {
             return Ok(None);
@@ -199,4 +209,21 @@ pub fn answer(alloc: Global, call: &str, given: &str) -> Result<Option<String>, 
         return Ok(None);
     };
     two(alloc, call, &left, &right)
+}
+
+/// The answer to a row.
+fn answer(alloc: Global, row: &str) -> Result<String, AllocError> {
+    let (call, given) = row.split_once('\t').unwrap_or((row, ""));
+    match answered(alloc, call, given)? {
+        Some(answer) => Ok(answer),
+        None => format!(in alloc; "no call {call:?}, or no types for it"),
+    }
+}
+
+fn main(rt: HostRuntime) -> io::Result<()> {
+    let rows = BufReader::new(rt.alloc(), rt.reader())?;
+    for row in rows.lines(rt.alloc()) {
+        println!(rt; "{}", answer(rt.alloc(), row?.as_str())?)?;
+    }
+    Ok(())
 }

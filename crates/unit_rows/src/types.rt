@@ -49,9 +49,9 @@ pub fn show_type(of: &CType, left: u32, line: &mut String) -> Result<(), AllocEr
             line.push_str("*")?;
             show_type(to, left - 1, line)
         }
-        CType::Array(element, length) => {
-            show_length(*length, line)?;
-            show_type(element, left - 1, line)
+        CType::Array(array) => {
+            show_length(array.length, line)?;
+            show_type(&array.element, left - 1, line)
         }
         CType::Struct(number) => write!(line, "s{number}"),
         CType::Function(signature) => show_signature(signature, left - 1, line),
