@@ -53,5 +53,5 @@ pub fn checked_unit(
 ) -> Result<CheckedUnit, CheckError> {
     let tokens = tokens_of(alloc, name, text, names)?;
     let unit = tree_of(alloc, &tokens)?;
-    check_unit(alloc, &unit, names)
+    check_unit(alloc, unit, names)
 }

@@ -114,7 +114,7 @@ fn form_value(kind: IntKind, form: &TypedForm) -> Option<i128>
     match form {
         TypedForm::Number(n) => within(kind, n.value as i128),
         TypedForm::Char(z) => within(kind, *z as i128),
-        TypedForm::Constant(z) => within(kind, *z),
+        TypedForm::Constant(value) => within(kind, value.get()),
         TypedForm::Convert(e) | TypedForm::Cast(e) => within(kind, constant_value(e)?),
         TypedForm::Unary(operator, e) => negated(kind, *operator, constant_value(e)?),
         TypedForm::Binary(operator, a, b) => {

@@ -1,6 +1,5 @@
 -- Definitions of functions, and the external declarations of a unit in order (C90 6.7).
-use Rattle.std.specs.Prelude.{ℕ, List, [], ◌∷◌, ◌++◌, Option, Some, None, slice_get}
-use Rattle.sp_tree.specs.declared.fault.Place.{Place}
+use Rattle.std.specs.Prelude.{◌≡◌, ℕ, List, [], ◌∷◌, ◌++◌, Option, Some, None, slice_get}
 use Rattle.sp_syntax.specs.Syntax.{Specifiers, Declarator, Statement, External, definition, external_declaration, semicolon}
 use Rattle.sp_types.specs.Types.{result_of}
 use Rattle.sp_types.specs.Programs.{Function}
@@ -11,6 +10,7 @@ use Rattle.sp_declarations.specs.Declarations.{declaration_checked}
 use Rattle.sp_statement_rules.specs.Blocks.{locals_in}
 use Rattle.sp_statement_check.specs.Statements.{body_checked}
 use Rattle.sp_heads.specs.Heads.{Head, head_checked}
+use Rattle.sp_tentative.specs.Tentative.{open_tentative}
 
 -- 6.7.1: the function with its body, at the place of its name in the definition
 abbrev pub defined : Function → Head → TypedStatement → Function
@@ -39,3 +39,15 @@ external_checked names env ns semicolon = accepted (ns, env)
 abbrev pub externals_checked : List (List ℕ) → Env → List ℕ → List External → Checked (List ℕ × Env)
 externals_checked names env ns [] = accepted (ns, env)
 externals_checked names env ns (e ∷ es) = and_then (external_checked names env ns e) (λ x. externals_checked names x.1 x.0 es)
+
+-- ---- what a unit keeps of them
+
+-- a definition is read once
+abbrev pub kept_of : External → External
+kept_of (definition ss d s) = semicolon
+kept_of (external_declaration d) = external_declaration d
+kept_of semicolon = semicolon
+
+-- the same tentative definitions stay open, whatever the environment at the end
+abbrev pub SameOpen : List External → List External → Type 0
+SameOpen us vs = (env : Env) → open_tentative env us ≡ open_tentative env vs

@@ -127,20 +127,32 @@ fn external_checked(
     }
 }
 
-/// The external declarations of a unit: the functions that they define.
+/// Drops a definition of a function, which is not read again.
+fn drop_definition(external: &mut External)
+    ensures { external_of external.new ≡ rules.kept_of (external_of external.old) }
+{
+    if let External::Function(..) = external {
+        *external = External::Empty;
+    }
+}
+
+/// The external declarations of a unit: the functions that they define. Each definition is dropped
+/// when it is checked, so that the typed trees of the next one take its place in memory.
 pub(crate) fn externals_checked(
     alloc: Global,
     env: &mut Env,
     names: &Names,
-    externals: &[External],
+    externals: &mut [External],
 ) -> Result<Vec<u32>, CheckError>
-    ensures { AnswersIn (λ ns. ns.items)
-        (rules.externals_checked names.now (env_of env.old) [] (externals_of externals.now))
+    ensures answer { AnswersIn (λ ns. ns.items)
+        (rules.externals_checked names.now (env_of env.old) [] (externals_of externals.old))
         (env_of env.new) result }
+    ensures kept { rules.SameOpen (externals_of externals.new) (externals_of externals.old) }
 {
     let mut defined = Vec::new(alloc);
-    'externals: for (i, external) in externals.iter().enumerate() {
+    for external in externals.iter_mut() {
         defined = external_checked(alloc, env, names, defined, external)?;
+        drop_definition(external);
     }
     Ok(defined)
 }

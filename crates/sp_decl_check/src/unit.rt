@@ -43,12 +43,14 @@ fn unit_told(
     })
 }
 
-/// A checked unit, or its fault (C90 6.7). `names` tells the bytes of each name.
-pub fn check_unit(alloc: Global, unit: &Unit, names: &Names) -> Result<CheckedUnit, CheckError>
+/// A checked unit, or its fault (C90 6.7). `names` tells the bytes of each name. The tree is dropped
+/// bit by bit, each function when it is checked.
+pub fn check_unit(alloc: Global, unit: Unit, names: &Names) -> Result<CheckedUnit, CheckError>
     ensures { Answers checked_unit_of
-        (unit_checked names.now (externals_of unit.now.items.items)) result }
+        (unit_checked names.now (externals_of unit.items.items)) result }
 {
+    let mut externals = unit.items;
     let mut env = Env::new(alloc);
-    let defined = externals_checked(alloc, &mut env, names, &unit.items)?;
-    unit_told(alloc, env, defined, &unit.items)
+    let defined = externals_checked(alloc, &mut env, names, &mut externals)?;
+    unit_told(alloc, env, defined, &externals)
 }

@@ -3,7 +3,7 @@ use Rattle.std.proofs.Common.{◌≡◌, ◌≢◌, ◌⊎◌, inl, inr, ℕ, �
 use Rattle.std.proofs.lemmas.Bool.{false≢true}
 use Rattle.std.proofs.lemmas.List.{length_push, get_or_append_left, get_or_push}
 use Rattle.std.proofs.lemmas.List.Elements.{All-push}
-use Rattle.sp_lattice.specs.System.{Meaning, AllBelow, has}
+use Rattle.sp_lattice.specs.System.{Meaning, has}
 use Rattle.sp_lattice.specs.Flat.{row_at}
 use Rattle.sp_deps.specs.inner.Grouped.{added}
 use Rattle.sp_deps.specs.inner.Stretches.{Follows, IsHead, AreHeads, HasTouching, AreReady}

@@ -9,8 +9,8 @@ use Rattle.sp_lattice.specs.Lattice.{Order}
 use Rattle.sp_lattice.specs.System.{Meaning, IsSystem, AllBelow, has}
 use Rattle.sp_lattice.specs.Dependency.{Passing, Path, direct, onward}
 use Rattle.sp_lattice.proofs.Paths.{prepend}
-use Rattle.sp_deps.specs.inner.Stretches.{Follows, IsHead, AreHeads, IsSkip, AreReady}
-use Rattle.sp_deps.specs.inner.Walk.{reached, IsListed, IsFresh, AreMarked, Reaches, IsFound, IsFinding, AreKnown, StepsBack, GoesBehind}
+use Rattle.sp_deps.specs.inner.Stretches.{Follows, IsHead, AreHeads, IsSkip}
+use Rattle.sp_deps.specs.inner.Walk.{reached, IsListed, IsFresh, AreMarked, Reaches, IsFound, IsFinding, AreKnown, GoesBehind}
 use Rattle.sp_deps.specs.declared.earlier.Earlier.{Earlier}
 use Rattle.sp_deps.specs.declared.walk.Walk.{Walk}
 use Rattle.sp_deps.proofs.Lists.{which, eqb-refl, has-push, has-take_more, has-get_or, mark-set, mark_low, distinct-push, short}

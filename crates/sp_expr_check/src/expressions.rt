@@ -53,6 +53,7 @@ ghost use Rattle.sp_expr_steps.specs.Expressions.{
   constants_in,
   items_in,
   arguments_of,
+  is_indexed_or_called,
   is_operation,
   joins_operands,
   one_checked,
@@ -112,7 +113,8 @@ pub(crate) fn value_checked(
     as_value(alloc, env, expr.place, e)
 }
 
-/// Names, literals, indices and calls; the other forms are taken in two groups behind.
+/// Names, literals and parentheses; the other forms are taken in three groups behind. A function has
+/// room for all that any of its arms has at hand, and most expressions are names and literals.
 #[tactic(auto, using(crate::proofs::Places::places))]
 #[cycle(expression)]
 fn form(
@@ -133,6 +135,40 @@ fn form(
         ExprForm::Char(value) => character_checked(alloc, env, *value, place, mark),
         ExprForm::Text(parts) => text_checked(alloc, env, names, parts, place, mark),
         ExprForm::Paren(inner) => checked(alloc, env, names, inner),
+        ExprForm::Index(_, _) | ExprForm::Call(_, _) => {
+            indexed_or_called(alloc, env, names, place, mark, form)
+        }
+        ExprForm::Binary(_, _, _)
+        | ExprForm::Choice(_, _, _)
+        | ExprForm::Assign(_, _, _)
+        | ExprForm::Comma(_, _) => joined(alloc, env, names, place, mark, form),
+        ExprForm::Member(_, _)
+        | ExprForm::Arrow(_, _)
+        | ExprForm::After(_, _)
+        | ExprForm::Unary(_, _)
+        | ExprForm::SizeofExpr(_)
+        | ExprForm::SizeofType(_)
+        | ExprForm::Cast(_, _) => operation(alloc, env, names, place, mark, form),
+    }
+}
+
+/// Indices and calls.
+#[tactic(auto, using(crate::proofs::Places::places))]
+#[cycle(expression)]
+fn indexed_or_called(
+    alloc: Global,
+    env: &mut Env,
+    names: &Names,
+    place: Place,
+    mark: Place,
+    form: &ExprForm,
+) -> Result<Box<TypedExpr>, CheckError>
+    requires { is_indexed_or_called (form_of form.now) ≡ true }
+    ensures { AnswersIn boxed_of
+        (form_checked names.now (env_of env.old) place mark (form_of form.now))
+        (env_of env.new) result }
+{
+    match form {
         ExprForm::Index(a, b) => {
             let a = value_checked(alloc, env, names, a)?;
             let b = value_checked(alloc, env, names, b);
@@ -147,17 +183,7 @@ fn form(
             let arguments = arguments_checked(alloc, form, env, names, &signature);
             call_made(alloc, env, place, mark, signature, callee, arguments)
         }
-        ExprForm::Binary(_, _, _)
-        | ExprForm::Choice(_, _, _)
-        | ExprForm::Assign(_, _, _)
-        | ExprForm::Comma(_, _) => joined(alloc, env, names, place, mark, form),
-        ExprForm::Member(_, _)
-        | ExprForm::Arrow(_, _)
-        | ExprForm::After(_, _)
-        | ExprForm::Unary(_, _)
-        | ExprForm::SizeofExpr(_)
-        | ExprForm::SizeofType(_)
-        | ExprForm::Cast(_, _) => operation(alloc, env, names, place, mark, form),
+        _ => fault(FaultKind::F14, place),
     }
 }
 

@@ -40,7 +40,12 @@ abbrev pub arguments_of : ExpressionForm → Expressions
 arguments_of (syntax.call f es) = es
 arguments_of f = no_expressions
 
--- the forms of one operand, and those of several
+-- an index or a call, the forms of one operand, and those of several
+abbrev pub is_indexed_or_called : ExpressionForm → Bool
+is_indexed_or_called (syntax.index a b) = true
+is_indexed_or_called (syntax.call f es) = true
+is_indexed_or_called f = false
+
 abbrev pub is_operation : ExpressionForm → Bool
 is_operation (syntax.member e n) = true
 is_operation (syntax.arrow e n) = true

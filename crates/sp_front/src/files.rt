@@ -56,13 +56,14 @@ fn tokens_of(
     Ok(tokens)
 }
 
-/// The unit that the tokens of a file are.
-fn unit_of(alloc: Global, tokens: &[Token], names: &Names) -> Result<CheckedUnit, FrontError>
-    requires { IsEnded tokens.now }
-    ensures { GivesUnit tokens.now names.now result }
+/// The unit that the tokens of a file are. Once they are parsed, they are dropped.
+fn unit_of(alloc: Global, tokens: Vec<Token>, names: &Names) -> Result<CheckedUnit, FrontError>
+    requires { IsEnded tokens.items }
+    ensures { GivesUnit tokens.items names.now result }
 {
-    let unit = parse_unit(alloc, tokens)?;
-    let checked = check_unit(alloc, &unit, names)?;
+    let unit = parse_unit(alloc, &tokens)?;
+    drop(tokens);
+    let checked = check_unit(alloc, unit, names)?;
     Ok(checked)
 }
 
@@ -89,8 +90,8 @@ fn read_file(
     ensures count { length names.new ≤ length names.old + length (source_of source.now).text + 1 }
 {
     let tokens = tokens_of(alloc, source, room, names)?;
-    let unit = unit_of(alloc, &tokens, names)?;
     let room = room_after(room, &tokens);
+    let unit = unit_of(alloc, tokens, names)?;
     Ok(ReadFile { unit, room })
 }
 

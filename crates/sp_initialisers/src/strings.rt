@@ -32,7 +32,7 @@ ghost use Rattle.sp_initialisers.specs.Strings.{
 use sp_operands::{CheckError, fault};
 use sp_syntax::{Expr, ExprForm, Init};
 use sp_tree::{FaultKind, Names, Place};
-use sp_types::{CType, IntKind, TypedExpr, TypedForm};
+use sp_types::{CType, IntKind, TypedExpr, TypedForm, WideInt};
 use std::alloc::{AllocError, Global};
 
 fn is_character_kind(kind: IntKind) -> bool
@@ -216,7 +216,7 @@ fn characters_added(
 {
     let mut number = from;
     'bytes: for (i, byte) in bytes.iter().enumerate() {
-        let form = TypedForm::Constant(character_value(kind, *byte));
+        let form = TypedForm::Constant(WideInt::new(character_value(kind, *byte)));
         all.push((
             number,
             TypedExpr::leaf(form, CType::Int(kind), place, place),

@@ -45,7 +45,7 @@ pub(crate) fn completed(alloc: Global, of: &CType) -> Result<CType, AllocError>
 {
     match of {
         CType::Array(array) => match array.length {
-            None => CType::array_of(alloc, array.element.clone()?, Some(1)),
+            None => CType::shared_array(alloc, array.element.clone()?, Some(1)),
             Some(_) => of.copy(alloc),
         },
         CType::Void

@@ -1,9 +1,9 @@
 //! Expressions without operands.
 ghost use Rattle.std.specs.Prelude.{◌≡◌, IfOk, pos, map, slice_get, ◌+◌, length};
-ghost use Rattle.sp_types.specs.Types.{void, function};
+ghost use Rattle.sp_types.specs.Types.{void};
 ghost use Rattle.sp_types.specs.Typed.{of};
 ghost use Rattle.sp_types.specs.Programs.{object_of, function_of};
-ghost use Rattle.sp_types.specs.View.{type_of, shared_signature_of};
+ghost use Rattle.sp_types.specs.View.{type_of};
 ghost use Rattle.sp_types.specs.TypedView.{typed_of};
 ghost use Rattle.sp_ir.specs.Commands.{number, direct};
 ghost use Rattle.sp_ir.specs.View.{expression_of, lvalue_of};
@@ -66,7 +66,7 @@ fn type_of_function(functions: &[FunctionDef], number: u32) -> Result<CType, All
         type_of_function (slice_get (map function_of functions.now) number)) }
 {
     match functions.get(number as usize) {
-        Some(function) => Ok(CType::function_of(function.of.clone()?)),
+        Some(function) => Ok(CType::shared_function(function.of.clone()?)),
         None => Ok(no_type()),
     }
 }

@@ -68,7 +68,7 @@ pub fn value(
     match &e.form {
         TypedForm::Number(number) => Ok(constant(e, i128::from(number.value))),
         TypedForm::Char(value) => Ok(constant(e, i128::from(*value))),
-        TypedForm::Constant(value) => Ok(constant(e, *value)),
+        TypedForm::Constant(value) => Ok(constant(e, value.get())),
         TypedForm::Object(_)
         | TypedForm::Function(_)
         | TypedForm::Index(..)

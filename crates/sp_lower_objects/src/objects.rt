@@ -284,7 +284,7 @@ fn function_object(
     ensures { IfOk result (λ o. object_of o ≡
         function_object names.now codes.now number (function_of function.now)) }
 {
-    let of = CType::function_of(function.of.clone()?);
+    let of = CType::shared_function(function.of.clone()?);
     let name = Vec::from_slice(alloc, name_at(names, function.name))?;
     Ok(plain_function(alloc, number, of, name, mark_at(codes, number as usize)))
 }

@@ -10,7 +10,7 @@ ghost use Rattle.sp_names.specs.Literals.{number_checked, character_checked, siz
 use sp_env::Env;
 use sp_operands::{CheckError, fault};
 use sp_tree::{FaultKind, Number, Place};
-use sp_types::{CType, IntKind, TypedExpr, TypedForm, layout};
+use sp_types::{CType, IntKind, TypedExpr, TypedForm, WideInt, layout};
 use std::alloc::Global;
 
 const MAX_INT: u64 = 2147483647;
@@ -95,5 +95,11 @@ pub fn size_checked(
     let size = extent.size as i128;
     env.add_constant(size)?;
     let kind = CType::Int(IntKind::ULong);
-    Ok(TypedExpr::boxed(alloc, TypedForm::Constant(size), kind, place, mark)?)
+    Ok(TypedExpr::boxed(
+        alloc,
+        TypedForm::Constant(WideInt::new(size)),
+        kind,
+        place,
+        mark,
+    )?)
 }

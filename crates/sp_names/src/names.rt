@@ -14,7 +14,7 @@ use sp_env::Env;
 use sp_operands::{CheckError, fault};
 use sp_scopes::Meaning;
 use sp_tree::{FaultKind, Names, Place};
-use sp_types::{CType, IntKind, Signature, TypedExpr, TypedForm};
+use sp_types::{CType, IntKind, Signature, TypedExpr, TypedForm, WideInt};
 use std::alloc::Global;
 use std::rc::Rc;
 
@@ -68,7 +68,13 @@ fn designated(
         }
         Some(Meaning::Constant(value)) => {
             let of = CType::Int(IntKind::Int);
-            Ok(TypedExpr::boxed(alloc, TypedForm::Constant(*value), of, place, place)?)
+            Ok(TypedExpr::boxed(
+                alloc,
+                TypedForm::Constant(WideInt::new(*value)),
+                of,
+                place,
+                place,
+            )?)
         }
         _ => fault(FaultKind::F8, place),
     }

@@ -17,7 +17,9 @@ use crate::names::bytes_of;
 use sp_env::Env;
 use sp_operands::{CheckError, fault};
 use sp_tree::{FaultKind, Names, Place};
-use sp_types::{CType, IntKind, Linkage, MAX_SIZE, ObjectDef, Storage, TypedExpr, TypedForm};
+use sp_types::{
+    CType, IntKind, Linkage, MAX_SIZE, ObjectDef, Storage, TypedExpr, TypedForm, WideInt,
+};
 use std::alloc::{AllocError, Global};
 
 /// The bytes of adjacent literals.
@@ -53,7 +55,7 @@ fn characters(
 {
     let mut leaves = Vec::with_capacity(alloc, bytes.len())?;
     'bytes: for (i, byte) in bytes.iter().enumerate() {
-        let form = TypedForm::Constant(character_value(kind, *byte));
+        let form = TypedForm::Constant(WideInt::new(character_value(kind, *byte)));
         let value = TypedExpr::leaf(form, CType::Int(kind), place, place);
         leaves.push((i as u64, value))?;
     }

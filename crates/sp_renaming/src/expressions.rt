@@ -21,7 +21,7 @@ fn told_by(alloc: Global, there: Option<&CType>, of: CType) -> Result<CType, All
             if there.length == here.length {
                 return Ok(CType::Array(here));
             }
-            CType::array_of(alloc, here.element.clone()?, there.length)
+            CType::shared_array(alloc, here.element.clone()?, there.length)
         }
         (Some(CType::Struct(number)), CType::Struct(_)) => Ok(CType::Struct(*number)),
         (_, of) => Ok(of),

@@ -42,11 +42,6 @@ abbrev pub or_else : {A : Type 0} → Option A → Option A → Option A
 or_else (Some x) other = Some x
 or_else None other = other
 
--- what is handed back where a name isn't there
-abbrev pub unless_there : {A : Type 0} → Option A → A → Option A
-unless_there (Some old) new = None
-unless_there None new = Some new
-
 -- the innermost of these scopes that has the name tells its meaning
 abbrev pub meaning_in : List Scope → ℕ → Option Meaning
 meaning_in [] n = None

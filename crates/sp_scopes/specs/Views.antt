@@ -1,5 +1,5 @@
 -- What the scopes of the code stand for.
-use Rattle.std.specs.Prelude.{ℕ, List, [], ◌++◌, Option, Some, None, map, reverse}
+use Rattle.std.specs.Prelude.{ℕ, List, [], ◌++◌, Option, Some, None, Result, Ok, Err, map, reverse}
 use Rattle.std.specs.declared.alloc.Global.{Global}
 use Rattle.std.specs.declared.boxed.Box.{Box}
 use Rattle.indexmap.specs.IndexMap.{IndexMap}
@@ -22,3 +22,8 @@ scope_of s = record { kind = s.kind; names = map named_meaning (entries_of s.nam
 
 unfoldable pub scopes_of : CodeScopes → Scopes
 scopes_of s = record { inner = scope_of s.inner; around = reverse (map scope_of s.around.items) }
+
+-- whether a name that has this already takes what is new, which is the error where it has nothing
+abbrev pub replaced_or : {A : Type 0} → Option A → A → Result (Unit {0}) A
+replaced_or (Some old) new = Ok tt
+replaced_or None new = Err new

@@ -5,7 +5,8 @@ ghost use Rattle.std.specs.Prelude.{◌≡◌, ◌++◌, [], OnOk, OnErr, nat_eq
 ghost use Rattle.std.specs.Map.{lookup, set_value};
 ghost use Rattle.std.specs.Option.{option_copied};
 ghost use Rattle.indexmap.specs.IndexMap.{insert_entry};
-ghost use Rattle.sp_scopes.specs.Scopes.{entry, unless_there};
+ghost use Rattle.sp_scopes.specs.Scopes.{entry};
+ghost use Rattle.sp_scopes.specs.Views.{replaced_or};
 
 use indexmap::IndexMap;
 use std::alloc::{AllocError, Global};
@@ -58,9 +59,9 @@ impl<T: Drop> Space<T> {
             insert_entry nat_eq (entries_of self.old) name what) }
         ensures err { OnErr result (entries_of self.new ≡ entries_of self.old) }
     {
-        match replaced(&mut self.first, name, what) {
-            None => Ok(()),
-            Some(what) => self.insert_behind(name, what),
+        match replace(&mut self.first, name, what) {
+            Ok(()) => Ok(()),
+            Err(what) => self.insert_behind(name, what),
         }
     }
 
@@ -97,18 +98,18 @@ fn entry<T>(these: &[(u32, T)], name: u32) -> Option<&T>
     }
 }
 
-/// Gives a name of these what it stands for, or hands that back where they lack the name.
-fn replaced<T: Drop>(these: &mut [(u32, T)], name: u32, what: T) -> Option<T>
+/// Gives a name of these what it stands for. Where they lack the name, the error is that.
+fn replace<T: Drop>(these: &mut [(u32, T)], name: u32, what: T) -> Result<(), T>
     ensures these { these.new ≡ set_value (nat_eq name) these.old what }
-    ensures back { result ≡ unless_there (lookup (nat_eq name) these.old) what }
+    ensures back { result ≡ replaced_or (lookup (nat_eq name) these.old) what }
 {
     let Some((first, others)) = these.split_first_mut() else {
-        return Some(what);
+        return Err(what);
     };
     if first.0 == name {
         first.1 = what;
-        None
+        Ok(())
     } else {
-        replaced(others, name, what)
+        replace(others, name, what)
     }
 }

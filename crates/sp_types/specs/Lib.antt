@@ -8,3 +8,4 @@ pub mod Typed
 pub mod TypedView
 pub mod Types
 pub mod View
+pub mod Wide

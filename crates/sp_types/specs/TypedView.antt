@@ -3,6 +3,7 @@ use Rattle.std.specs.Prelude.{List, [], ◌∷◌, Option, Some, None, option_ma
 use Rattle.std.specs.declared.alloc.Global.{Global}
 use Rattle.std.specs.declared.boxed.Box.{Box}
 use Rattle.sp_types.specs.View.{type_of}
+use Rattle.sp_types.specs.Wide.{wide_of}
 use Rattle.sp_types.specs.Typed.{Typed, typed, TypedForm, number, character, constant, object, function, convert, decay, index, call, member, arrow, after, unary, cast, binary, choice, assign, comma, TypedList, no_typed, next_typed}
 use Rattle.sp_types.specs.Statements.{TypedStatement, typed_statement, TypedStatementForm, label, case_of, default_of, block, empty, single, if_else, switch_on, while_loop, do_loop, for_loop, goto_name, continue_loop, break_out, return_value, MaybeTypedStatement, no_statement, some_statement, TypedStatements, no_statements, next_statement}
 use Rattle.sp_types.specs.declared.statement.TypedStatement.{TypedStatement as CodeStatement, fold-TypedStatement}
@@ -19,7 +20,7 @@ typed_list (t ∷ ts) = next_typed t (typed_list ts)
 abbrev pub form_step : TypedForm-F TypedForm Typed → TypedForm
 form_step (Number n) = number n
 form_step (Char z) = character z
-form_step (Constant z) = constant z
+form_step (Constant w) = constant (wide_of w)
 form_step (Object k) = object k
 form_step (Function k) = function k
 form_step (Convert e) = convert e.value

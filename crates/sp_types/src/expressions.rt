@@ -50,7 +50,9 @@ impl TypedExpr {
         }
     }
 
-    /// The same on the heap, as the makers take and give it.
+    /// The same on the heap, as the makers take and give it. Inlined, its parts are written there
+    /// at once.
+    #[inline(always)]
     pub fn boxed(
         alloc: Global,
         form: TypedForm,

@@ -25,6 +25,7 @@ mod statement;
 mod statements;
 mod structs;
 mod typed;
+mod wide;
 
 pub use compatibility::{compatible, convertible, same};
 pub use ctype::{ArrayType, CType, FloatKind, IntKind, Signature, common, promote};
@@ -33,3 +34,4 @@ pub use program::{FunctionDef, Linkage, ObjectDef, Program, Storage};
 pub use statement::{TypedStatement, TypedStatementForm};
 pub use structs::{StructType, cells, height, leaves};
 pub use typed::{TypedExpr, TypedForm};
+pub use wide::WideInt;

@@ -1,5 +1,5 @@
 //! Makers of types, and what is read of them.
-ghost use Rattle.std.specs.Prelude.{◌≡◌, IfOk, map, option_map};
+ghost use Rattle.std.specs.Prelude.{◌≡◌, IfOk, option_map};
 ghost use Rattle.sp_types.specs.Types.{pointer, array, function, result_of, parameters_of, is_variadic};
 ghost use Rattle.sp_types.specs.View.{type_of, signature_of, shared_signature_of, told};
 
@@ -9,6 +9,7 @@ use std::rc::Rc;
 
 impl CType {
     /// The same type again, which shares what it derives from.
+    #[inline(always)]
     pub fn copy(&self, _alloc: Global) -> Result<CType, AllocError>
         ensures { IfOk result (λ t. type_of t ≡ type_of self.now) }
     {
@@ -34,11 +35,11 @@ impl CType {
     pub fn array(alloc: Global, element: CType, length: Option<u64>) -> Result<CType, AllocError>
         ensures { IfOk result (λ t. type_of t ≡ array (type_of element) length) }
     {
-        CType::array_of(alloc, Rc::new(alloc, element)?, length)
+        CType::shared_array(alloc, Rc::new(alloc, element)?, length)
     }
 
     /// The same of a type that is shared.
-    pub fn array_of(
+    pub fn shared_array(
         alloc: Global,
         element: Rc<CType>,
         length: Option<u64>,
@@ -52,11 +53,11 @@ impl CType {
     pub fn function(alloc: Global, of: Signature) -> Result<CType, AllocError>
         ensures { IfOk result (λ t. type_of t ≡ function (signature_of of)) }
     {
-        Ok(CType::function_of(Rc::new(alloc, of)?))
+        Ok(CType::shared_function(Rc::new(alloc, of)?))
     }
 
     /// The same of a signature that is shared.
-    pub fn function_of(of: Rc<Signature>) -> CType
+    pub fn shared_function(of: Rc<Signature>) -> CType
         ensures { type_of result ≡ function (shared_signature_of of) }
     {
         CType::Function(of)

@@ -1,6 +1,6 @@
 //! Typed expressions: the trees of the parser with types, and with each conversion of C90 written out.
 
-use crate::CType;
+use crate::{CType, WideInt};
 use sp_tree::{Number, Place, Punct};
 
 /// An expression with its type. Its place is that of its first token, its mark that of its operator.
@@ -20,7 +20,7 @@ pub enum TypedForm {
     Number(Number),
     Char(i64),
     /// An enumeration constant, or the value of a `sizeof`.
-    Constant(i128),
+    Constant(WideInt),
     /// An object, by its number.
     Object(u32),
     /// A function, by its number.

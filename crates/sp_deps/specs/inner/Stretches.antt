@@ -1,5 +1,5 @@
 -- Stretches of nodes, which a walk passes in one step.
-use Rattle.std.specs.Prelude.{◌≡◌, ◌≢◌, ◌<◌, ◌⊎◌, ℕ, Bool, true, false, List, length, slice_index_or}
+use Rattle.std.specs.Prelude.{◌≡◌, ◌≢◌, ◌<◌, ◌⊎◌, ℕ, true, false, List, length, slice_index_or}
 use Rattle.sp_lattice.specs.System.{Meaning, AllBelow, has}
 use Rattle.sp_lattice.specs.Flat.{row_at}
 use Rattle.sp_deps.specs.declared.stretches.Stretches.{Stretches}

@@ -4,7 +4,7 @@ use Rattle.std.proofs.lemmas.List.Elements.{All-push}
 use Rattle.sp_lattice.specs.System.{AllBelow}
 use Rattle.sp_deps.specs.inner.Grouped.{grouped}
 use Rattle.sp_deps.proofs.Grouping.{grouped-push}
-use Rattle.sp_deps.proofs.Stretching.{Touching, touching_more, part_more, touching_next, touching_all}
+use Rattle.sp_deps.proofs.Stretching.{Touching, touching_more, part_more}
 use Rattle.sp_deps.proofs.stretches.touching.Goals as goal
 
 pub defs-preserved : goal.defs-preserved
