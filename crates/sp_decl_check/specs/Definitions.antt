@@ -42,7 +42,7 @@ externals_checked names env ns (e ∷ es) = and_then (external_checked names env
 
 -- ---- what a unit keeps of them
 
--- a definition is read once
+-- `;` in place of a definition, which is not read again
 abbrev pub kept_of : External → External
 kept_of (definition ss d s) = semicolon
 kept_of (external_declaration d) = external_declaration d

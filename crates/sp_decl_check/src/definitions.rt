@@ -137,7 +137,7 @@ fn drop_definition(external: &mut External)
 }
 
 /// The external declarations of a unit: the functions that they define. Each definition is dropped
-/// when it is checked, so that the typed trees of the next one take its place in memory.
+/// once it is checked, so that the typed trees of the next one can take its place in memory.
 pub(crate) fn externals_checked(
     alloc: Global,
     env: &mut Env,

@@ -43,8 +43,8 @@ fn unit_told(
     })
 }
 
-/// A checked unit, or its fault (C90 6.7). `names` tells the bytes of each name. The tree is dropped
-/// bit by bit, each function when it is checked.
+/// A checked unit, or its fault (C90 6.7). `names` tells the bytes of each name. Each definition of
+/// a function is dropped once it is checked, the rest at the end.
 pub fn check_unit(alloc: Global, unit: Unit, names: &Names) -> Result<CheckedUnit, CheckError>
     ensures { Answers checked_unit_of
         (unit_checked names.now (externals_of unit.items.items)) result }

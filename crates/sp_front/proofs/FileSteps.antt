@@ -36,12 +36,11 @@ refused_as before s names tokens fault scanned (mistyped tree parsed refused) =
     specs.mistyped tokens tree scanned parsed refused
 
 -- a file is refused as its tokens are
-pub no_unit : (before : Progress) (s : Source) (names : List (List ℕ)) (tokens seen : List Token) (e : FrontError)
-    → IsScanned before s names (Ok tokens) → seen ≡ tokens → GivesUnit seen names (Err e)
+pub no_unit : (before : Progress) (s : Source) (names : List (List ℕ)) (tokens : List Token) (e : FrontError)
+    → IsScanned before s names (Ok tokens) → GivesUnit tokens names (Err e)
     → ReadsFile before s names (Err e)
-no_unit before s names tokens seen (errors.Fault f) scanned same refused =
-    refused_as before s names tokens f scanned (subst (λ ts. AreRefusedAs ts names f) same refused)
-no_unit before s names tokens seen errors.NoMemory scanned same refused = tt
+no_unit before s names tokens (errors.Fault f) scanned refused = refused_as before s names tokens f scanned refused
+no_unit before s names tokens errors.NoMemory scanned refused = tt
 
 -- ---- all files
 

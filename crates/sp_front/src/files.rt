@@ -56,7 +56,8 @@ fn tokens_of(
     Ok(tokens)
 }
 
-/// The unit that the tokens of a file are. Once they are parsed, they are dropped.
+/// The unit that the tokens of a file are. They are dropped once they are parsed, so that what is
+/// typed can take their place in memory.
 fn unit_of(alloc: Global, tokens: Vec<Token>, names: &Names) -> Result<CheckedUnit, FrontError>
     requires { IsEnded tokens.items }
     ensures { GivesUnit tokens.items names.now result }

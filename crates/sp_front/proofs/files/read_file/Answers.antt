@@ -1,4 +1,3 @@
-use Rattle.std.proofs.Common.{refl}
 use Rattle.std.proofs.lemmas.Result.{err_from_is_err_and}
 use Rattle.sp_front.specs.Sources.{source_of}
 use Rattle.sp_front.proofs.FileSteps.{no_unit}
@@ -10,5 +9,5 @@ returns-in_err-unit-clause-answer c =
     let p = err_from_is_err_and e.result e.ensures.1 in
     rw (p.1, p.2)
     (no_unit (record { names = c.args.names.now; room = c.args.room }) (source_of c.args.source.now)
-    c.tokens_of.new.names c.in_ok-tokens.tokens.items c.in_ok-tokens.tokens.items c.in_err-unit.field-0.0
-    c.in_ok-tokens.ensures.answer refl c.in_err-unit.ensures)
+    c.tokens_of.new.names c.in_ok-tokens.tokens.items c.in_err-unit.field-0.0
+    c.in_ok-tokens.ensures.answer c.in_err-unit.ensures)
