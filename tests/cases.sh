@@ -1,10 +1,8 @@
 #!/usr/bin/env bash
-# Runs the built program on each text of tests/cases/ and each program of tests/programs/ under both
+# Runs the program on each text of tests/cases/ and each program of tests/programs/ under both
 # commands, and compares what it writes and its status. tests/cases/README.md tells the formats.
 . "$(dirname "$0")/lib.sh"
-# ./sparrow builds the program where that is needed.
-./sparrow >/dev/null 2>&1
-program=$top/crates/sparrow/out/sparrow
+program=$(./sparrow --program) || exit 1
 room=$(mktemp -d)
 trap 'rm -rf "$room"' EXIT
 

@@ -1,6 +1,8 @@
+# shellcheck shell=bash
 # Sourced by the test scripts: counts what passes, and compares bytes and statuses exactly.
 set -u
 cd "$(dirname "${BASH_SOURCE[0]}")/.."
+# shellcheck disable=SC2034
 top=$PWD
 passed=0
 failed=0

@@ -8,8 +8,6 @@ if ! command -v gcc >/dev/null 2>&1; then
     echo "skipped: gcc isn't there"
     exit 0
 fi
-# ./sparrow builds the program where that is needed.
-./sparrow >/dev/null 2>&1
 room=$(mktemp -d)
 trap 'rm -rf "$room"' EXIT
 mkdir "$room/tmp"
@@ -140,15 +138,16 @@ check 'a full device' 5 '' full
 check_said 'a full device' "sparrow: standard output can't be written" full
 check 'nothing is left behind' 0 '' ls "$TMPDIR"
 
-# A stand-in for the program that goes on until it is ended: a signal ends it, and no file is left.
-mkdir -p "$room/copy/crates/sparrow/out"
-cp -r sparrow crates.txt include "$room/copy"
-stand_in=$room/copy/crates/sparrow/out/sparrow
+# A stand-in for an installed program that goes on until it is ended: a signal ends it, and no file is left.
+mkdir -p "$room/copy/bin" "$room/copy/lib/sparrow" "$room/copy/share/sparrow"
+cp sparrow "$room/copy/bin"
+cp -r include source* "$room/copy/share/sparrow"
+stand_in=$room/copy/lib/sparrow/sparrow
 printf '#!/bin/sh\necho $$ >"%s/started"\nexec sleep 300\n' "$room" >"$stand_in"
 chmod +x "$stand_in"
 for signal in TERM HUP; do
     rm -f "$room/started"
-    "$room/copy/sparrow" source "$room/main.c" >/dev/null 2>&1 &
+    "$room/copy/bin/sparrow" source "$room/main.c" >/dev/null 2>&1 &
     script=$!
     for _ in $(seq 600); do [ -s "$room/started" ] && break; sleep 0.1; done
     kill -s $signal $script

@@ -45,7 +45,7 @@ check 'a file without an end' 2 "$endless" ./sparrow analyse /dev/zero
 printf 'extern int x;int main(void){return x;}' >"$room/a.c"
 printf 'int x;' >"$room/b.c"
 in_room() { (cd "$room" && "$program" "$@"); }
-program=$top/crates/sparrow/out/sparrow
+program=$(./sparrow --program)
 values=$'0 alarms\nnode 2 a.c:1:29: x = [0,0]\n'
 check 'two files' 0 $'0 alarms\n' in_room analyse a.c b.c
 check 'values behind the files' 0 "$values" in_room analyse a.c b.c --values

@@ -1,0 +1,13 @@
+#!/usr/bin/env bash
+# All tests that need the program alone, without a proof. Each script tells what it shows, and how
+# much of it passed.
+set -u
+cd "$(dirname "$0")/.." || exit
+./sparrow --program >/dev/null || exit 1
+
+failed=()
+for name in script install rows examples statuses cases source dist; do
+    echo "== tests/$name.sh"
+    bash "tests/$name.sh" || failed+=("tests/$name.sh")
+done
+[ ${#failed[@]} -eq 0 ] || { echo "FAILED: ${failed[*]}"; exit 1; }
