@@ -10,7 +10,7 @@ _sparrow() {
         return
     fi
     case ${COMP_WORDS[1]} in
-        source) options+=' --keep -D -I -U -idirafter -imacros -include -iquote -isystem' ;;
+        source) options+=' --strict --keep --compile-commands --target -D -I -U -idirafter -imacros -include -iquote -isystem' ;;
         analyse | dense) ;;
         *) return ;;
     esac

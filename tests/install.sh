@@ -79,7 +79,8 @@ mkdir "$room/sources/part"
 touch "$room/sources/notes.txt"
 check 'the commands' 0 $'source\n' complete_words sparrow s
 check 'the options of analyse' 0 $'--values\n' complete_words sparrow analyse -
-check 'the options of source' 0 $'--values\n--keep\n' complete_words sparrow source --
+check 'the options of source' 0 $'--values\n--strict\n--keep\n--compile-commands\n--target\n' \
+    complete_words sparrow source --
 names() { complete_words sparrow source --keep '' | LC_ALL=C sort; }
 check 'folders and files of C' 0 $'cut.c\noverrun.c\npart\n' names
 finish

@@ -78,4 +78,9 @@ extern int errno;
 #define ECANCELED 125
 #endif
 
+#ifdef _GNU_SOURCE
+extern char *program_invocation_name;
+extern char *program_invocation_short_name;
+#endif
+
 #endif

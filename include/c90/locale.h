@@ -31,6 +31,17 @@ struct lconv {
     char n_sep_by_space;
     char p_sign_posn;
     char n_sign_posn;
+#ifdef _ANSI_SOURCE
+    char _rest[6];
+#else
+    /* C99 7.11 */
+    char int_p_cs_precedes;
+    char int_p_sep_by_space;
+    char int_n_cs_precedes;
+    char int_n_sep_by_space;
+    char int_p_sign_posn;
+    char int_n_sign_posn;
+#endif
 };
 
 extern char *setlocale(int, const char *);

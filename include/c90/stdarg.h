@@ -1,6 +1,7 @@
 /*
- * C90 7.8. Definitions with `...` are refused, so va_start serves no accepted program; functions
- * that take a list, as vprintf does, are accepted.
+ * C90 7.8. A list points to an object that holds whatever was passed behind the named parameters:
+ * ./sparrow source writes it for each function that is defined with `...`, and its address for
+ * __sparrow_rest there.
  */
 #ifndef _SPARROW_STDARG_H
 #define _SPARROW_STDARG_H
@@ -8,8 +9,9 @@
 #define _NEED_va_list
 #include <bits/types.h>
 
-#define va_start(list, last) ((void)((list) = (char *)&(last) + 8))
-#define va_arg(list, type) (*(type *)(((list) += 8) - 8))
+extern char *__sparrow_rest;
+#define va_start(list, last) ((void)((list) = __sparrow_rest))
+#define va_arg(list, type) (*(type *)(list))
 #define va_end(list) ((void)0)
 
 #ifndef _ANSI_SOURCE

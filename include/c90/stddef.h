@@ -8,6 +8,13 @@
 #include <bits/types.h>
 
 typedef long ptrdiff_t;
+#ifndef _ANSI_SOURCE
+/* C11 7.19 */
+typedef struct {
+    long _long;
+    long double _double;
+} max_align_t;
+#endif
 
 /*
  * An offset is some number below the size. Nothing accepted tells which without the address of a

@@ -136,6 +136,14 @@ extern void setbuffer(FILE *, char *, size_t);
 extern void setlinebuf(FILE *);
 #endif
 
+#if defined _GNU_SOURCE || defined _LARGEFILE64_SOURCE
+/* An off_t has 64 bits. */
+#define fopen64 fopen
+#define fseeko64 fseeko
+#define ftello64 ftello
+#define tmpfile64 tmpfile
+#endif
+
 #ifdef _GNU_SOURCE
 extern int asprintf(char **, const char *, ...);
 extern int vasprintf(char **, const char *, __va_list);

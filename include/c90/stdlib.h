@@ -1,4 +1,4 @@
-/* C90 7.10. Calls of atof and strtod are refused: floating type. */
+/* C90 7.10. Without rewriting, calls of atof and strtod are refused: floating type. */
 #ifndef _SPARROW_STDLIB_H
 #define _SPARROW_STDLIB_H
 
@@ -68,6 +68,12 @@ extern size_t wcstombs(char *, const wchar_t *, size_t);
 #ifndef _ANSI_SOURCE
 /* POSIX.1-2001 and -2008 */
 extern void _Exit(int);
+extern long atoll(const char *);
+extern long llabs(long);
+extern float strtof(const char *, char **);
+extern long double strtold(const char *, char **);
+extern long strtoll(const char *, char **, int);
+extern unsigned long strtoull(const char *, char **, int);
 extern char *mkdtemp(char *);
 extern int mkstemp(char *);
 extern char *mktemp(char *);

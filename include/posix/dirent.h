@@ -39,4 +39,10 @@ extern int scandir(const char *, struct dirent ***, int (*)(const struct dirent 
 extern void seekdir(DIR *, long);
 extern long telldir(DIR *);
 
+#if defined _GNU_SOURCE || defined _LARGEFILE64_SOURCE
+/* An off_t has 64 bits. */
+#define dirent64 dirent
+#define readdir64 readdir
+#endif
+
 #endif

@@ -67,4 +67,11 @@ extern int openat(int, const char *, int, ...);
 extern int posix_fadvise(int, off_t, off_t, int);
 extern int posix_fallocate(int, off_t, off_t);
 
+#if defined _GNU_SOURCE || defined _LARGEFILE64_SOURCE
+/* An off_t has 64 bits. */
+#define creat64 creat
+#define open64 open
+#define openat64 openat
+#endif
+
 #endif

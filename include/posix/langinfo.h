@@ -2,7 +2,8 @@
 #ifndef _SPARROW_LANGINFO_H
 #define _SPARROW_LANGINFO_H
 
-typedef int nl_item;
+#define _NEED_nl_item
+#include <bits/types.h>
 
 #define CODESET 14
 #define RADIXCHAR 0x10000

@@ -2,6 +2,8 @@
 #ifndef _SPARROW_LIBINTL_H
 #define _SPARROW_LIBINTL_H
 
+#include <locale.h>
+
 extern char *bind_textdomain_codeset(const char *, const char *);
 extern char *bindtextdomain(const char *, const char *);
 extern char *dcgettext(const char *, const char *, int);

@@ -145,4 +145,11 @@ extern char *get_current_dir_name(void);
 extern int pipe2(int *, int);
 #endif
 
+#if defined _GNU_SOURCE || defined _LARGEFILE64_SOURCE
+/* An off_t has 64 bits. */
+#define ftruncate64 ftruncate
+#define lseek64 lseek
+#define truncate64 truncate
+#endif
+
 #endif

@@ -17,7 +17,7 @@ typedef unsigned long size_t;
 typedef int wchar_t;
 #endif
 
-/* C90 7.8. A list of arguments is read in steps of 8 bytes. */
+/* C90 7.8. A list of arguments points to bytes. */
 #if defined _NEED_va_list && !defined _HAVE_va_list
 #define _HAVE_va_list
 typedef char *va_list;
@@ -54,6 +54,10 @@ typedef unsigned int gid_t;
 #if defined _NEED_mode_t && !defined _HAVE_mode_t
 #define _HAVE_mode_t
 typedef unsigned int mode_t;
+#endif
+#if defined _NEED_nl_item && !defined _HAVE_nl_item
+#define _HAVE_nl_item
+typedef int nl_item;
 #endif
 #if defined _NEED_int8_t && !defined _HAVE_int8_t
 #define _HAVE_int8_t

@@ -80,4 +80,12 @@ extern int stat(const char *, struct stat *);
 extern mode_t umask(mode_t);
 extern int utimensat(int, const char *, const struct timespec *, int);
 
+#if defined _GNU_SOURCE || defined _LARGEFILE64_SOURCE
+/* An off_t has 64 bits. */
+#define stat64 stat
+#define fstat64 fstat
+#define fstatat64 fstatat
+#define lstat64 lstat
+#endif
+
 #endif

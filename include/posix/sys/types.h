@@ -37,4 +37,10 @@ typedef unsigned short u_int16_t;
 typedef unsigned int u_int32_t;
 typedef unsigned long u_int64_t;
 
+#if defined _GNU_SOURCE || defined _LARGEFILE64_SOURCE
+/* An off_t has 64 bits. */
+#define off64_t off_t
+#define ino64_t ino_t
+#endif
+
 #endif

@@ -1,0 +1,98 @@
+"""Whole programs of the survey's packages: alarms, how many of their places are tokens of the text
+before it was rewritten, and seconds. Prints the table of docs/REAL_CODE.md.
+
+usage: python3 bench/programs.py ROOM [PROGRAM..], with the ROOM of bench/survey.py.
+"""
+
+from __future__ import annotations
+
+import glob
+import os
+import re
+import resource
+import subprocess
+import sys
+import tempfile
+
+from survey import TOP, prepare_environment
+
+sys.path.insert(0, os.path.join(TOP, "source"))
+
+from c.places import Places  # noqa: E402
+from c.tokens import Tokens  # noqa: E402
+
+ALARM = re.compile(r"^(.*):([0-9]+):([0-9]+): (?!refused)", re.MULTILINE)
+# The functions that aren't built yet, under names that no file defines; columns stay.
+NAMES = "malloc calloc realloc free exit abort memset memcpy memmove strlen strcpy strncpy strcat"
+RENAMED = [f"-D{name}={name.capitalize()}" for name in NAMES.split()]
+# How a report ends.
+WHOLE = ("alarm\n", "alarms\n")
+# Seconds that a program may take.
+LATE = 600
+
+
+def token_places(folder: str) -> set[tuple[str, str, str]]:
+    """The places of all tokens of the texts in a folder."""
+    found = set()
+    for path in glob.glob(os.path.join(folder, "*.i")):
+        with open(path, encoding="latin-1", newline="") as file:
+            text = file.read()
+        tokens, places = Tokens(text), Places(text, path)
+        for start in tokens.starts[: tokens.count]:
+            place = places.of(start)
+            found.add((place.file, str(place.line), str(place.column)))
+    return found
+
+
+def run(words: list[str], folder: str) -> tuple[str, float]:
+    """What ./sparrow source writes, and its seconds of processors."""
+    before = resource.getrusage(resource.RUSAGE_CHILDREN)
+    command = [sys.executable, "-I", os.path.join(TOP, "source"), *words]
+    try:
+        done = subprocess.run(command, cwd=folder, capture_output=True, timeout=LATE, check=False)
+        said = done.stdout.decode("latin-1") or done.stderr.decode("latin-1")
+    except subprocess.TimeoutExpired:
+        said = f"more than {LATE} s"
+    after = resource.getrusage(resource.RUSAGE_CHILDREN)
+    return said, after.ru_utime + after.ru_stime - before.ru_utime - before.ru_stime
+
+
+def row(name: str, folder: str, options: list[str], files: list[str]) -> str:
+    """A program's row."""
+    words = [*RENAMED, *options, *files]
+    said, seconds = run(words, folder)
+    if not said.endswith(WHOLE):
+        return f"| {name} | {len(files)} | | {said.splitlines()[0]} | | | {seconds:.1f} s |"
+    with tempfile.TemporaryDirectory() as kept:
+        strict, _ = run(["--strict", "--keep", kept, *words], folder)
+        tokens = token_places(kept)
+    alarms = ALARM.findall(said)
+    places = set(alarms)
+    right = len(places & tokens)
+    is_new = "" if strict.endswith(WHOLE) else "yes"
+    numbers = f"{len(alarms)} | {len(places)} | {right}"
+    return f"| {name} | {len(files)} | {is_new} | {numbers} | {seconds:.1f} s |"
+
+
+def main() -> int:
+    """Runs the programs."""
+    if len(sys.argv) < 2:
+        print(__doc__, file=sys.stderr)
+        return 3
+    prepare_environment()
+    room = os.path.abspath(sys.argv[1])
+    print("| program | files | rewritten | alarms | places | at a token | time |")
+    print("|---|---|---|---|---|---|---|")
+    with open(os.path.join(TOP, "bench", "programs.tsv"), encoding="ascii") as rows:
+        for line in rows:
+            if line.startswith("#") or not line.strip():
+                continue
+            name, package, options, files = line.rstrip("\n").split("\t")
+            folders = sorted(glob.glob(os.path.join(room, "sources", package, "*", "")))
+            if folders and (len(sys.argv) == 2 or name in sys.argv[2:]):
+                print(row(name, folders[0], options.split(), files.split()), flush=True)
+    return 0
+
+
+if __name__ == "__main__":
+    sys.exit(main())

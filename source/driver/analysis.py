@@ -1,0 +1,52 @@
+"""The program's answer over preprocessed texts."""
+
+from __future__ import annotations
+
+import os
+
+from .failure import REFUSED
+from .processes import run
+from .progress import Progress
+from .room import Room
+from .words import Request
+
+# A text without these bytes has no word that could lay out data.
+WORDS = (b"__attribute", b"_Alignas", b"pragma", b"[[", b"[ [")
+
+
+class Answer:
+    """The status, and the parts of an answer, each with what is said behind it."""
+
+    def __init__(self, status: int, parts: list[tuple[bytes, str | None]]) -> None:
+        self.status = status
+        self.parts = parts
+
+
+def answer_over(room: Room, files: list[str], request: Request) -> Answer:
+    """The answer over the texts of files. They are rewritten where they are refused."""
+    first = None
+    if not any(has_words(text) for text in room.texts):
+        first = analysed(room, request)
+        if first[0] != REFUSED:
+            return Answer(first[0], [(first[1], None)])
+    # What follows is read only where it is needed.
+    from .refused import RefusedTexts
+
+    return RefusedTexts(room, files, request).answer(first)
+
+
+def has_words(text: str) -> bool:
+    """Whether a text may have words that lay out data."""
+    with open(text, "rb") as file:
+        content = file.read()
+    return any(word in content for word in WORDS)
+
+
+def analysed(room: Room, request: Request) -> tuple[int, bytes]:
+    """Status and answer over the texts as they are now."""
+    report = room.path("report")
+    program = os.environ["SPARROW_PROGRAM"]
+    with Progress("analysing"):
+        status = run([program, "analyse", *request.flags, "--", *room.texts], output=report)
+    with open(report, "rb") as file:
+        return status, file.read()

@@ -1,0 +1,114 @@
+"""The files and options of a program by compile_commands.json, as CMake and Bear write it."""
+
+from __future__ import annotations
+
+import json
+import os
+import shlex
+from typing import Optional
+
+from .failure import UNREADABLE, USAGE, Failure
+from .words import WITH_ARGUMENT, Request, Source
+
+# Options whose argument is the name of a folder or file.
+WITH_PATH = WITH_ARGUMENT - {"-D", "-U"}
+
+
+def sources_in(database: str, request: Request) -> list[Source]:
+    """The files of a database, or those of them that the words give, each with its options."""
+    wanted = {os.path.realpath(file) for file in request.files}
+    found: list[Source] = []
+    seen: set[tuple[str, tuple[str, ...]]] = set()
+    for entry in read_entries(database):
+        source = source_of(entry, request)
+        if source is None or (wanted and os.path.realpath(source.file) not in wanted):
+            continue
+        told = (source.file, tuple(source.options))
+        if told not in seen:
+            seen.add(told)
+            found.append(source)
+    missing = wanted - {os.path.realpath(source.file) for source in found}
+    if missing or not found:
+        what = min(missing) if missing else "a file of that target"
+        raise Failure(USAGE, f"{database} has no entry for {what}")
+    names: set[str] = set()
+    for source in found:
+        if source.file in names:
+            raise Failure(USAGE, f"{source.file} is compiled more than once; --target NAME chooses")
+        names.add(source.file)
+    return found
+
+
+def read_entries(path: str) -> list[object]:
+    """The entries of a database."""
+    try:
+        with open(path, encoding="utf-8") as file:
+            entries = json.load(file)
+    except OSError as error:
+        raise Failure(UNREADABLE, f"{path} can't be read") from error
+    except (ValueError, RecursionError) as error:
+        raise Failure(USAGE, f"{path} is no JSON") from error
+    if not isinstance(entries, list):
+        raise Failure(USAGE, f"{path} is no list of commands")
+    return entries
+
+
+def source_of(entry: object, request: Request) -> Optional[Source]:
+    """The source of an entry; None for other languages and other targets."""
+    if not isinstance(entry, dict):
+        raise Failure(USAGE, f"{request.database} has an entry that is no command")
+    folder, file = entry.get("directory"), entry.get("file")
+    words = entry.get("arguments")
+    if words is None and isinstance(entry.get("command"), str):
+        try:
+            words = shlex.split(entry["command"])
+        except ValueError as error:
+            raise Failure(USAGE, f"{request.database} has a command that isn't closed") from error
+    if (
+        not isinstance(folder, str)
+        or not isinstance(file, str)
+        or not isinstance(words, list)
+        or not all(isinstance(word, str) for word in words)
+    ):
+        raise Failure(USAGE, f"{request.database} has an entry without directory, file or command")
+    if not file.endswith(".c") or not is_of_target(entry.get("output"), words, request.target):
+        return None
+    return Source(from_folder(folder, file), options_of(folder, words) + request.options)
+
+
+def is_of_target(output: object, words: list[str], target: Optional[str]) -> bool:
+    """Whether what is compiled belongs to a target: a folder of its output has its name."""
+    if target is None:
+        return True
+    if not isinstance(output, str):
+        output = words[words.index("-o") + 1] if "-o" in words[:-1] else ""
+    folders = output.split("/")
+    return any(name in folders for name in (target, f"{target}.dir", f"{target}.p"))
+
+
+def options_of(folder: str, words: list[str]) -> list[str]:
+    """The options of the preprocessor among a compiler's words."""
+    options = []
+    at = 1
+    while at < len(words):
+        word = words[at]
+        at += 1
+        # The longest name counts: -include isn't -I.
+        name = max((each for each in WITH_ARGUMENT if word.startswith(each)), key=len, default=None)
+        if name is None:
+            continue
+        argument = word[len(name) :]
+        if not argument and at < len(words):
+            argument = words[at]
+            at += 1
+        options += [name, from_folder(folder, argument) if name in WITH_PATH else argument]
+    return options
+
+
+def from_folder(folder: str, path: str) -> str:
+    """A path of a folder, as it is from the current one."""
+    if os.path.isabs(path) or os.path.realpath(folder) == os.path.realpath(os.curdir):
+        return path
+    joined = os.path.normpath(os.path.join(folder, path))
+    inside = os.path.relpath(joined)
+    return joined if inside.startswith(os.pardir) else inside

@@ -1,0 +1,45 @@
+"""Runs the preprocessor over the headers of include/ and the options given."""
+
+from __future__ import annotations
+
+import os
+
+from .failure import USAGE, Failure
+from .processes import is_command, run
+
+# gnu90 with these names taken away or given is C90 with the comments `//`, which the program reads.
+# Words that GNU C and C99 add fall away where no meaning goes with them; attributes stay, to be
+# looked at. No attribute and no builtin is said to be there.
+LANGUAGE = (
+    "-x c -std=gnu90 -trigraphs -w -D__STRICT_ANSI__ -Ulinux -Uunix -D__SPARROW__ -nostdinc".split()
+)
+NAMES = (
+    "-U__GNUC__ -U__GNUC_MINOR__ -U__GNUC_PATCHLEVEL__ -U__SIZEOF_INT128__ -U__SSE2__"
+    " -D__has_attribute(word)=0 -D__has_c_attribute(word)=0 -D__has_builtin(word)=0"
+    " -D__extension__= -D_Noreturn="
+    " -Dinline= -D__inline= -D__inline__= -Drestrict= -D__restrict= -D__restrict__="
+    " -D__const=const -D__const__=const -D__volatile=volatile -D__volatile__=volatile"
+    " -D__signed=signed -D__signed__=signed"
+    " -D__builtin_expect(value,guess)=((long)(value))"
+).split()
+
+
+class Preprocessor:
+    """The preprocessor that the variable CPP names; it may be several words."""
+
+    def __init__(self) -> None:
+        self.name = os.environ.get("CPP") or "gcc -E"
+        self.words = self.name.split()
+        first = self.words[0] if self.words else self.name
+        if not self.words or not is_command(first):
+            raise Failure(USAGE, f"there is no {first} to preprocess with; CPP names another")
+        include = os.environ["SPARROW_INCLUDE"]
+        headers = ["-isystem", f"{include}/c90", "-isystem", f"{include}/posix"]
+        self.words += LANGUAGE + headers + NAMES
+
+    def write(self, file: str, options: list[str], text: str) -> None:
+        """Writes the file, preprocessed, to the place `text`."""
+        # A name that begins with - would be an option.
+        name = f"./{file}" if file.startswith("-") else file
+        if run(self.words + options + [name], output=text) != 0:
+            raise Failure(USAGE, f"{file} was not preprocessed by {self.name}")

@@ -1,0 +1,66 @@
+"""Rewrites the texts of a run in their place, and says what was rewritten."""
+
+from __future__ import annotations
+
+import os
+
+from c.attributes import clear_attributes
+
+from .failure import say
+from .refusals import Refusal
+from .room import Room
+
+
+def clear_texts(room: Room, files: list[str]) -> dict[int, Refusal]:
+    """Takes attributes out of the texts; refuses those with a word that lays out data."""
+    refused = {}
+    for number, (path, file) in enumerate(zip(room.texts, files)):
+        text = read_text(path)
+        cleared = clear_attributes(text, latin(file))
+        if cleared.word is not None and cleared.place is not None:
+            name, line, column = cleared.place
+            said = f"{cleared.word} changes the layout"
+            refused[number] = Refusal(name.encode("latin-1"), line, column, "", said.encode())
+        elif cleared.text != text:
+            write_text(path, cleared.text)
+    return refused
+
+
+def read_text(path: str) -> str:
+    """A text; each byte is a character."""
+    with open(path, encoding="latin-1", newline="") as file:
+        return file.read()
+
+
+def write_text(path: str, text: str) -> None:
+    """Writes a text so."""
+    with open(path, "w", encoding="latin-1", newline="") as file:
+        file.write(text)
+
+
+def rewrite_texts(room: Room, files: list[str], refused: dict[int, Refusal]) -> bool:
+    """Whether something was rewritten. Texts that are refused already stay as they are."""
+    # What rewrites is read only where it is needed.
+    from rewriting.forms import told
+    from rewriting.program import rewrite
+
+    numbers = [number for number in range(len(files)) if number not in refused]
+    texts = [(latin(files[number]), read_text(room.texts[number])) for number in numbers]
+    counts: dict[str, int] = {}
+    is_changed = False
+    for number, (_, before), after in zip(numbers, texts, rewrite(texts)):
+        if after.left:
+            say(f"left as it is: {after.left[0]}")
+        if after.text != before:
+            is_changed = True
+            write_text(room.texts[number], after.text)
+        for form, count in after.counts.items():
+            counts[form] = counts.get(form, 0) + count
+    if is_changed:
+        say(f"rewritten: {told(counts)}")
+    return is_changed
+
+
+def latin(file: str) -> str:
+    """The word of a file with a character for each byte."""
+    return os.fsencode(file).decode("latin-1")

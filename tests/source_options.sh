@@ -1,0 +1,91 @@
+#!/usr/bin/env bash
+# Options of ./sparrow source for whole programs: compile_commands.json, and what a terminal is
+# told.
+. "$(dirname "$0")/lib.sh"
+if ! command -v gcc >/dev/null 2>&1; then
+    echo "skipped: gcc isn't there"
+    exit 0
+fi
+./sparrow >/dev/null 2>&1
+room=$(mktemp -d)
+trap 'rm -rf "$room"' EXIT
+unset CPP
+
+mkdir -p "$room/tree/src" "$room/tree/include" "$room/build"
+printf 'extern int twice(int);\n' >"$room/tree/include/twice.h"
+printf '#include <twice.h>\nint twice(int a) { return FACTOR * a; }\n' >"$room/tree/src/twice.c"
+printf '#include "twice.h"\nint main(void) { int a[SIZE]; a[twice(2)] = 1; return 0; }\n' \
+    >"$room/tree/src/main.c"
+printf 'int main(void) { return other; }\n' >"$room/tree/src/other.c"
+
+# entry FILE WORD..: one entry of a database, of the target that its output tells.
+entry() {
+    local file=$1 target=$2
+    shift 2
+    printf '{"directory": "%s/build", "file": "../tree/src/%s", "output": "%s",\n' \
+        "$room" "$file" "CMakeFiles/$target.dir/$file.o"
+    printf '"command": "cc -O2 -Wall %s -o x.o -c ../tree/src/%s"}' "$*" "$file"
+}
+database=$room/compile_commands.json
+{
+    echo '['
+    entry main.c tool -I../tree/include '-DSIZE=4' && echo ,
+    entry twice.c tool '-I ../tree/include -D FACTOR=2' && echo ,
+    entry main.c wide -I../tree/include '-DSIZE=5' && echo ,
+    entry twice.c wide -isystem ../tree/include '-DFACTOR=2' && echo ,
+    entry other.c other && echo ']'
+} >"$database"
+tool=$'overrun: offset [4,4], size [4,4]\n1 alarm\n'
+source_of() { ./sparrow source --compile-commands "$@"; }
+check 'a target, each file by options of its own' 1 "$room/tree/src/main.c:2:28: $tool" \
+    source_of "$database" --target tool
+check 'another target' 0 $'0 alarms\n' source_of "$database" --target wide
+check 'options behind those of the database' 0 $'0 alarms\n' \
+    source_of "$database" --target tool -UFACTOR -DFACTOR=1
+check_said 'a file of two targets' \
+    "sparrow: $room/tree/src/main.c is compiled more than once; --target NAME chooses" \
+    source_of "$database"
+other="$room/tree/src/other.c:1:25: refused F8: undeclared name: other"
+check 'a file of the database' 2 "$other"$'\n' \
+    source_of "$database" "$room/tree/src/other.c"
+check_said 'no such target' "sparrow: $database has no entry for a file of that target" \
+    source_of "$database" --target none
+check_said 'a file that it does not have' "sparrow: $database has no entry for $room/a.c" \
+    source_of "$database" "$room/a.c"
+check 'no database' 4 '' source_of "$room/none.json"
+bad() { printf '%s' "$1" >"$room/bad.json" && source_of "$room/bad.json"; }
+check_said 'no JSON' "sparrow: $room/bad.json is no JSON" bad '['
+check_said 'no list' "sparrow: $room/bad.json is no list of commands" bad '{}'
+check_said 'no command' "sparrow: $room/bad.json has an entry that is no command" bad '[1]'
+check_said 'an entry without a file' \
+    "sparrow: $room/bad.json has an entry without directory, file or command" \
+    bad '[{"file": "a.c"}]'
+check_said 'a quote that is open' "sparrow: $room/bad.json has a command that isn't closed" \
+    bad '[{"directory": "/", "file": "a.c", "command": "cc \"a"}]'
+check 'a target without a database' 3 $'usage: sparrow COMMAND [OPTION] WORD..\n' \
+    ./sparrow source --target tool "$room/tree/src/main.c"
+in_build() {
+    (cd "$room/build" && "$top/sparrow" source --compile-commands ../*_commands.json --target tool)
+}
+check 'in the folder of the build names are its own' 1 "../tree/src/main.c:2:28: $tool" in_build
+
+no_program() { SPARROW_PROGRAM=$room/none SPARROW_INCLUDE=$top/include python3 -I source "$@"; }
+check 'a program that is missing' 7 '' no_program "$room/tree/src/other.c"
+check_said 'it is said so' "sparrow: $room/none: No such file or directory" \
+    no_program "$room/tree/src/other.c"
+
+# A stand-in for the program that takes three seconds; standard error is a terminal or not.
+printf '#!/bin/sh\nsleep 3\necho 0 alarms\n' >"$room/slow"
+chmod +x "$room/slow"
+printf 'int main(void) { return 0; }\n' >"$room/a.c"
+slow() {
+    SPARROW_PROGRAM=$room/slow SPARROW_INCLUDE=$top/include python3 -I source "$room/a.c" "$@"
+}
+on_terminal() {
+    python3 -I -c 'import pty, sys; pty.spawn(sys.argv[1:])' env "SPARROW_PROGRAM=$room/slow" \
+        "SPARROW_INCLUDE=$top/include" python3 -I source "$room/a.c" </dev/null |
+        tr -d '\r' | grep -c 'analysing, 2 s'
+}
+check 'a terminal is told what is done' 0 $'1\n' on_terminal
+check 'nothing else is' 0 '' eval 'slow 2>&1 >/dev/null'
+finish

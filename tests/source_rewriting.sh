@@ -1,0 +1,82 @@
+#!/usr/bin/env bash
+# What ./sparrow source rewrites: the table of texts, and what is said of a program.
+. "$(dirname "$0")/lib.sh"
+if ! command -v gcc >/dev/null 2>&1; then
+    echo "skipped: gcc isn't there"
+    exit 0
+fi
+./sparrow >/dev/null 2>&1
+room=$(mktemp -d)
+trap 'rm -rf "$room"' EXIT
+unset CPP
+
+PYTHONDONTWRITEBYTECODE=1 python3 -I tests/source_rewriting.py crates/sparrow/out/sparrow ||
+    failed=$((failed + 1))
+python3 -I tests/source_numbers.py || failed=$((failed + 1))
+python3 -I tests/source_layouts.py || failed=$((failed + 1))
+python3 -I tests/source_alike.py || failed=$((failed + 1))
+
+# check_all_said NAME BYTES COMMAND..: wants exactly these bytes on standard error.
+check_all_said() {
+    local name=$1 want=$2 got
+    shift 2
+    got=$("$@" 2>&1 >/dev/null; printf x)
+    if [ "$got" = "$want"x ]; then pass; else fail "$name" "$got"; fi
+}
+
+cat >"$room/c99.c" <<'TEXT'
+#include <stdarg.h>
+static int total(int count, ...)
+{
+    va_list list;
+    int sum = 0;
+    va_start(list, count);
+    for (int k = 0; k < count; k++)
+        sum += va_arg(list, int);
+    va_end(list);
+    return sum;
+}
+int main(void)
+{
+    int room[4];
+    room[0] = total(2, 3, 4);
+    int last = 4; room[last] = 1;
+    return 0;
+}
+TEXT
+check 'a place behind a declaration that was moved' 1 \
+    "$room/c99.c:16:19: overrun: offset [4,4], size [4,4]"$'\n1 alarm\n' \
+    ./sparrow source "$room/c99.c"
+check_said 'what was rewritten' "sparrow: rewritten: 1 variadic definition, 1 declaration behind a \
+statement, 1 declaration in a for" ./sparrow source "$room/c99.c"
+check 'nothing is rewritten' 2 "$room/c99.c:3:1: refused U6: variadic definition"$'\n' \
+    ./sparrow source --strict "$room/c99.c"
+check_said 'a hint' 'sparrow: hint: --strict leaves it as it is; without --strict it is rewritten' \
+    ./sparrow source --strict "$room/c99.c"
+printf 'int main(void) { int a[2]; a[0] = 0; return a[0]; }\n' >"$room/c90.c"
+check_all_said 'C90 stays as it is' '' ./sparrow source "$room/c90.c"
+check 'byte for byte' 0 '' eval '
+    ./sparrow source --keep "$room/as-is" "$room/c90.c" >/dev/null
+    ./sparrow source --strict --keep "$room/strict" "$room/c90.c" >/dev/null
+    cmp "$room/as-is/1-c90.i" "$room/strict/1-c90.i"'
+
+# Each file's first fault; and the program's own, where no file has one.
+printf 'int f(void) { return missing; }\n' >"$room/missing.c"
+printf 'int g(void) { return ({ while (0) ; 1; }); }\n' >"$room/words.c"
+check 'the first fault of each file' 2 "$room/missing.c:1:22: refused F8: undeclared name: missing
+$room/words.c:1:23: refused U8: GNU word
+" ./sparrow source "$room/c99.c" "$room/missing.c" "$room/words.c"
+printf '#define A b +\nint f(void) { return A 1; }\n' >"$room/macro.c"
+check 'the name that a macro writes' 2 "$room/macro.c:2:22: refused F8: undeclared name: b"$'\n' \
+    ./sparrow source "$room/macro.c"
+check 'a fault of the whole' 2 "$room/c90.c:1:5: refused F23: second definition"$'\n' \
+    ./sparrow source "$room/c90.c" "$room/c90.c"
+printf 'struct __attribute__((packed)) s { char c; int i; };\n' >"$room/packed.c"
+check 'a word that lays out data' 2 "$room/missing.c:1:22: refused F8: undeclared name: missing
+$room/packed.c:1:23: refused: packed changes the layout
+" ./sparrow source "$room/missing.c" "$room/c99.c" "$room/packed.c"
+check 'what is kept is what was analysed' 1 \
+    "$room/c99.c:16:19: overrun: offset [4,4], size [4,4]"$'\n1 alarm\n' eval '
+    ./sparrow source --keep "$room/kept" "$room/c99.c" >/dev/null
+    ./sparrow analyse "$room/kept/1-c99.i"'
+finish
