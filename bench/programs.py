@@ -22,9 +22,6 @@ from c.places import Places  # noqa: E402
 from c.tokens import Tokens  # noqa: E402
 
 ALARM = re.compile(r"^(.*):([0-9]+):([0-9]+): (?!refused)", re.MULTILINE)
-# The functions that aren't built yet, under names that no file defines; columns stay.
-NAMES = "malloc calloc realloc free exit abort memset memcpy memmove strlen strcpy strncpy strcat"
-RENAMED = [f"-D{name}={name.capitalize()}" for name in NAMES.split()]
 # How a report ends.
 WHOLE = ("alarm\n", "alarms\n")
 # Seconds that a program may take.
@@ -57,12 +54,23 @@ def run(words: list[str], folder: str) -> tuple[str, float]:
     return said, after.ru_utime + after.ru_stime - before.ru_utime - before.ru_stime
 
 
+def lines_of(folder: str, files: list[str]) -> int:
+    """How many lines the files have, without those of headers."""
+    count = 0
+    for name in files:
+        with open(os.path.join(folder, name), "rb") as file:
+            count += file.read().count(b"\n")
+    return count
+
+
 def row(name: str, folder: str, options: list[str], files: list[str]) -> str:
     """A program's row."""
-    words = [*RENAMED, *options, *files]
+    words = [*options, *files]
     said, seconds = run(words, folder)
+    lines = lines_of(folder, files)
     if not said.endswith(WHOLE):
-        return f"| {name} | {len(files)} | | {said.splitlines()[0]} | | | {seconds:.1f} s |"
+        refusal = said.splitlines()[0]
+        return f"| {name} | {len(files)} | {lines} | | {refusal} | | | | {seconds:.1f} s |"
     with tempfile.TemporaryDirectory() as kept:
         strict, _ = run(["--strict", "--keep", kept, *words], folder)
         tokens = token_places(kept)
@@ -70,8 +78,8 @@ def row(name: str, folder: str, options: list[str], files: list[str]) -> str:
     places = set(alarms)
     right = len(places & tokens)
     is_new = "" if strict.endswith(WHOLE) else "yes"
-    numbers = f"{len(alarms)} | {len(places)} | {right}"
-    return f"| {name} | {len(files)} | {is_new} | {numbers} | {seconds:.1f} s |"
+    numbers = f"{len(alarms)} | {len(places)} | {100 * len(places) / lines:.0f} | {right}"
+    return f"| {name} | {len(files)} | {lines} | {is_new} | {numbers} | {seconds:.1f} s |"
 
 
 def main() -> int:
@@ -81,8 +89,9 @@ def main() -> int:
         return 3
     prepare_environment()
     room = os.path.abspath(sys.argv[1])
-    print("| program | files | rewritten | alarms | places | at a token | time |")
-    print("|---|---|---|---|---|---|---|")
+    numbers = "alarms | places | a hundred lines | at a token"
+    print(f"| program | files | lines | rewritten | {numbers} | time |")
+    print("|---|---|---|---|---|---|---|---|---|")
     with open(os.path.join(TOP, "bench", "programs.tsv"), encoding="ascii") as rows:
         for line in rows:
             if line.startswith("#") or not line.strip():

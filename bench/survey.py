@@ -19,8 +19,8 @@ TOP = os.path.dirname(os.path.dirname(os.path.abspath(__file__)))
 KEYRING = "/usr/share/keyrings/debian-archive-keyring.gpg"
 ARCHIVE = f"deb-src [signed-by={KEYRING}] http://deb.debian.org/debian bookworm main\n"
 REFUSAL = re.compile(r":[0-9]+:[0-9]+: refused ?([A-Z]+[0-9]+)?:")
-# A unit without `main`, or with a call of a function that isn't built yet, has passed all checks.
-ACCEPTED = frozenset(["analysed", "F25", "N0"])
+# A unit without `main` has passed all checks.
+ACCEPTED = frozenset(["analysed", "F25"])
 # Seconds that a unit, or a package's own preparation, may take.
 LATE = 100
 PREPARING = 1800

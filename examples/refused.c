@@ -1,7 +1,5 @@
-void *malloc(unsigned long size);
-
 int main(void){
-  int *p;
-  p = malloc(4);
-  return p == 0;
+  int x;
+  x = 3;
+  return x * 0.5;
 }

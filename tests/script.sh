@@ -52,6 +52,7 @@ check 'where the program is' 0 "$out/sparrow"$'\n' run --program
 commands='sparrow: the commands are: analyse [--values] FILE.., dense [--values] FILE..,'
 commands+=' source [--values] [--keep DIR] [CPP-OPTION..] FILE.c..'
 check_said 'status 3' "$commands" run 3
+check 'the help of a command' 0 "$(run --help)"$'\n' run source --help
 check_said 'status 5' "sparrow: standard output can't be written" run 5
 check_said 'status 6' 'sparrow: out of memory' run 6
 check_said 'status 7' "sparrow: the words of the command line can't be read" run 7

@@ -10,8 +10,6 @@ SPLIT = "split the program, or give fewer files"
 REWRITTEN = "--strict leaves it as it is; without --strict it is rewritten"
 HINTS = {
     "": "it has to go from the source; -D'__attribute__(x)=' takes all out, and sizes differ then",
-    "N0": "-Dmalloc=Malloc makes a function of the library one that is defined nowhere; a name of"
-    " the same length keeps columns",
     "F8": "-DNAME=VALUE gives a constant that no header here has",
     "F9": "-D_ANSI_SOURCE hides the names of POSIX in the headers of C90",
     "F19": "a length must be constant: give the greatest",

@@ -15,7 +15,7 @@ REFUSAL = re.compile(rb"(.*):([0-9]+):([0-9]+): refused ([A-Z]+[0-9]+): ([^\n]*)
 NAME = re.compile(r"[A-Za-z_]\w*", re.ASCII)
 
 # What no file has alone: the program as a whole is refused for it.
-OF_THE_WHOLE = frozenset(["F23", "F24", "F25", "M4", "M5", "M6", "M7", "M8", "M9", "N0"])
+OF_THE_WHOLE = frozenset(["F23", "F24", "F25", "M4", "M5", "M6", "M7", "M8", "M9"])
 
 # A file with a fault of its own. Behind a file without one, it is what is refused.
 PROBE = b"@\n"

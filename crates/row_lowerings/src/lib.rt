@@ -7,7 +7,7 @@ ghost use Rattle.sp_ir.specs.Programs as ir;
 ghost use Rattle.sp_ir.specs.Formed.{IsFormed};
 ghost use Rattle.sp_front.specs.Sources.{source_of, AreWithin};
 
-use sp_front::{FrontError, MAX_FILES, MAX_TEXT, Source, lowering_of};
+use sp_front::{FrontError, MAX_FILES, MAX_TEXT, Source};
 use sp_ir::Lowered;
 use sp_operands::CheckError;
 use sp_tree::Names;
@@ -53,7 +53,7 @@ pub fn lowered_of(
     ensures { IfOk result (λ lowered. IsFormed (ir.lowered_of lowered)) }
 {
     let sources = sources_of(alloc, texts)?;
-    match lowering_of(alloc, &sources, names) {
+    match sp_front::lowered_of(alloc, &sources, names) {
         Ok(lowered) => Ok(lowered),
         Err(FrontError::Fault(fault)) => Err(CheckError::Fault(fault)),
         Err(FrontError::NoMemory) => Err(CheckError::NoMemory),

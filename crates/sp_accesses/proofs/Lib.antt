@@ -2,5 +2,6 @@ pub mod Steps
 pub mod Picked
 pub mod Stored
 pub mod Owned
+pub mod Routines
 pub mod Listed
 pub mod Local

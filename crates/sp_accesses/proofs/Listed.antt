@@ -10,11 +10,12 @@ use Rattle.sp_ir.specs.Commands.{Command, start, entry, exit, skip, assign, copy
 use Rattle.sp_rows.specs.Setting.{cell_of, count}
 use Rattle.sp_scenes.specs.Analysed.{Analysed, setting_of, locations_of}
 use Rattle.sp_scenes.specs.Cells.{rising}
+use Rattle.sp_calls.specs.Copies.{result_defines}
 use Rattle.sp_calls.proofs.StoringSteps.{low-member}
 use Rattle.sp_transfer.specs.Effects.{defined_by, used_by}
 use Rattle.sp_transfer.specs.Equations.{AreLocations}
-use Rattle.sp_accesses.specs.Parts.{Adds, reads_of, keeps_at}
-use Rattle.sp_accesses.proofs.Steps.{or-none, any-alike, eq-swap}
+use Rattle.sp_accesses.specs.Parts.{Adds, reads_of, keeps_at, joins_at}
+use Rattle.sp_accesses.proofs.Steps.{or-none, or-true, any-alike, eq-swap}
 use Rattle.sp_accesses.proofs.Picked.{any-members, both-true, and-none}
 
 or-swap : (a b : Bool) → (a || b) ≡ (b || a)
@@ -70,38 +71,54 @@ are-locations a test places list is ascends are low = record {
 
 -- ---- uses
 
-read-alone : (b d : Bool) → b ≡ (b || (d && false))
-read-alone b true = or-none b
-read-alone b false = or-none b
+-- where nothing is joined
+with-none : (r d : Bool) → (r || d) ≡ ((r || false) || d)
+with-none r d = ap (λ b. b || d) (or-none r)
+
+kept-read : (k r : Bool) → (k || r) ≡ ((r || false) || k)
+kept-read k r = or-swap k r ∙ with-none r k
+
+read-alone : (r d : Bool) → r ≡ ((r || false) || (d && false))
+read-alone r d = or-none r ∙ ap (λ b. r || b) (sym (and-none d false refl)) ∙ with-none r (d && false)
 
 and-true : (b : Bool) → b ≡ (b && true)
 and-true true = refl
 and-true false = refl
 
--- what is read, and of what is defined that which may be kept
-pub used-parts : (a : Analysed) (n : ℕ) (c : Command) (l : ℕ) → used_by a n c l ≡ (has (cell_of (setting_of a) l) (reads_of a n c) || (defined_by a n c l && keeps_at a c l))
+-- what is joined is kept, and of the rest that which may be
+joined-alone : (w r : Bool) → (w || r) ≡ ((r || w) || ((w || false) && false))
+joined-alone true r = sym (ap (λ b. b || false) (or-true r))
+joined-alone false r = read-alone r false
+
+joined-kept : (w d k r : Bool) → (w || ((d && k) || r)) ≡ ((r || w) || ((w || d) && k))
+joined-kept true d k r = sym (ap (λ b. b || k) (or-true r))
+joined-kept false d k r = kept-read (d && k) r
+
+-- what is read, what is joined to, and of what is defined that which may be kept
+pub used-parts : (a : Analysed) (n : ℕ) (c : Command) (l : ℕ) → used_by a n c l ≡ ((has (cell_of (setting_of a) l) (reads_of a n c) || joins_at a c l) || (defined_by a n c l && keeps_at a c l))
 used-parts a n start l = read-alone (has (cell_of (setting_of a) l) (reads_of a n start)) (defined_by a n start l)
 used-parts a n (entry f) l = sym (and-none (defined_by a n (entry f) l) false refl)
 used-parts a n (exit f) l = refl
 used-parts a n skip l = refl
-used-parts a n (assign to e) l = or-swap (defined_by a n (assign to e) l && keeps_at a (assign to e) l) (has (cell_of (setting_of a) l) (reads_of a n (assign to e)))
-used-parts a n (copy to from) l = or-swap (defined_by a n (copy to from) l && keeps_at a (copy to from) l) (has (cell_of (setting_of a) l) (reads_of a n (copy to from)))
-used-parts a n (init o values zeros) l = or-swap (defined_by a n (init o values zeros) l && keeps_at a (init o values zeros) l) (has (cell_of (setting_of a) l) (reads_of a n (init o values zeros)))
-used-parts a n (assume e op f) l = or-swap (defined_by a n (assume e op f) l) (has (cell_of (setting_of a) l) (reads_of a n (assume e op f))) ∙ ap (λ b. has (cell_of (setting_of a) l) (reads_of a n (assume e op f)) || b) (and-true (defined_by a n (assume e op f) l))
-used-parts a n (eval e) l = or-none (has (cell_of (setting_of a) l) (reads_of a n (eval e)))
-used-parts a n (call callee args) l = or-swap (defined_by a n (call callee args) l && keeps_at a (call callee args) l) (has (cell_of (setting_of a) l) (reads_of a n (call callee args)))
-used-parts a n (return c None) l = or-none (has (cell_of (setting_of a) l) (reads_of a n (return c None)))
-used-parts a n (return c (Some to)) l = or-swap (defined_by a n (return c (Some to)) l && keeps_at a (return c (Some to)) l) (has (cell_of (setting_of a) l) (reads_of a n (return c (Some to))))
-used-parts a n (library which to args site) l = or-none (has (cell_of (setting_of a) l) (reads_of a n (library which to args site)))
-used-parts a n (outside None args site) l = or-none (has (cell_of (setting_of a) l) (reads_of a n (outside None args site)))
-used-parts a n (outside (Some to) args site) l = or-swap (defined_by a n (outside (Some to) args site) l && keeps_at a (outside (Some to) args site) l) (has (cell_of (setting_of a) l) (reads_of a n (outside (Some to) args site)))
+used-parts a n (assign to e) l = kept-read (defined_by a n (assign to e) l && keeps_at a (assign to e) l) (has (cell_of (setting_of a) l) (reads_of a n (assign to e)))
+used-parts a n (copy to from) l = kept-read (defined_by a n (copy to from) l && keeps_at a (copy to from) l) (has (cell_of (setting_of a) l) (reads_of a n (copy to from)))
+used-parts a n (init o values zeros) l = kept-read (defined_by a n (init o values zeros) l && keeps_at a (init o values zeros) l) (has (cell_of (setting_of a) l) (reads_of a n (init o values zeros)))
+used-parts a n (assume e op f) l = kept-read (defined_by a n (assume e op f) l) (has (cell_of (setting_of a) l) (reads_of a n (assume e op f))) ∙ ap (λ b. (has (cell_of (setting_of a) l) (reads_of a n (assume e op f)) || false) || b) (and-true (defined_by a n (assume e op f) l))
+used-parts a n (eval e) l = read-alone (has (cell_of (setting_of a) l) (reads_of a n (eval e))) false
+used-parts a n (call callee args) l = kept-read (defined_by a n (call callee args) l && keeps_at a (call callee args) l) (has (cell_of (setting_of a) l) (reads_of a n (call callee args)))
+used-parts a n (return c None) l = read-alone (has (cell_of (setting_of a) l) (reads_of a n (return c None))) false
+used-parts a n (return c (Some to)) l = kept-read (defined_by a n (return c (Some to)) l && keeps_at a (return c (Some to)) l) (has (cell_of (setting_of a) l) (reads_of a n (return c (Some to))))
+used-parts a n (library which None args site) l = joined-alone (joins_at a (library which None args site) l) (has (cell_of (setting_of a) l) (reads_of a n (library which None args site)))
+used-parts a n (library which (Some to) args site) l = joined-kept (joins_at a (library which (Some to) args site) l) (result_defines a (Some to) l) (keeps_at a (library which (Some to) args site) l) (has (cell_of (setting_of a) l) (reads_of a n (library which (Some to) args site)))
+used-parts a n (outside None args site) l = read-alone (has (cell_of (setting_of a) l) (reads_of a n (outside None args site))) false
+used-parts a n (outside (Some to) args site) l = kept-read (defined_by a n (outside (Some to) args site) l && keeps_at a (outside (Some to) args site) l) (has (cell_of (setting_of a) l) (reads_of a n (outside (Some to) args site)))
 
-pub used-made : (a : Analysed) (n : ℕ) (c : Command) (defs old new : List ℕ) → AreLocations a (defined_by a n c) defs → ((l : ℕ) → has l old ≡ has (cell_of (setting_of a) l) (reads_of a n c))
+pub used-made : (a : Analysed) (n : ℕ) (c : Command) (defs old new : List ℕ) → AreLocations a (defined_by a n c) defs → ((l : ℕ) → has l old ≡ (has (cell_of (setting_of a) l) (reads_of a n c) || joins_at a c l))
     → Adds (λ l. list_any (λ x. keeps_at a c x && nat_eq l x) defs) old new → (l : ℕ) → has l new ≡ used_by a n c l
 used-made a n c defs old new are read adds l =
     adds l
     ∙ ap (λ b. b || list_any (λ x. keeps_at a c x && nat_eq l x) defs) (read l)
-    ∙ ap (λ b. has (cell_of (setting_of a) l) (reads_of a n c) || b) (any-members (keeps_at a c) l defs ∙ ap (λ b. b && keeps_at a c l) (are.are l))
+    ∙ ap (λ b. (has (cell_of (setting_of a) l) (reads_of a n c) || joins_at a c l) || b) (any-members (keeps_at a c) l defs ∙ ap (λ b. b && keeps_at a c l) (are.are l))
     ∙ sym (used-parts a n c l)
 
 pub used-low : (a : Analysed) (n : ℕ) (c : Command) (defs old new : List ℕ) → AreLocations a (defined_by a n c) defs → ((l : ℕ) → has l old ≡ true → l < count (setting_of a))

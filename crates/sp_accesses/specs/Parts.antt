@@ -5,14 +5,18 @@ use Rattle.std.specs.List.{list_any}
 use Rattle.sp_lattice.specs.System.{has}
 use Rattle.sp_ir.specs.Commands.{Expression, Lvalue, Command, start, entry, exit, skip, assign, copy, init, assume, eval, call, return, library, outside}
 use Rattle.sp_ir.specs.Terrain.{terrain_of}
-use Rattle.sp_ir.specs.Denoted.{cells_of, regions_of, uses_of, pointer_uses}
+use Rattle.sp_ir.specs.Denoted.{cells_of, uses_of, pointer_uses}
 use Rattle.sp_rows.specs.Setting.{cell_of}
+use Rattle.sp_rows.specs.Storing.{may_hit}
 use Rattle.sp_stores.specs.Destinations.{assigned_reads, is_direct, bottom_regions, bottom_accepts, region_under}
 use Rattle.sp_conditions.specs.Conditions.{assumed_reads}
 use Rattle.sp_scenes.specs.Analysed.{Analysed, setting_of, scene_of, is_summary}
 use Rattle.sp_entries.specs.Initials.{is_shared, leaf_reads}
 use Rattle.sp_calls.specs.Copies.{struct_reads, arguments_read, result_found}
 use Rattle.sp_calls.specs.Returns.{result_reads}
+use Rattle.sp_library.specs.declared.written.Written.{Written}
+use Rattle.sp_library.specs.Written.{written_by, argument_regions, aim_regions}
+use Rattle.sp_library.specs.Effects.{written_to, library_reads}
 
 -- a set gained exactly the numbers that pass a test
 abbrev pub Adds : (ℕ → Bool) → List ℕ → List ℕ → Type 0
@@ -21,12 +25,9 @@ Adds test old new = (r : ℕ) → has r new ≡ (has r old || test r)
 abbrev pub among : List ℕ → ℕ → Bool
 among xs r = has r xs
 
--- where an lvalue stands, where a value points, and what is read to find them
+-- where an lvalue stands, and what is read to find a value and an lvalue
 abbrev pub stands_at : Analysed → Lvalue → List ℕ
 stands_at a l = cells_of (terrain_of a.program) (setting_of a).points_to l
-
-abbrev pub points_at : Analysed → Expression → List ℕ
-points_at a e = regions_of (terrain_of a.program) (setting_of a).points_to e
 
 abbrev pub read_by : Analysed → Expression → List ℕ
 read_by a e = uses_of (terrain_of a.program) (setting_of a).points_to e
@@ -49,6 +50,13 @@ abbrev pub assigned_at : Analysed → Lvalue → ℕ → Bool
 assigned_at a to q = list_any (λ r. bottom_accepts (terrain_of a.program) to r
     && nat_eq q (region_under (terrain_of a.program) to r)) (bottoms a to)
 
+-- the regions to which an argument may point, and those at which a routine of the library may write
+abbrev pub argument_points : Analysed → List Expression → ℕ → List ℕ
+argument_points a args k = argument_regions (terrain_of a.program) (setting_of a).points_to args k
+
+abbrev pub aimed_at : Analysed → Written → List Expression → Option ℕ → List ℕ
+aimed_at a w args site = aim_regions (terrain_of a.program) (setting_of a).points_to w args site
+
 -- ---- uses
 
 -- the lvalue of a struct that is read
@@ -69,7 +77,7 @@ reads_of a n (assume e op f) = assumed_reads (scene_of a) e f
 reads_of a n (eval e) = read_by a e
 reads_of a n (call callee args) = arguments_read a args ++ read_by a callee
 reads_of a n (return c to) = result_reads a c to ++ result_found a to
-reads_of a n (library which to args site) = arguments_read a args ++ result_found a to
+reads_of a n (library which to args site) = library_reads a args which to
 reads_of a n (outside to args site) = arguments_read a args ++ result_found a to
 
 -- whether a location that is stored to may keep what it holds
@@ -93,5 +101,21 @@ keeps_at a (assume e op f) l = true
 keeps_at a (eval e) l = false
 keeps_at a (call callee args) l = is_summary a.program a.told (cell_of (setting_of a) l)
 keeps_at a (return c to) l = result_may_keep a to l
-keeps_at a (library which to args site) l = false
+keeps_at a (library which to args site) l = result_may_keep a to l
 keeps_at a (outside to args site) l = result_may_keep a to l
+
+-- whether a command joins something to what a location holds, and so keeps that whatever it stores
+abbrev pub joins_at : Analysed → Command → ℕ → Bool
+joins_at a start l = false
+joins_at a (entry f) l = false
+joins_at a (exit f) l = false
+joins_at a skip l = false
+joins_at a (assign to e) l = false
+joins_at a (copy to from) l = false
+joins_at a (init o values zeros) l = false
+joins_at a (assume e op f) l = false
+joins_at a (eval e) l = false
+joins_at a (call callee args) l = false
+joins_at a (return c to) l = false
+joins_at a (library which to args site) l = may_hit (written_to a args site (written_by which)) l
+joins_at a (outside to args site) l = false

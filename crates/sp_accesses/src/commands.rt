@@ -7,13 +7,16 @@ ghost use Rattle.sp_scenes.specs.Analysed.{scene_of};
 ghost use Rattle.sp_scenes.specs.View.{analysed_of};
 ghost use Rattle.sp_calls.specs.Copies.{struct_reads, arguments_read, result_found};
 ghost use Rattle.sp_calls.specs.Returns.{result_reads};
-ghost use Rattle.sp_accesses.specs.Parts.{Adds, among, read_by, found_by, reads_of, may_keep, result_may_keep, keeps_at};
+ghost use Rattle.sp_library.specs.Effects.{library_reads};
+ghost use Rattle.sp_accesses.specs.Parts.{Adds, AddsAt, among, read_by, found_by, reads_of, may_keep, result_may_keep, keeps_at, joins_at};
 
+use crate::library::{add_moved, add_written};
 use crate::reads::{add_pointer_uses, add_uses};
 use crate::structs::{add_arguments, add_found, add_leaves, add_results, add_starts, add_struct};
 use sp_conditions::is_direct;
 use sp_entries::is_shared;
-use sp_ir::{Command, Expr, Lvalue};
+use sp_ir::{Command, Expr, Lvalue, Routine};
+use sp_library::written_by;
 use sp_scenes::Analysis;
 use sp_sets::NumberSet;
 use sp_stores::Scenery;
@@ -122,6 +125,24 @@ fn add_given(
     Ok(())
 }
 
+/// Adds the cells that a call of the library reads.
+fn add_routine(
+    alloc: Global,
+    analysis: &Analysis,
+    which: Routine,
+    to: Option<&Lvalue>,
+    args: &[Expr],
+    set: &mut NumberSet,
+) -> Result<(), AllocError>
+    ensures { OnOk result (Adds (among (library_reads (analysed_of analysis.now)
+        (map expression_of args.now) which (option_map (λ l. lvalue_of l.now) to.entry)))
+        set.old set.new) }
+{
+    add_moved(alloc, analysis, written_by(which), args, set)?;
+    add_given(alloc, analysis, to, args, set)?;
+    Ok(())
+}
+
 /// Adds the cells that a command reads.
 pub(crate) fn add_reads(
     alloc: Global,
@@ -167,8 +188,13 @@ pub(crate) fn add_reads(
             add_returned(alloc, analysis, *call, to.as_ref(), set)?;
             Ok(())
         }
-        Command::Library { to, args, .. } => {
-            add_given(alloc, analysis, to.as_ref(), args, set)?;
+        Command::Library {
+            which,
+            to,
+            args,
+            ..
+        } => {
+            add_routine(alloc, analysis, *which, to.as_ref(), args, set)?;
             Ok(())
         }
         Command::Outside { to, args, .. } => {
@@ -210,12 +236,47 @@ pub(crate) fn keeps(analysis: &Analysis, command: &Command, location: u32) -> bo
         Command::Assume { .. } => true,
         Command::Call { .. } => analysis.is_summary(location),
         Command::Return { to, .. } => result_may_keep(analysis, to.as_ref(), location),
+        Command::Library { to, .. } => result_may_keep(analysis, to.as_ref(), location),
         Command::Outside { to, .. } => result_may_keep(analysis, to.as_ref(), location),
         Command::Start
         | Command::Entry { .. }
         | Command::Exit { .. }
         | Command::Skip
+        | Command::Eval(_) => false,
+    }
+}
+
+/// Adds the cells to whose values a command joins something: these are kept.
+pub(crate) fn add_joined(
+    alloc: Global,
+    analysis: &Analysis,
+    command: &Command,
+    set: &mut NumberSet,
+) -> Result<(), AllocError>
+    ensures { OnOk result (AddsAt (analysed_of analysis.now)
+        (joins_at (analysed_of analysis.now) (command_of command.now)) set.old set.new) }
+{
+    match command {
+        Command::Library {
+            which,
+            args,
+            site,
+            ..
+        } => {
+            add_written(alloc, analysis, written_by(*which), args, *site, set)?;
+            Ok(())
+        }
+        Command::Start
+        | Command::Entry { .. }
+        | Command::Exit { .. }
+        | Command::Skip
+        | Command::Assign { .. }
+        | Command::Copy { .. }
+        | Command::Init { .. }
+        | Command::Assume { .. }
         | Command::Eval(_)
-        | Command::Library { .. } => false,
+        | Command::Call { .. }
+        | Command::Return { .. }
+        | Command::Outside { .. } => Ok(()),
     }
 }

@@ -4,7 +4,8 @@
 //! cells may point. Each region that is a cell is then named by its *location*. So a list takes
 //! time about its own size and that of the objects that it touches. Only at the start of the
 //! program all locations are seen. To what a command reads comes what it may *keep* of its own
-//! definitions: a store through a pointer, or to a summary, may leave a cell as it is.
+//! definitions: a store through a pointer, or to a summary, may leave a cell as it is. What a
+//! routine of the library writes is joined to what was there: all of that is kept.
 //!
 //! ```text
 //! int a, b, *p, *q;
@@ -18,6 +19,7 @@
 #![tactic(auto)]
 
 mod commands;
+mod library;
 mod lists;
 mod locals;
 mod objects;

@@ -12,10 +12,12 @@ ghost use Rattle.sp_transfer.specs.Equations.{AreLocations};
 ghost use Rattle.sp_accesses.specs.Locals.{AreLocals};
 ghost use Rattle.sp_accesses.specs.Parts.{Adds, AddsAt, keeps_at};
 
-use crate::commands::{add_reads, keeps};
+use crate::commands::{add_joined, add_reads, keeps};
+use crate::library::add_written;
 use crate::objects::{add_fresh, add_object, add_start};
 use crate::writes::{add_called, add_destination, add_result_stored, add_sides, add_stored};
 use sp_ir::Command;
+use sp_library::written_by;
 use sp_scenes::Analysis;
 use sp_sets::NumberSet;
 use sp_stores::location_at;
@@ -131,15 +133,21 @@ fn add_defined_by(
             add_called(analysis, node, set)?;
             Ok(())
         }
-        Command::Return { to, .. } => {
+        Command::Return { to, .. } | Command::Outside { to, .. } => {
             add_result_stored(alloc, analysis, to.as_ref(), set)?;
             Ok(())
         }
-        Command::Outside { to, .. } => {
+        Command::Library {
+            which,
+            to,
+            args,
+            site,
+        } => {
+            add_written(alloc, analysis, written_by(*which), args, *site, set)?;
             add_result_stored(alloc, analysis, to.as_ref(), set)?;
             Ok(())
         }
-        Command::Exit { .. } | Command::Skip | Command::Eval(_) | Command::Library { .. } => Ok(()),
+        Command::Exit { .. } | Command::Skip | Command::Eval(_) => Ok(()),
     }
 }
 
@@ -218,7 +226,8 @@ fn add_kept(
     Ok(())
 }
 
-/// The locations that a command reads, and those of its definitions that it may keep.
+/// The locations that a command reads, those to which it joins something, and those of its
+/// definitions that it may keep.
 fn used_by(
     alloc: Global,
     analysis: &Analysis,
@@ -235,6 +244,7 @@ fn used_by(
 {
     let mut regions = NumberSet::new(alloc);
     add_reads(alloc, analysis, node, command, &mut regions)?;
+    add_joined(alloc, analysis, command, &mut regions)?;
     let mut places = to_locations(alloc, analysis, &regions)?;
     add_kept(analysis, command, definitions, &mut places)?;
     Ok(places)

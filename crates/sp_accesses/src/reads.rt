@@ -3,27 +3,12 @@ ghost use Rattle.std.specs.Prelude.{◌≡◌, ℕ, IfOk, OnOk};
 ghost use Rattle.sp_lattice.specs.System.{has};
 ghost use Rattle.sp_ir.specs.View.{expression_of, lvalue_of};
 ghost use Rattle.sp_scenes.specs.View.{analysed_of};
-ghost use Rattle.sp_accesses.specs.Parts.{Adds, among, stands_at, points_at, read_by, found_by};
+ghost use Rattle.sp_accesses.specs.Parts.{Adds, among, stands_at, read_by, found_by};
 
 use sp_ir::{Expr, Lvalue};
 use sp_scenes::Analysis;
 use sp_sets::NumberSet;
 use std::alloc::{AllocError, Global};
-
-/// The regions to which an expression's value may point.
-pub(crate) fn points_at(
-    alloc: Global,
-    analysis: &Analysis,
-    expr: &Expr,
-) -> Result<NumberSet, AllocError>
-    ensures { IfOk result (λ set. (r : ℕ) →
-        has r set ≡ has r (points_at (analysed_of analysis.now) (expression_of expr.now))) }
-{
-    let mut seen = NumberSet::new(alloc);
-    let rows = analysis.pre.rows();
-    let set = sp_targets::regions(alloc, &analysis.lowered, rows, expr, &mut seen)?;
-    Ok(set)
-}
 
 /// The cells at which an lvalue may stand.
 pub(crate) fn stands_at(

@@ -54,7 +54,7 @@ pub(crate) fn add_under(
 }
 
 /// Adds the cells under these regions.
-fn add_all_under(
+pub(crate) fn add_all_under(
     analysis: &Analysis,
     regions: &[u32],
     set: &mut NumberSet,

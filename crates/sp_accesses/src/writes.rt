@@ -1,8 +1,7 @@
 //! The regions to which commands store.
-ghost use Rattle.std.specs.Prelude.{◌≡◌, ◌&&◌, not, ℕ, nat_eq, Some, option_map, IfOk, OnOk};
+ghost use Rattle.std.specs.Prelude.{◌≡◌, ◌&&◌, not, nat_eq, Some, option_map, OnOk};
 ghost use Rattle.std.specs.List.{list_any};
 ghost use Rattle.sp_types.specs.View.{type_of};
-ghost use Rattle.sp_lattice.specs.System.{has};
 ghost use Rattle.sp_ir.specs.Programs.{lowered_of};
 ghost use Rattle.sp_ir.specs.Terrain.{terrain_of};
 ghost use Rattle.sp_ir.specs.View.{expression_of, lvalue_of};
@@ -15,12 +14,12 @@ ghost use Rattle.sp_conditions.specs.Sides.{names};
 ghost use Rattle.sp_calls.specs.Copied.{has_cell};
 ghost use Rattle.sp_calls.specs.Copies.{leaf_destination, result_defines};
 ghost use Rattle.sp_calls.specs.Passed.{formal_has, formals_of, call_defines};
-ghost use Rattle.sp_accesses.specs.Parts.{Adds, AddsAt, bottoms, assigned_at};
+ghost use Rattle.sp_accesses.specs.Parts.{Adds, AddsAt, assigned_at};
 
-use crate::reads::points_at;
 use crate::structs::add_under;
 use sp_conditions::{direct_region, is_direct};
 use sp_ir::{Expr, Lowered, Lvalue};
+use sp_library::bottoms;
 use sp_scenes::{Analysis, owner_of};
 use sp_sets::NumberSet;
 use sp_stores::{bottom_accepts, region_under};
@@ -28,22 +27,6 @@ use sp_types::CType;
 use std::alloc::{AllocError, Global};
 
 // ---- stores
-
-/// The regions that the bottom of an lvalue may have.
-fn bottoms(alloc: Global, analysis: &Analysis, lvalue: &Lvalue) -> Result<NumberSet, AllocError>
-    ensures { IfOk result (λ set. (r : ℕ) →
-        has r set ≡ has r (bottoms (analysed_of analysis.now) (lvalue_of lvalue.now))) }
-{
-    match lvalue {
-        Lvalue::Direct(object, _) => {
-            let mut set = NumberSet::new(alloc);
-            set.add(analysis.lowered.root_of(*object))?;
-            Ok(set)
-        }
-        Lvalue::Through(pointer, _, _) => points_at(alloc, analysis, pointer),
-        Lvalue::Field(of, _, _) => bottoms(alloc, analysis, of),
-    }
-}
 
 /// Adds the region of an lvalue whose bottom has this one, where an access matches there.
 fn add_place(

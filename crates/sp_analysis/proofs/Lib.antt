@@ -1,3 +1,2 @@
 mod SolvedLaws
-mod UsedLaws
 mod SparseLaws

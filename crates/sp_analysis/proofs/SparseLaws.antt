@@ -36,7 +36,7 @@ use Rattle.sp_calls.proofs.StoringSteps.{low-member}
 use Rattle.sp_transfer.specs.Effects.{used_by}
 use Rattle.sp_transfer.specs.Equations.{Equations, AreEquations, nodes_of, meaning_of, number_of}
 use Rattle.sp_analysis.specs.Outcomes.{alarms_of, text_of, IsReport, IsReportOf, reaching}
-use Rattle.sp_analysis.proofs.UsedLaws.{alarms-used}
+use Rattle.sp_transfer.proofs.UsedLaws.{alarms-used}
 
 -- an answer that is there where two tests hold, and none where one of them doesn't
 given-both : (a b : Bool) (v : Slot) → a ≡ true → b ≡ true → (if a && b then Some v else None) ≡ Some v

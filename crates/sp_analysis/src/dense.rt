@@ -51,8 +51,7 @@ fn solve<L: Ledger>(
 }
 
 /// The report of a formed program, or that it is too large. `names` tells the bytes of each file's
-/// name; `with_values` wants the lines of values behind the report. A call of the library counts as
-/// one that does nothing: whoever calls this refuses programs that have one.
+/// name; `with_values` wants the lines of values behind the report.
 pub fn dense_report<L: Ledger>(
     alloc: Global,
     names: &Names,

@@ -15,8 +15,7 @@
 //! The layer above uses two contracts. [`dense_report`]: what comes `Ends` the program
 //! (`specs.Outcomes`), and the evaluations are at most those of the dense engine (`IsStepped`
 //! there). [`sparse_report`]: the same report (`Ends` of `specs.Sparse`), with evaluations bounded
-//! by the data dependencies (`IsServed`). Functions of the library have no effect yet, so the layer
-//! above refuses programs that call one.
+//! by the data dependencies (`IsServed`).
 #![tactic(auto)]
 
 mod dense;

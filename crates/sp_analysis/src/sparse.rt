@@ -54,8 +54,7 @@ fn solve<L: Ledger>(
 }
 
 /// The report of a formed program, or that it has too many dependencies. `names` tells the bytes of
-/// each file's name; `with_values` wants the lines of values behind the report. A call of the
-/// library counts as one that does nothing: whoever calls this refuses programs that have one.
+/// each file's name; `with_values` wants the lines of values behind the report.
 pub fn sparse_report<L: Ledger>(
     alloc: Global,
     names: &Names,

@@ -85,7 +85,7 @@ module _ (a : Analysed) (is : IsScene (scene_of a)) where
         within = λ r l m h. fine.within r (cell_of (setting_of a) l) m
             (first (bottom_accepts g to r) (has_cell a.program (Some (lvalue_type to)) (region_under g to r) (cell_of (setting_of a) l)) h)
             (second (bottom_accepts g to r) (has_cell a.program (Some (lvalue_type to)) (region_under g to r) (cell_of (setting_of a) l)) h);
-        agree = λ s t r l under under' same. fine.agree s t (region_under g to r) (cell_of (setting_of a) l) under same;
+        agree = λ s t r l m h under under' same. fine.agree s t (region_under g to r) (cell_of (setting_of a) l) under same;
       }
 
       pub leaves-lawful : IsLawful (setting_of a) (may_hit (leaf_destination a to)) uses (storing_leaves a to value)

@@ -22,7 +22,7 @@ use sp_value::{AtTarget, Part, Slot, Target, Value, View, gather};
 use std::alloc::{AllocError, Global};
 
 /// What a region's cell holds; nothing where it is no cell.
-pub(crate) fn held_at<V: View>(
+pub fn held_at<V: View>(
     alloc: Global,
     analysis: &Analysis,
     view: &V,
@@ -122,7 +122,7 @@ fn copied_under<V: View>(
 
 /// What a cell under a region gets from another region: that of the cell to which its path leads from
 /// there. Bytes get that of all cells.
-pub(crate) fn copied_from<V: View>(
+pub fn copied_from<V: View>(
     alloc: Global,
     analysis: &Analysis,
     view: &V,

@@ -1,5 +1,5 @@
 //! A store to the cells of an lvalue, on a row of slots.
-ghost use Rattle.std.specs.Prelude.{◌≡◌, ◌≢◌, ◌<◌, ℕ, true, option_map, slice_get, length, IfOk, OnOk};
+ghost use Rattle.std.specs.Prelude.{◌≡◌, ◌≢◌, ◌<◌, ℕ, true, cond, option_map, slice_get, length, IfOk, OnOk};
 ghost use Rattle.std.specs.List.Sorted.{IsStrictlyIncreasing};
 ghost use Rattle.sp_types.specs.View.{type_of};
 ghost use Rattle.sp_lattice.specs.System.{has, AllBelow};
@@ -29,7 +29,7 @@ use sp_value::{Slot, Target};
 use std::alloc::{AllocError, Global};
 
 /// What goes to the cells of an lvalue.
-pub(crate) trait Gives {
+pub trait Gives {
     ghost slots: { Self → ℕ → ℕ → Slot };
 
     /// What is stored in a cell, from a region that the lvalue may have.
@@ -68,7 +68,7 @@ fn has_cell(lowered: &Lowered, of: Option<&CType>, region: u32, cell: u32) -> bo
 }
 
 /// Whether a store at a region of the bottom goes to a location.
-fn hits(analysis: &Analysis, to: &Lvalue, region: u32, location: u32) -> bool
+pub fn hits(analysis: &Analysis, to: &Lvalue, region: u32, location: u32) -> bool
     requires { location < count (setting_of (analysed_of analysis.now)) }
     ensures { result ≡ (leaf_destination (analysed_of analysis.now) (lvalue_of to.now)).hits
         region location }
@@ -132,18 +132,26 @@ fn clear_at(
     }
 }
 
-/// Empties a row at its places, unless they keep what they hold.
-fn clear(analysis: &Analysis, to: &Lvalue, targets: &[Target], row: &mut [Slot], places: &[u32])
+/// Empties a row where it may be hit, unless it keeps what it holds.
+fn clear(
+    analysis: &Analysis,
+    to: &Lvalue,
+    targets: &[Target],
+    hit: &[u32],
+    row: &mut [Slot],
+    places: &[u32],
+)
     requires ascend { IsStrictlyIncreasing places.now }
     requires low { AllBelow (count (setting_of (analysed_of analysis.now))) places.now }
     requires long { length row.old ≡ length places.now }
-    requires defs { (l : ℕ) → has l places.now ≡
+    requires defs { (l : ℕ) → has l hit.now ≡
         may_hit (leaf_destination (analysed_of analysis.now) (lvalue_of to.now)) l }
-    ensures { (l : ℕ) → has l places.now ≡ true → store_of places.now row.new l ≡
-        kept_if (kept_by (leaf_destination (analysed_of analysis.now) (lvalue_of to.now))
-        targets.now l) (store_of places.now row.old l) }
+    requires among { (l : ℕ) → has l hit.now ≡ true → has l places.now ≡ true }
+    ensures { (l : ℕ) → store_of places.now row.new l ≡ cond (has l hit.now)
+        (kept_if (kept_by (leaf_destination (analysed_of analysis.now) (lvalue_of to.now))
+        targets.now l) (store_of places.now row.old l)) (store_of places.now row.old l) }
 {
-    for place in places {
+    for place in hit {
         clear_at(analysis, to, targets, *place, row, places);
     }
 }
@@ -178,7 +186,7 @@ fn join_cell<G: Gives>(
 }
 
 /// Joins to a row what each of these cells gets.
-pub(crate) fn join_cells<G: Gives>(
+pub fn join_cells<G: Gives>(
     alloc: Global,
     analysis: &Analysis,
     of: Option<&CType>,
@@ -261,8 +269,37 @@ fn join_targets<G: Gives>(
     Ok(())
 }
 
-/// Stores what is given to the cells of an lvalue whose bottom has these targets. The places are the
-/// locations that may be hit.
+/// Stores what is given to the cells of an lvalue whose bottom has these targets. `hit` are the
+/// locations that may be hit, all of them among the places.
+pub fn store_among<G: Gives>(
+    alloc: Global,
+    analysis: &Analysis,
+    to: &Lvalue,
+    targets: &[Target],
+    gives: &G,
+    hit: &[u32],
+    row: &mut [Slot],
+    places: &[u32],
+) -> Result<(), AllocError>
+    requires ascend { IsStrictlyIncreasing places.now }
+    requires low { AllBelow (count (setting_of (analysed_of analysis.now))) places.now }
+    requires long { length row.old ≡ length places.now }
+    requires defs { (l : ℕ) → has l hit.now ≡
+        may_hit (leaf_destination (analysed_of analysis.now) (lvalue_of to.now)) l }
+    requires among { (l : ℕ) → has l hit.now ≡ true → has l places.now ≡ true }
+    ensures { OnOk result ((l : ℕ) → has l places.now ≡ true → store_of places.now row.new l ≡
+        slot_join (cond (has l hit.now)
+        (kept_if (kept_by (leaf_destination (analysed_of analysis.now) (lvalue_of to.now))
+        targets.now l) (store_of places.now row.old l)) (store_of places.now row.old l))
+        (joins (λ x. bottom_slot (analysed_of analysis.now) (lvalue_of to.now) (G.slots gives.now) l
+        x.region) targets.now)) }
+{
+    clear(analysis, to, targets, hit, row, places);
+    join_targets(alloc, analysis, to, targets, gives, row, places)?;
+    Ok(())
+}
+
+/// The same, where the places are the locations that may be hit.
 pub(crate) fn store_leaves<G: Gives>(
     alloc: Global,
     analysis: &Analysis,
@@ -281,7 +318,6 @@ pub(crate) fn store_leaves<G: Gives>(
         applied (stored_leaves (analysed_of analysis.now) (lvalue_of to.now) (G.slots gives.now)
         targets.now) (store_of places.now row.old) l) }
 {
-    clear(analysis, to, targets, row, places);
-    join_targets(alloc, analysis, to, targets, gives, row, places)?;
+    store_among(alloc, analysis, to, targets, gives, places, row, places)?;
     Ok(())
 }

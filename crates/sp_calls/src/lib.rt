@@ -18,7 +18,7 @@
 //! The layer above uses that each of these rows is lawful in a whole analysis (`CallLaws` of
 //! `specs.Laws`, which [`calls_are_lawful`] ensures), and that [`copy`], [`pass`], [`give_back`] and
 //! [`come_from_outside`] change a node's row of slots by exactly `copying`, `calling`, `returning` and
-//! `from_outside`.
+//! `from_outside`. The library's rows are made by [`store_among`] and [`join_cells`] too.
 #![tactic(auto)]
 
 mod copied;
@@ -30,8 +30,10 @@ mod outside;
 mod passed;
 mod returns;
 
+pub use copied::{copied_from, held_at};
 pub use copies::copy;
 pub use laws::calls_are_lawful;
+pub use leaves::{Gives, hits, join_cells, store_among};
 pub use outside::come_from_outside;
 pub use passed::pass;
 pub use returns::give_back;

@@ -124,7 +124,6 @@ impl System for CProgram {
         output: &mut [Slot],
         steps: &mut Steps<L>,
     ) -> Result<(), AllocError> {
-        steps.tick();
         let at = &self.nodes[node as usize];
         let view = GivenAt::new(at.uses.as_slice(), input);
         effect(
@@ -134,6 +133,7 @@ impl System for CProgram {
             &view,
             output,
             at.defs.as_slice(),
+            steps,
         )?;
         Ok(())
     }

@@ -29,7 +29,7 @@ const WHOLE: Interval = Interval::Of {
 const MAX_SIZE: i128 = (1 << 63) - 1;
 
 /// 0.
-pub(crate) fn zero_value(alloc: Global) -> Value
+pub fn zero_value(alloc: Global) -> Value
     ensures { known_of result ≡ zero_value }
 {
     Value::of_numbers(alloc, Interval::Of { lo: 0, hi: 0 })

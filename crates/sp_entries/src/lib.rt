@@ -27,7 +27,9 @@ mod laws;
 mod starts;
 
 pub use entries::enter;
-pub use given::{every_in, every_value, foreign_bytes, foreign_type, foreign_value, site_value};
+pub use given::{
+    every_in, every_value, foreign_bytes, foreign_type, foreign_value, site_value, zero_value,
+};
 pub use initials::{initialise, is_shared};
 pub use joining::join_to;
 pub use laws::entries_are_lawful;

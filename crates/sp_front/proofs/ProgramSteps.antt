@@ -1,7 +1,5 @@
 -- The program of files, and its lowering.
-use Rattle.std.proofs.Common.{◌≡◌, ℕ, Bool, List, [], ◌∷◌, map, Err, inr, refl, ap, subst}
-use Rattle.std.specs.Prelude.{◌||◌}
-use Rattle.std.specs.List.{list_any}
+use Rattle.std.proofs.Common.{◌≡◌, ℕ, List, Err, inr, subst}
 use Rattle.sp_types.specs.Programs.{Program}
 use Rattle.sp_operands.specs.Answers.{accepted, refused}
 use Rattle.sp_operands.specs.declared.error.CheckError.{CheckError}
@@ -12,10 +10,8 @@ use Rattle.sp_lower.specs.declared.program.LowerError.{LowerError}
 use Rattle.sp_lower.specs.declared.program.LowerError.TheVariants as lower
 use Rattle.sp_lower.specs.Programs.{start_place}
 use Rattle.sp_lower.specs.Answers.{Lowers}
-use Rattle.sp_front.specs.declared.front.FrontError.{FrontError}
-use Rattle.sp_front.specs.declared.front.FrontError.TheVariants as errors
 use Rattle.sp_front.specs.Sources.{Source}
-use Rattle.sp_front.specs.Answers.{IsProgramOf, past_limit, whole, AnswersWhole, Answers}
+use Rattle.sp_front.specs.Answers.{IsProgramOf, past_limit, Answers}
 use Rattle.sp_front.specs.inner.Errors.{of_check, of_lower}
 use Rattle.sp_front.specs.inner.Steps.{AreUnits, MakesProgram}
 
@@ -44,18 +40,6 @@ not_linked sources names units seen check.NoMemory read same links = tt
 
 -- files are refused as a program past a limit is
 pub past : (sources : List Source) (names : List (List ℕ)) (p : Program) (e : LowerError)
-    → IsProgramOf sources names p → Lowers p names (Err e) → AnswersWhole sources names (Err (of_lower e))
+    → IsProgramOf sources names p → Lowers p names (Err e) → Answers sources names (Err (of_lower e))
 past sources names p (lower.Fault f) is stands = past_limit p is stands.0 stands.1
 past sources names p lower.NoMemory is stands = tt
-
--- or as they are before a form is looked for that isn't built
-pub refused_whole : (sources : List Source) (names : List (List ℕ)) (e : FrontError)
-    → AnswersWhole sources names (Err e) → Answers sources names (Err e)
-refused_whole sources names (errors.Fault f) stands = whole stands
-refused_whole sources names errors.NoMemory stands = tt
-
--- a test of what a list stands for
-pub any_of : {A B : Type 0} (p : B → Bool) (f : A → B) (xs : List A)
-    → list_any (λ x. p (f x)) xs ≡ list_any p (map f xs)
-any_of p f [] = refl
-any_of p f (x ∷ xs) = ap (λ b. p (f x) || b) (any_of p f xs)

@@ -13,9 +13,7 @@
 //! `main`.
 //!
 //! The layer above uses [`lowered_of`], with the limits on files and their bytes. Its contract
-//! (`Answers` of `specs/Answers.antt`) says which program it is, or which fault. A program that
-//! calls the library is refused there, since its effects aren't built yet; [`lowering_of`] gives
-//! its lowering too, for the programs of rows.
+//! (`Answers` of `specs/Answers.antt`) says which program it is, or which fault.
 #![tactic(auto)]
 
 mod files;
@@ -24,5 +22,5 @@ mod program;
 mod sources;
 
 pub use front::FrontError;
-pub use program::{lowered_of, lowering_of};
+pub use program::lowered_of;
 pub use sources::{MAX_FILES, MAX_TEXT, Source};

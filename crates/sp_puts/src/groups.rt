@@ -1,5 +1,5 @@
 //! What the rules ask of regions again and again, found once.
-ghost use Rattle.std.specs.Prelude.{◌≡◌, ◌<◌, ℕ, true, length, IfOk, OnOk};
+ghost use Rattle.std.specs.Prelude.{◌≡◌, ◌<◌, ◌⊎◌, ℕ, true, length, IfOk, OnOk};
 ghost use Rattle.sp_ir.specs.Programs.{lowered_of};
 ghost use Rattle.sp_ir.specs.Formed.{IsFormed};
 ghost use Rattle.sp_sets.specs.Sets.{has};
@@ -12,7 +12,7 @@ use sp_ir::Lowered;
 use sp_sets::NumberSet;
 use std::alloc::{AllocError, Global};
 
-/// The regions of each object, or more, and those with a leaf that is a pointer.
+/// The regions of each object, and those with a leaf that is a pointer.
 #[derive(Drop)]
 pub struct Groups {
     pub objects: Vec<NumberSet>,
@@ -25,6 +25,8 @@ fn add_to(groups: &mut Vec<NumberSet>, object: u32, region: u32) -> Result<(), A
         → has n (row groups.new.items o) ≡ true) }
     ensures there { OnOk result (object < length groups.old.items
         → has region (row groups.new.items object) ≡ true) }
+    ensures own { OnOk result ((o n : ℕ) → has n (row groups.new.items o) ≡ true
+        → (has n (row groups.old.items o) ≡ true) ⊎ ((n ≡ region) × (o ≡ object))) }
 {
     if (object as usize) < groups.len() {
         groups[object as usize].add(region)?;
@@ -32,11 +34,13 @@ fn add_to(groups: &mut Vec<NumberSet>, object: u32, region: u32) -> Result<(), A
     Ok(())
 }
 
-/// For each object a set that has all its regions.
+/// For each object the set of its regions.
 fn by_object(alloc: Global, lowered: &Lowered) -> Result<Vec<NumberSet>, AllocError>
     requires { IsFormed (lowered_of lowered.now) }
-    ensures { IfOk result (λ groups. (q c : ℕ) → reaches (lowered_of lowered.now) q c ≡ true
+    ensures under { IfOk result (λ groups. (q c : ℕ) → reaches (lowered_of lowered.now) q c ≡ true
         → has c (row groups.items (object_at (lowered_of lowered.now) q)) ≡ true) }
+    ensures own { IfOk result (λ groups. (o c : ℕ) → has c (row groups.items o) ≡ true
+        → object_at (lowered_of lowered.now) c ≡ o) }
 {
     let mut groups = NumberSet::empty_sets(alloc, lowered.objects.len())?;
     for region in 0..lowered.regions.len() as u32 {

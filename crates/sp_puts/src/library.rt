@@ -37,7 +37,8 @@ pub enum Moved {
     NoCells,
 }
 
-pub(crate) fn given_by(which: Routine) -> Given
+/// What a function of the library gives.
+pub fn given_by(which: Routine) -> Given
     ensures { result ≡ given_by which }
 {
     match which {
@@ -53,7 +54,8 @@ pub(crate) fn given_by(which: Routine) -> Given
     }
 }
 
-pub(crate) fn moved_by(which: Routine) -> Moved
+/// What a function of the library copies.
+pub fn moved_by(which: Routine) -> Moved
     ensures { result ≡ moved_by which }
 {
     match which {

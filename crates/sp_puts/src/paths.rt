@@ -127,7 +127,7 @@ pub fn under<'a>(lowered: &Lowered, groups: &'a Groups, region: u32) -> &'a [u32
 }
 
 /// Whether a region's cells may be copied to another's, cell by cell.
-pub(crate) fn pairs(lowered: &Lowered, target: u32, source: u32) -> bool
+pub fn pairs(lowered: &Lowered, target: u32, source: u32) -> bool
     ensures { result ≡ pairs (lowered_of lowered.now) target source }
 {
     let Some(a) = lowered.regions.get(target) else {
@@ -146,7 +146,7 @@ pub(crate) fn pairs(lowered: &Lowered, target: u32, source: u32) -> bool
 }
 
 /// Whether a region has elements of one byte, or is kept as bytes.
-pub(crate) fn is_text(lowered: &Lowered, region: u32) -> bool
+pub fn is_text(lowered: &Lowered, region: u32) -> bool
     ensures { result ≡ is_text (lowered_of lowered.now) region }
 {
     match lowered.regions.get(region) {
@@ -218,7 +218,7 @@ fn is_heap_object(lowered: &Lowered, object: u32) -> bool
 }
 
 /// Whether a region is the whole of what the library allocated.
-pub(crate) fn is_heap_root(lowered: &Lowered, region: u32) -> bool
+pub fn is_heap_root(lowered: &Lowered, region: u32) -> bool
     ensures { result ≡ is_heap_root (lowered_of lowered.now) region }
 {
     match lowered.regions.get(region) {

@@ -43,7 +43,7 @@ impl Analysis {
     ghost use Rattle.sp_sets.specs.Sets.{has};
     ghost use Rattle.sp_ir.specs.Formed.{IsFormed};
     ghost use Rattle.sp_puts.specs.Leaves.{leaf_points};
-    ghost use Rattle.sp_puts.specs.Paths.{reaches};
+    ghost use Rattle.sp_puts.specs.Paths.{reaches, object_at};
     ghost use Rattle.sp_rows.specs.Setting.{count, cell_of};
     ghost use Rattle.sp_scenes.specs.Analysed.{setting_of};
     ghost use Rattle.sp_scenes.specs.View.{analysed_of};
@@ -69,10 +69,13 @@ impl Analysis {
         })
     }
 
-    /// All that is under a region, and perhaps more of its object.
+    /// The regions of a region's object, among them all that is under it.
     pub fn under(&self, region: u32) -> &[u32]
-        ensures { (c : ℕ) → reaches (analysed_of self.now).program region c ≡ true
+        ensures under { (c : ℕ) → reaches (analysed_of self.now).program region c ≡ true
             → has c result.now ≡ true }
+        ensures own { (c : ℕ) → has c result.now ≡ true
+            → object_at (analysed_of self.now).program c
+            ≡ object_at (analysed_of self.now).program region }
     {
         under(&self.lowered, &self.groups, region)
     }

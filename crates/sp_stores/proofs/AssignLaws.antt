@@ -69,7 +69,7 @@ module _ (c : Scene) (is : IsScene c) where
       rises = λ s t r l below under. value-monotone c.terrain is.terrain (known_in_regions c s) (known_in_regions c t) (cells-formed c.setting is.setting s) (cells-monotone c.setting is.setting s t below) e proper;
       within = λ r l m h. within-more (λ q. has q (regions_of c.terrain c.setting.points_to e) ≡ true) (λ q. has q (c.setting.points_to (cell_of c.setting l)) ≡ true) (λ q k. closed r l q m h k) (value_of c.terrain (known_in_regions c (ceiling c.setting)) e).targets
           (value-within c.terrain c.setting.points_to (known_in_regions c (ceiling c.setting)) (cells-within c.setting is.setting (ceiling c.setting) (λ k low. slot-refl (ceiling c.setting k))) e);
-      agree = λ s t r l under under' agree. value-agrees c.terrain c.setting.points_to (known_in_regions c s) (known_in_regions c t) (cells-within c.setting is.setting s under) e (λ q m. read-agree s t agree q (among-left (uses_of c.terrain c.setting.points_to e) (pointer_uses c.terrain c.setting.points_to p) q m));
+      agree = λ s t r l m h under under' agree. value-agrees c.terrain c.setting.points_to (known_in_regions c s) (known_in_regions c t) (cells-within c.setting is.setting s under) e (λ q m. read-agree s t agree q (among-left (uses_of c.terrain c.setting.points_to e) (pointer_uses c.terrain c.setting.points_to p) q m));
     }
 
     -- what is kept is used: of a direct lvalue only a summary

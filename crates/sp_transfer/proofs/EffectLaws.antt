@@ -14,6 +14,7 @@ use Rattle.sp_scenes.specs.Whole.{IsAnalysed}
 use Rattle.sp_scenes.proofs.AllLaws.{scene_laws}
 use Rattle.sp_entries.proofs.AllLaws.{entry_laws}
 use Rattle.sp_calls.proofs.AllLaws.{call_laws}
+use Rattle.sp_library.proofs.AllLaws.{library_laws}
 use Rattle.sp_transfer.specs.Effects.{assuming_by, row_of, defined_by, used_by, defined_at, used_at, effect_at}
 
 module _ (a : Analysed) (whole : IsAnalysed a) (n : ℕ) where
@@ -40,7 +41,7 @@ module _ (a : Analysed) (whole : IsAnalysed a) (n : ℕ) where
   row-lawful (eval e) is = (row_laws (setting_of a) (scene_laws a whole).scene.setting).untouched_lawful (used_by a n (eval e))
   row-lawful (call callee args) is = call_laws.called a whole n callee args is
   row-lawful (return c to) is = call_laws.returned a whole n c to is
-  row-lawful (library which to args site) is = (row_laws (setting_of a) (scene_laws a whole).scene.setting).untouched_lawful (used_by a n (library which to args site))
+  row-lawful (library which to args site) is = library_laws a whole n which to args site is
   row-lawful (outside to args site) is = call_laws.came a whole n to args site is
 
 pub effect-lawful : (a : Analysed) → IsAnalysed a → (n : ℕ) → IsEffect (setting_of a) (defined_at a n) (used_at a n) (effect_at a n)

@@ -1,5 +1,5 @@
 -- The effect of each node of an analysed program, with the locations that it defines and uses.
-use Rattle.std.specs.Prelude.{ℕ, Bool, false, List, ◌++◌, Option, Some, None}
+use Rattle.std.specs.Prelude.{ℕ, Bool, false, List, Option, Some, None}
 use Rattle.sp_lattice.specs.System.{has}
 use Rattle.sp_lattice.specs.declared.relations.Relation.{Relation}
 use Rattle.sp_ir.specs.Commands.{Expression, Command, start, entry, exit, skip, assign, copy, init, assume, eval, call, return, library, outside}
@@ -16,17 +16,18 @@ use Rattle.sp_scenes.specs.Analysed.{Analysed, setting_of, scene_of}
 use Rattle.sp_entries.specs.Starts.{starting, start_defines, start_uses}
 use Rattle.sp_entries.specs.Entries.{entering, entry_defines}
 use Rattle.sp_entries.specs.Initials.{initialising, init_defines, init_uses}
-use Rattle.sp_calls.specs.Copies.{leaf_destination, copying, copy_uses, arguments_read, result_defines, result_found}
+use Rattle.sp_calls.specs.Copies.{leaf_destination, copying, copy_uses, result_defines}
 use Rattle.sp_calls.specs.Outside.{from_outside, outside_uses}
 use Rattle.sp_calls.specs.Passed.{calling, call_defines, call_uses}
 use Rattle.sp_calls.specs.Returns.{returning, return_uses}
+use Rattle.sp_library.specs.Effects.{library_row, library_defines, library_uses}
 
 -- a formed program has no condition of another mark
 abbrev pub assuming_by : Analysed → Option Relation → Expression → Expression → Store → Row
 assuming_by a None e f = λ s. untouched
 assuming_by a (Some op) e f = assuming (scene_of a) e op f
 
--- What the command of the node n makes of a store. Functions of the library have no effect yet.
+-- what the command of the node n makes of a store
 abbrev pub row_of : Analysed → ℕ → Command → Store → Row
 row_of a n start = starting a
 row_of a n (entry f) = entering a f
@@ -39,7 +40,7 @@ row_of a n (assume e op f) = assuming_by a (relation_of op) e f
 row_of a n (eval e) = λ s. untouched
 row_of a n (call callee args) = calling a n args
 row_of a n (return c to) = returning a c to
-row_of a n (library which to args site) = λ s. untouched
+row_of a n (library which to args site) = library_row a args site which to
 row_of a n (outside to args site) = from_outside a to site
 
 -- the locations that it may change
@@ -55,7 +56,7 @@ defined_by a n (assume e op f) = assume_defines (scene_of a) e f
 defined_by a n (eval e) = λ l. false
 defined_by a n (call callee args) = call_defines a n
 defined_by a n (return c to) = result_defines a to
-defined_by a n (library which to args site) = λ l. false
+defined_by a n (library which to args site) = library_defines a args site which to
 defined_by a n (outside to args site) = result_defines a to
 
 -- whether a location's cell is among these regions
@@ -75,7 +76,7 @@ used_by a n (assume e op f) = assume_uses (scene_of a) e f
 used_by a n (eval e) = is_among a (uses_of (terrain_of a.program) (setting_of a).points_to e)
 used_by a n (call callee args) = call_uses a n callee args
 used_by a n (return c to) = return_uses a c to
-used_by a n (library which to args site) = is_among a (arguments_read a args ++ result_found a to)
+used_by a n (library which to args site) = library_uses a args site which to
 used_by a n (outside to args site) = outside_uses a to args
 
 -- ---- nodes

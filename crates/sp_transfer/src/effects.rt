@@ -1,5 +1,5 @@
 //! The effect of a node, on its row of slots.
-ghost use Rattle.std.specs.Prelude.{◌≡◌, ℕ, true, length, OnOk};
+ghost use Rattle.std.specs.Prelude.{◌≡◌, ◌+◌, ℕ, true, length, OnOk};
 ghost use Rattle.std.specs.List.Sorted.{IsStrictlyIncreasing};
 ghost use Rattle.sp_lattice.specs.System.{has, AllBelow, values_at};
 ghost use Rattle.sp_ir.specs.View.{command_of, expression_of};
@@ -21,30 +21,37 @@ use sp_conditions::assume;
 use sp_entries::{begin, enter, initialise};
 use sp_eval::relation_of;
 use sp_ir::{Command, Expr};
+use sp_lattice::Steps;
+use sp_library::{RoutineCall, call_routine};
 use sp_scenes::Analysis;
 use sp_stores::assign;
 use sp_tree::Punct;
 use sp_updates::copy_into;
 use sp_value::{Slot, View};
 use std::alloc::{AllocError, Global};
+use std::sync::ledger::Ledger;
 
-/// Fills a row with the effect of a node on the store of a view, at the node's definitions.
-pub fn effect<V: View>(
+/// Fills a row with the effect of a node on the store of a view, at the node's definitions. This is
+/// one evaluation, and counts as a step.
+pub fn effect<V: View, L: Ledger>(
     alloc: Global,
     analysis: &Analysis,
     node: u32,
     view: &V,
     row: &mut [Slot],
     places: &[u32],
+    steps: &mut Steps<L>,
 ) -> Result<(), AllocError>
     requires ascend { IsStrictlyIncreasing places.now }
     requires low { AllBelow (count (setting_of (analysed_of analysis.now))) places.now }
     requires long { length row.old ≡ length places.now }
     requires defs { (l : ℕ) → has l places.now ≡ defined_at (analysed_of analysis.now) node l }
     requires below { UnderCeiling (setting_of (analysed_of analysis.now)) (V.store view.now) }
-    ensures { OnOk result (row.new ≡
+    ensures filled { OnOk result (row.new ≡
         values_at (effect_at (analysed_of analysis.now) node (V.store view.now)) places.now) }
+    ensures counted { steps.new ≡ steps.old + 1 }
 {
+    steps.tick();
     copy_into(alloc, view, row, places)?;
     change(alloc, analysis, node, view, row, places)?;
     Ok(())
@@ -139,7 +146,22 @@ fn change_by<V: View>(
             come_from_outside(alloc, analysis, view, to.as_ref(), *site, row, places)?;
             Ok(())
         }
-        Command::Exit { .. } | Command::Skip | Command::Eval(_) | Command::Library { .. } => Ok(()),
+        Command::Library {
+            which,
+            to,
+            args,
+            site,
+        } => {
+            let call = RoutineCall {
+                which: *which,
+                to: to.as_ref(),
+                args,
+                site: *site,
+            };
+            call_routine(alloc, analysis, view, &call, row, places)?;
+            Ok(())
+        }
+        Command::Exit { .. } | Command::Skip | Command::Eval(_) => Ok(()),
     }
 }
 

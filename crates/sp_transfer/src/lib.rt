@@ -13,7 +13,7 @@
 //!
 //! The layer above uses that [`effect`] fills a node's row of slots by exactly `effect_at`. It uses
 //! that effects keep the laws of a system (`TransferLaws` of `specs.Laws`, which
-//! [`effects_are_lawful`] ensures). Functions of the library have no effect yet.
+//! [`effects_are_lawful`] ensures).
 #![tactic(auto)]
 
 mod effects;

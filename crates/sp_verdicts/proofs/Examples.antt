@@ -15,7 +15,7 @@ use Rattle.sp_eval.specs.Numbers.{operated}
 use Rattle.sp_eval.specs.Steps.{elements_of, accepted, read_at, converted, moved, distance_of, comparison_of}
 use Rattle.sp_eval.specs.Evaluation.{matched, value_of}
 use Rattle.sp_verdicts.specs.declared.alarm.AlarmKind.TheVariants.{Overrun, Zero, Pointer, Punned}
-use Rattle.sp_verdicts.specs.Alarms.{alarm, target_alarms, number_alarms, through_alarms, divisor_alarms, expression_alarms}
+use Rattle.sp_verdicts.specs.Alarms.{alarm, reaching_alarms, number_alarms, through_alarms, divisor_alarms, expression_alarms}
 
 -- int a[3]; int i; int *p; union { int x; char b[8]; } u; The objects 0 to 3 have the regions 0 for
 -- a, 1 for its elements, 2 for i, 3 for p, 4 for the bytes of u.
@@ -73,12 +73,12 @@ module _ (at : Place) where
   element = refl
 
   element-fits : expression_alarms g cells (read (through (a_plus i) int at)) ≡ []
-  unfolding moved elements_of matched accepted read_at through_alarms target_alarms number_alarms
+  unfolding moved elements_of matched accepted read_at through_alarms reaching_alarms number_alarms
   element-fits = refl
 
   -- a[3]
   past : expression_alarms g cells (read (through (a_plus (literal 3)) int at)) ≡ alarm at (Overrun (span 3 3) (span 1 1) (span 3 3)) ∷ []
-  unfolding moved elements_of matched accepted read_at through_alarms target_alarms number_alarms
+  unfolding moved elements_of matched accepted read_at through_alarms reaching_alarms number_alarms
   past = refl
 
   -- *(char *)&i
@@ -90,16 +90,16 @@ module _ (at : Place) where
   punned = refl
 
   punned-alarm : expression_alarms g cells punned_i ≡ alarm at (Punned 1 4) ∷ []
-  unfolding converted matched accepted read_at through_alarms target_alarms number_alarms
+  unfolding converted matched accepted read_at through_alarms reaching_alarms number_alarms
   punned-alarm = refl
 
   -- *p reaches four of the bytes of u, from the fourth on
   bytes : expression_alarms g cells (read (through (read (direct 2 (pointer int))) int at)) ≡ []
-  unfolding matched accepted read_at through_alarms target_alarms number_alarms
+  unfolding matched accepted read_at through_alarms reaching_alarms number_alarms
   bytes = refl
 
   bytes-past : expression_alarms g cells (read (through (move (read (direct 2 (pointer int))) (literal 1) false 1) int at)) ≡ alarm at (Overrun (span 5 5) (span 4 4) (span 8 8)) ∷ []
-  unfolding moved matched accepted read_at through_alarms target_alarms number_alarms
+  unfolding moved matched accepted read_at through_alarms reaching_alarms number_alarms
   bytes-past = refl
 
   -- (char)p, and (long)p
@@ -109,7 +109,7 @@ module _ (at : Place) where
 
   -- *(int *)5
   through_number : expression_alarms g cells (read (through (convert (pointer int) (literal 5)) int at)) ≡ alarm at (Pointer (span 5 5)) ∷ []
-  unfolding converted matched accepted read_at through_alarms target_alarms number_alarms
+  unfolding converted matched accepted read_at through_alarms reaching_alarms number_alarms
   through_number = refl
 
   -- i < 3, and p < a

@@ -8,8 +8,9 @@ use Rattle.sp_ir.specs.Denoted.{PointsTo, pointer_uses, uses_of}
 use Rattle.sp_value.specs.Known.{Known}
 use Rattle.sp_eval.specs.Evaluation.{value_of}
 use Rattle.sp_eval.specs.Laws.{PointWithin, AgreeOn}
-use Rattle.sp_eval.proofs.SupportLaws.{agree-left, value-agrees}
-use Rattle.sp_verdicts.specs.Commands.{callee_alarms, alarms_of, alarms_at, list_alarms, leaf_alarms, result_alarms, command_alarms, node_alarms}
+use Rattle.sp_eval.proofs.SupportLaws.{agree-left, agree-right, value-agrees}
+use Rattle.sp_verdicts.specs.Commands.{callee_alarms, alarms_of, alarms_at, list_alarms, leaf_alarms, result_alarms, values_of, command_alarms, node_alarms}
+use Rattle.sp_verdicts.specs.Library.{library_alarms}
 use Rattle.sp_verdicts.specs.Uses.{list_uses, leaf_uses, result_uses, command_uses, node_uses}
 use Rattle.sp_verdicts.proofs.AgreeLaws.{two, access-agrees, alarms-agree}
 
@@ -24,6 +25,12 @@ module _ (p : Lowered) (points : PointsTo) (s t : ℕ → Known) (below : PointW
   leaf-agrees : (ls : List Leaf) → AgreeOn (leaf_uses g points ls) s t → leaf_alarms p s ls ≡ leaf_alarms p t ls
   leaf-agrees [] h = refl
   leaf-agrees (l ∷ ls) h = two g points s t below (uses_of g points l.value) (leaf_uses g points ls) (alarms_of p s l.value) (alarms_of p t l.value) (leaf_alarms p s ls) (leaf_alarms p t ls) h (λ k. alarms-agree g points s t below l.value k) (λ k. leaf-agrees ls k)
+
+  values-agree : (es : List Expression) → AgreeOn (list_uses g points es) s t → values_of p s es ≡ values_of p t es
+  values-agree [] h = refl
+  values-agree (e ∷ es) h =
+      ap (λ v. v ∷ values_of p s es) (value-agrees g points s t below e (agree-left s t (uses_of g points e) (list_uses g points es) h))
+      ∙ ap (λ vs. value_of g t e ∷ vs) (values-agree es (agree-right s t (uses_of g points e) (list_uses g points es) h))
 
   result-agrees : (to : Option Lvalue) → AgreeOn (result_uses g points to) s t → result_alarms p s to ≡ result_alarms p t to
   result-agrees None h = refl
@@ -47,7 +54,9 @@ module _ (p : Lowered) (points : PointsTo) (s t : ℕ → Known) (below : PointW
       ap (λ xs. xs ++ callee_alarms p (length args) at (value_of g s callee)) (two g points s t below (uses_of g points callee) (list_uses g points args) (alarms_of p s callee) (alarms_of p t callee) (list_alarms p s args) (list_alarms p t args) h (λ k. alarms-agree g points s t below callee k) (λ k. list-agrees args k))
       ∙ ap (λ v. alarms_of p t callee ++ list_alarms p t args ++ callee_alarms p (length args) at v) (value-agrees g points s t below callee (agree-left s t (uses_of g points callee) (list_uses g points args) h))
   command-agrees at (return c to) h = result-agrees to h
-  command-agrees at (library r to args site) h = answered-agrees to args h
+  command-agrees at (library r to args site) h =
+      ap (λ xs. xs ++ library_alarms p at r (values_of p s args)) (answered-agrees to args h)
+      ∙ ap (λ vs. result_alarms p t to ++ list_alarms p t args ++ library_alarms p at r vs) (values-agree args (agree-right s t (result_uses g points to) (list_uses g points args) h))
   command-agrees at (outside to args site) h = answered-agrees to args h
 
   pub node-agrees : (n : Node) → AgreeOn (node_uses g points n) s t → node_alarms p s n ≡ node_alarms p t n

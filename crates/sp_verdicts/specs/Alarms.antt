@@ -34,11 +34,18 @@ may_leave offset count size = false
 abbrev pub reach_of : Terrain → CType → ℕ → Interval
 reach_of g t r = cond (g.collapsed r) (exactly (pos (g.access_size t))) (exactly (pos 1))
 
-unfoldable pub target_alarms : Terrain → CType → Place → Target → List Alarm
-target_alarms g t at x = cond (g.accepts x.region t)
-    (cond (may_leave x.offset (reach_of g t x.region) x.size)
-    (alarm at (Overrun x.offset (reach_of g t x.region) x.size) ∷ []) [])
+-- of so many elements from a target on
+abbrev pub check : Place → Interval → Target → List Alarm
+check at count x = cond (may_leave x.offset count x.size)
+    (alarm at (Overrun x.offset count x.size) ∷ []) []
+
+-- of an access of a type that reaches so many elements from a target on
+unfoldable pub reaching_alarms : Terrain → CType → Place → Interval → Target → List Alarm
+reaching_alarms g t at count x = cond (g.accepts x.region t) (check at count x)
     (alarm at (Punned (g.access_size t) (g.element_size x.region)) ∷ [])
+
+abbrev pub target_alarms : Terrain → CType → Place → Target → List Alarm
+target_alarms g t at x = reaching_alarms g t at (reach_of g t x.region) x
 
 -- a pointer that may be a number
 unfoldable pub number_alarms : Place → Known → List Alarm

@@ -1,5 +1,5 @@
 -- The alarms of a node, by its command and what each region's cell holds before it.
-use Rattle.std.specs.Prelude.{ℕ, Bool, true, not, cond, ◌&&◌, List, [], ◌∷◌, ◌++◌, length, Option, Some, None, is_some}
+use Rattle.std.specs.Prelude.{ℕ, Bool, true, not, cond, ◌&&◌, List, [], ◌∷◌, ◌++◌, length, map, Option, Some, None, is_some}
 use Rattle.std.specs.List.{flat_map, list_all, list_any}
 use Rattle.sp_tree.specs.declared.fault.Place.{Place}
 use Rattle.sp_ir.specs.Commands.{Expression, Lvalue, Leaf, Command, start, entry, exit, skip, assign, copy, init, assume, eval, call, return, library, outside, Node}
@@ -12,6 +12,7 @@ use Rattle.sp_eval.specs.Evaluation.{value_of, is_proper, is_proper_lvalue}
 use Rattle.sp_verdicts.specs.declared.alarm.Alarm.{Alarm}
 use Rattle.sp_verdicts.specs.declared.alarm.AlarmKind.TheVariants.{NoFunction}
 use Rattle.sp_verdicts.specs.Alarms.{alarm, number_alarms, access_alarms, expression_alarms}
+use Rattle.sp_verdicts.specs.Library.{library_alarms}
 
 -- what is called may be no function of so many parameters, or a number (C90 6.3.2.2)
 abbrev pub calls_other : Lowered → ℕ → List Target → Bool
@@ -39,7 +40,11 @@ module _ (p : Lowered) (cells : ℕ → Known) where
   result_alarms None = []
   result_alarms (Some l) = alarms_at l
 
-  -- at a place; what a library's routine checks itself isn't among them
+  -- what arguments are worth
+  abbrev pub values_of : List Expression → List Known
+  values_of es = map (value_of (terrain_of p) cells) es
+
+  -- at a place
   abbrev pub command_alarms : Place → Command → List Alarm
   command_alarms at start = []
   command_alarms at (entry f) = []
@@ -53,7 +58,8 @@ module _ (p : Lowered) (cells : ℕ → Known) where
   command_alarms at (call callee args) = alarms_of callee ++ list_alarms args
       ++ callee_alarms p (length args) at (value_of (terrain_of p) cells callee)
   command_alarms at (return c to) = result_alarms to
-  command_alarms at (library r to args site) = result_alarms to ++ list_alarms args
+  command_alarms at (library r to args site) =
+      result_alarms to ++ list_alarms args ++ library_alarms p at r (values_of args)
   command_alarms at (outside to args site) = result_alarms to ++ list_alarms args
 
   abbrev pub node_alarms : Node → List Alarm

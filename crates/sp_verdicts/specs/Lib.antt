@@ -1,4 +1,5 @@
 pub mod Alarms
+pub mod Library
 pub mod Commands
 pub mod Uses
 pub mod Laws

@@ -7,7 +7,7 @@ ghost use Rattle.sp_ir.specs.Programs.{lowered_of};
 ghost use Rattle.sp_ir.specs.Terrain.{terrain_of};
 ghost use Rattle.sp_value.specs.Known.{are_formed, is_proper_within, every_offset};
 ghost use Rattle.sp_value.specs.Slots.{known_of};
-ghost use Rattle.sp_verdicts.specs.Alarms.{may_leave, reach_of, target_alarms, number_alarms, through_alarms, holds_zero, divides, divisor_alarms};
+ghost use Rattle.sp_verdicts.specs.Alarms.{may_leave, reach_of, check, reaching_alarms, target_alarms, number_alarms, through_alarms, holds_zero, divides, divisor_alarms};
 ghost use Rattle.sp_verdicts.specs.Commands.{calls_other, callee_alarms};
 
 use crate::alarm::{Alarm, AlarmKind};
@@ -50,23 +50,12 @@ fn reach(lowered: &Lowered, access: &CType, region: u32) -> Interval
     }
 }
 
-// The alarm of an access at one target, if there is one.
-#[tactic(auto, unfolding(crate::specs::Alarms::target_alarms))]
-fn target_alarm(lowered: &Lowered, access: &CType, place: Place, target: Target) -> Option<Alarm>
-    requires { is_proper_within every_offset target.offset ≡ true }
-    ensures { option_to_list result ≡
-        target_alarms (terrain_of (lowered_of lowered.now)) (type_of access.now) place target }
+/// The alarm of so many elements from a target on, if they may leave its region.
+pub(crate) fn overrun(place: Place, count: Interval, target: Target) -> Option<Alarm>
+    requires offset { is_proper_within every_offset target.offset ≡ true }
+    requires count { IsFormed count }
+    ensures { option_to_list result ≡ check place count target }
 {
-    if !lowered.accepts(target.region, access) {
-        return Some(Alarm {
-            place,
-            kind: AlarmKind::Punned {
-                access: lowered.access_size(access),
-                element: lowered.element_size(target.region),
-            },
-        });
-    }
-    let count = reach(lowered, access, target.region);
     if may_leave(target.offset, count, target.size) {
         Some(Alarm {
             place,
@@ -81,6 +70,53 @@ fn target_alarm(lowered: &Lowered, access: &CType, place: Place, target: Target)
     }
 }
 
+/// The alarm of an access of a type that reaches so many elements from a target on, if any.
+#[tactic(auto, unfolding(crate::specs::Alarms::reaching_alarms))]
+pub(crate) fn reaching(
+    lowered: &Lowered,
+    access: &CType,
+    place: Place,
+    count: Interval,
+    target: Target,
+) -> Option<Alarm>
+    requires offset { is_proper_within every_offset target.offset ≡ true }
+    requires count { IsFormed count }
+    ensures { option_to_list result ≡ reaching_alarms (terrain_of (lowered_of lowered.now))
+        (type_of access.now) place count target }
+{
+    if lowered.accepts(target.region, access) {
+        overrun(place, count, target)
+    } else {
+        Some(Alarm {
+            place,
+            kind: AlarmKind::Punned {
+                access: lowered.access_size(access),
+                element: lowered.element_size(target.region),
+            },
+        })
+    }
+}
+
+// The alarm of an access at one target, if there is one.
+fn target_alarm(lowered: &Lowered, access: &CType, place: Place, target: Target) -> Option<Alarm>
+    requires { is_proper_within every_offset target.offset ≡ true }
+    ensures { option_to_list result ≡
+        target_alarms (terrain_of (lowered_of lowered.now)) (type_of access.now) place target }
+{
+    let count = reach(lowered, access, target.region);
+    reaching(lowered, access, place, count, target)
+}
+
+/// Adds an alarm, if there is one.
+pub(crate) fn add(alarm: Option<Alarm>, alarms: &mut Vec<Alarm>) -> Result<(), AllocError>
+    ensures { OnOk result (alarms.new.items ≡ alarms.old.items ++ option_to_list alarm) }
+{
+    if let Some(alarm) = alarm {
+        alarms.push(alarm)?;
+    }
+    Ok(())
+}
+
 // Adds the alarm of an access at one target, if there is one.
 fn add_target(
     lowered: &Lowered,
@@ -93,10 +129,7 @@ fn add_target(
     ensures { OnOk result (alarms.new.items ≡ alarms.old.items ++
         target_alarms (terrain_of (lowered_of lowered.now)) (type_of access.now) place target) }
 {
-    if let Some(alarm) = target_alarm(lowered, access, place, target) {
-        alarms.push(alarm)?;
-    }
-    Ok(())
+    add(target_alarm(lowered, access, place, target), alarms)
 }
 
 // Adds the alarms of an access at each target.

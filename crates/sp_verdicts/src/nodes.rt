@@ -11,6 +11,8 @@ ghost use Rattle.sp_verdicts.specs.Commands.{callee_alarms, list_alarms, leaf_al
 
 use crate::accesses::{add_callee, add_divisor, add_through, divides};
 use crate::alarm::Alarm;
+use crate::arguments::arguments_of;
+use crate::library::add_library;
 use sp_eval::evaluate;
 use sp_ir::{Command, Expr, Leaf, Lowered, Lvalue, Node};
 use sp_tree::{Place, Punct};
@@ -20,8 +22,8 @@ use std::alloc::{AllocError, Global};
 
 /// The alarms of a node of a formed program whose input is the store of a view: of each access
 /// through a pointer in its command, of each divisor, and of what it calls. One that comes twice is
-/// listed twice. Of a library call these are the alarms of its arguments and of where its result
-/// goes: what the routine itself accesses isn't told here.
+/// listed twice. Of a library call these are the alarms of where its result goes, of its arguments,
+/// and of what the routine accesses.
 pub fn verdicts<V: View>(
     alloc: Global,
     lowered: &Lowered,
@@ -97,9 +99,16 @@ fn add_command<V: View>(
             add_result(alloc, lowered, locations, view, to, alarms)?;
             Ok(())
         }
-        Command::Library { to, args, .. } => {
+        Command::Library {
+            which,
+            to,
+            args,
+            ..
+        } => {
             add_result(alloc, lowered, locations, view, to, alarms)?;
             add_list(alloc, lowered, locations, view, args, alarms)?;
+            let arguments = arguments_of(alloc, lowered, locations, view, args)?;
+            add_library(lowered, place, *which, &arguments, alarms)?;
             Ok(())
         }
         Command::Outside { to, args, .. } => {

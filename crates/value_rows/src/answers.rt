@@ -6,10 +6,10 @@ ghost use Rattle.sp_verdicts.specs.Commands.{is_proper_command};
 
 use crate::forms::{Stack, is_proper, is_proper_lvalue};
 use crate::scene::Scene;
-use crate::words::{mark_of, type_of};
+use crate::words::{mark_of, routine_of, type_of};
 use sp_eval::{address_of, evaluate, evaluation_is_lawful, every_number, relation_of, resolve};
 use sp_interval::Interval;
-use sp_ir::{Command, Expr, Node};
+use sp_ir::{Command, Expr, Node, Routine};
 use sp_lattice::Relation;
 use sp_tree::Place;
 use sp_value::{Target, Value, values_are_lawful};
@@ -118,6 +118,25 @@ fn called(
     alarms(alloc, scene, Command::Call { callee, args })
 }
 
+// The alarms of a routine of the library, with the values of the stack as its arguments.
+fn routine(
+    alloc: Global,
+    scene: &Scene,
+    which: Routine,
+    stack: Stack,
+) -> Result<String, AllocError> {
+    let Some(args) = stack.arguments(alloc)? else {
+        return String::from_str(alloc, "improper");
+    };
+    let call = Command::Library {
+        which,
+        to: None,
+        args,
+        site: None,
+    };
+    alarms(alloc, scene, call)
+}
+
 // The answer of a call on a value.
 fn of_value(
     alloc: Global,
@@ -199,6 +218,9 @@ pub(crate) fn answer(alloc: Global, scene: &Scene, row: &str) -> Result<String, 
         if !stack.take(alloc, word)? {
             return format!(in alloc; "no word {word:?}");
         }
+    }
+    if let Some(which) = routine_of(call) {
+        return routine(alloc, scene, which, stack);
     }
     let answer = match call {
         "address" | "targets" => of_place(alloc, scene, call, &mut stack)?,

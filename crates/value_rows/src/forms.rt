@@ -1,10 +1,11 @@
 //! Expressions and lvalues from words in reverse Polish notation.
-ghost use Rattle.std.specs.Prelude.{◌≡◌, ℤ};
+ghost use Rattle.std.specs.Prelude.{◌≡◌, ℤ, true, map, IfOk, MatchOption};
 ghost use Rattle.sp_ir.specs.View.{expression_of, lvalue_of};
 ghost use Rattle.sp_interval.specs.Interval.{whole};
 ghost use Rattle.sp_value.specs.Known.{is_ordered_within};
 ghost use Rattle.sp_eval.specs.Numbers.{exactly};
 ghost use Rattle.sp_eval.specs.Evaluation.{is_proper, is_proper_lvalue, is_proper_size};
+ghost use Rattle.sp_verdicts.specs.Commands.{are_proper};
 
 use crate::words::{kind_of, mark_of, object_of, type_of};
 use sp_ir::{Expr, Lvalue};
@@ -44,6 +45,21 @@ impl Stack {
             Form::Value(value) => Some(value),
             Form::Place(_) => None,
         }
+    }
+
+    /// All values, the last on top; nothing where one is a place or isn't taken by evaluation.
+    pub(crate) fn arguments(self, alloc: Global) -> Result<Option<Vec<Expr>>, AllocError>
+        ensures { IfOk result (λ made. MatchOption made (Unit {0}) (λ args.
+            are_proper (map expression_of args.items) ≡ true)) }
+    {
+        let mut args = Vec::new(alloc);
+        for form in self.forms {
+            let Some(value) = proper_value(form) else {
+                return Ok(None);
+            };
+            args.push(value)?;
+        }
+        Ok(Some(args))
     }
 
     /// Takes the place on top; nothing where there is none.
@@ -181,6 +197,16 @@ fn is_size(size: u64) -> bool
     ensures { result ≡ is_proper_size size }
 {
     1 <= size && size <= 1 << 40
+}
+
+// The value that a form is; nothing where it is a place or isn't taken by evaluation.
+fn proper_value(form: Form) -> Option<Expr>
+    ensures { MatchOption result (Unit {0}) (λ value. is_proper (expression_of value) ≡ true) }
+{
+    match form {
+        Form::Value(value) => { if is_proper(&value) { Some(value) } else { None } }
+        Form::Place(_place) => None,
+    }
 }
 
 /// Whether evaluation takes the expression.

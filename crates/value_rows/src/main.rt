@@ -9,6 +9,7 @@
 //! address LVALUE        the same of its address; targets LVALUE: its targets alone
 //! alarms EXPRESSION     how many alarms it has, and each
 //! call EXPRESSION       those of a call of it, with the value before it as argument, if any
+//! memcpy EXPRESSION..   those of a call of a routine of the library, by its name
 //! many REGION           whether it stands for more than one place
 //! every TYPE            every number of a type
 //! relation MARK         the relation of an operator

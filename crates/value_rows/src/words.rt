@@ -1,5 +1,6 @@
 //! The words of rows: types, kinds, operators, names.
 use crate::scene::function_type;
+use sp_ir::Routine;
 use sp_tree::Punct;
 use sp_types::{CType, IntKind};
 use std::alloc::{AllocError, Global};
@@ -67,6 +68,21 @@ pub(crate) fn mark_of(word: &str) -> Option<Punct> {
         "==" => Some(Punct::EqualEqual),
         "!=" => Some(Punct::NotEqual),
         "?" => Some(Punct::Question),
+        _ => None,
+    }
+}
+
+pub(crate) fn routine_of(word: &str) -> Option<Routine> {
+    match word {
+        "malloc" => Some(Routine::Malloc),
+        "free" => Some(Routine::Free),
+        "memset" => Some(Routine::Memset),
+        "memcpy" => Some(Routine::Memcpy),
+        "memmove" => Some(Routine::Memmove),
+        "strlen" => Some(Routine::Strlen),
+        "strcpy" => Some(Routine::Strcpy),
+        "strncpy" => Some(Routine::Strncpy),
+        "strcat" => Some(Routine::Strcat),
         _ => None,
     }
 }

@@ -16,5 +16,5 @@ loop-cell-preserved c =
 pub returns : goal.returns
 returns c =
     adds-as (λ r. list_any (λ x. reaches (analysed_of c.args.analysis.now).program c.args.region x && nat_eq r x) c.under-cells.result.now) (λ r. reaches (analysed_of c.args.analysis.now).program c.args.region r) c.args.set.now c.loop-cell.set
-    (λ r. any-picked (λ x. reaches (analysed_of c.args.analysis.now).program c.args.region x) r c.under-cells.result.now (c.under-cells.ensures r))
+    (λ r. any-picked (λ x. reaches (analysed_of c.args.analysis.now).program c.args.region x) r c.under-cells.result.now (c.under-cells.ensures.under r))
     (adds-all (λ x r. reaches (analysed_of c.args.analysis.now).program c.args.region x && nat_eq r x) c.under-cells.result.now c.loop-cell.cell-index c.args.set.now c.loop-cell.set (omega (arith, c.loop-cell-test.false)) c.loop-cell.invariant)

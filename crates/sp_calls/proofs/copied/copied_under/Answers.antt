@@ -13,4 +13,4 @@ pub returns : goal.returns
 returns g c =
     let p = lowered_of c.args.analysis.now.lowered in
     c.in_ok-value.ensures ∙ joined-chosen (copied_cell p (known_in_regions (scene_of (analysed_of c.args.analysis.now)) (λ l. g.V.View.store c.args.view.now l)) c.args.cell) (reaches p c.args.from) c.under-cells.result.now (locations_of p)
-    c.under-cells.ensures (in-cells p c.args.from)
+    c.under-cells.ensures.under (in-cells p c.args.from)

@@ -11,4 +11,4 @@ use Rattle.sp_calls.proofs.leaves.clear.Given as goal
 -- the first places have what they keep
 abbrev pub invariant-loop-place : goal.invariant-loop-place
 invariant-loop-place l = (k : ℕ) → store_of l.places l.row k
-    ≡ cond (has k (take l.place-index l.places)) (kept_if (kept_by (leaf_destination (analysed_of l.analysis) (lvalue_of l.to)) l.targets k) (store_of l.places l.fn.row k)) (store_of l.places l.fn.row k)
+    ≡ cond (has k (take l.place-index l.hit)) (kept_if (kept_by (leaf_destination (analysed_of l.analysis) (lvalue_of l.to)) l.targets k) (store_of l.places l.fn.row k)) (store_of l.places l.fn.row k)

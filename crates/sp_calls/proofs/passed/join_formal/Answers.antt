@@ -14,4 +14,4 @@ returns g c = λ l h.
     let a = analysed_of c.args.analysis.now in
     formal-joined a (known_in_regions (scene_of a) (λ n. g.V.View.store c.args.view.now n)) l c.args.formal (store_of c.args.places.now c.args.row.now l) (store_of c.args.places.now c.join_cells.new.row l)
     (evaluated_of c.args.argument.now) (option_map (λ t. type_of t.now) c.type_at-of.result) c.root_of-root.result c.under-cells.result.now
-    (low-member _ c.args.places.now l c.requires.low h) c.type_at-of.ensures c.root_of-root.ensures c.under-cells.ensures (c.in_ok-join_cells.ensures l h)
+    (low-member _ c.args.places.now l c.requires.low h) c.type_at-of.ensures c.root_of-root.ensures c.under-cells.ensures.under (c.in_ok-join_cells.ensures l h)

@@ -4,8 +4,8 @@ use Rattle.sp_ir.specs.Programs.{lowered_of, object_of}
 use Rattle.sp_puts.proofs.Ranges.{all_groups}
 use Rattle.sp_puts.proofs.groups.by_object.Goals as goal
 
-pub returns : goal.returns
-returns c =
+pub returns-clause-under : goal.returns-clause-under
+returns-clause-under c =
     let objects = c.args.lowered.now.objects in
     let none : List ℕ = [] in
     let made = ap (λ xs. length xs) c.in_ok-groups.ensures ∙ length-replicate c.len.result none in

@@ -9,4 +9,5 @@ abbrev pub invariant-loop-region : goal.invariant-loop-region
 invariant-loop-region l = record {
   long : length l.groups.items ≡ length l.initial.groups.items;
   there : (k : ℕ) → k < l.region → object_at (lowered_of l.lowered) k < length l.groups.items → has k (row l.groups.items (object_at (lowered_of l.lowered) k)) ≡ true;
+  own : (o n : ℕ) → has n (row l.groups.items o) ≡ true → object_at (lowered_of l.lowered) n ≡ o;
 }

@@ -6,8 +6,8 @@ use Rattle.sp_transfer.specs.Effects.{row_at, effect_at}
 use Rattle.sp_transfer.proofs.Rows.{same-row}
 use Rattle.sp_transfer.proofs.effects.effect.Goals as goal
 
-pub returns : goal.returns
-returns g c =
+pub returns-clause-filled : goal.returns-clause-filled
+returns-clause-filled g c =
     let a = analysed_of c.args.analysis.now in
     let s = λ (k : ℕ). g.V.View.store c.args.view.now k in
     let row = row_at a c.args.node s in

@@ -47,7 +47,7 @@ returns-clause-values g c =
     let defs = c.as_slice-2.ensures.value ∙ sym (defs-kept a s.flow s.nodes.items s.sources.items k c.requires.node s.numbers x c.index-at.ensures) in
     let uses = c.new-view.ensures.places ∙ c.as_slice.ensures.value ∙ sym (uses-kept a s.flow s.nodes.items s.sources.items k c.requires.node s.numbers x c.index-at.ensures) in
     let number = sym (number-kept a s.flow s.nodes.items s.sources.items k c.requires.node s.numbers x c.index-at.ensures) in
-    c.in_ok-effect.ensures
+    c.in_ok-effect.ensures.filled
     ∙ ap (λ (us : List ℕ). values_at (effect_at a x.number (λ (l : ℕ). store_of us c.new-view.result.slots.now l)) c.as_slice-2.result.now) uses
     ∙ ap (λ ss. values_at (effect_at a x.number (λ (l : ℕ). store_of (row e.uses k) ss l)) c.as_slice-2.result.now) c.new-view.ensures.slots
     ∙ ap (λ (n : ℕ). values_at (effect_at a n (λ (l : ℕ). store_of (row e.uses k) c.args.input.now l)) c.as_slice-2.result.now) number
