@@ -18,6 +18,7 @@ FORMS = {
     "typedef in a function": "typedefs in functions",
     "name that hides a type": "names that hide types",
     "designated initialiser": "designated initialisers",
+    "empty initialiser": "empty initialisers",
     "compound literal": "compound literals",
     "member without a name": "members without a name",
     "struct with bit-fields": "structs with bit-fields",

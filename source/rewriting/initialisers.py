@@ -38,6 +38,10 @@ class Initialisers(Rewriting):
         if has_designators(node.values) or has_bits(node.type):
             if not order(self.edits, node.type, node.values):
                 self.unit.leave(node.values.first, "an initialiser whose parts aren't known")
+        elif not node.values.items:
+            # C23 6.7.10: what has no value in its list is zero, as behind the last value.
+            self.edits.after(node.values.first, "0")
+            self.unit.count("empty initialiser")
 
 
 def order(edits: Edits, kind: MaybeType, values: Initialiser) -> bool:
