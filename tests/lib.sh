@@ -14,6 +14,13 @@ fail() { # what was run, what came of it
     printf 'FAILED %s\n%s\n' "$1" "$2"
 }
 
+# Ends the script where there is no gcc.
+need_gcc() {
+    command -v gcc >/dev/null 2>&1 && return
+    echo "skipped: gcc isn't there"
+    exit 0
+}
+
 # check NAME STATUS BYTES COMMAND..: runs the command, and wants exactly this status and these bytes on standard output. A
 # newline that is missing at the end is seen.
 check() {

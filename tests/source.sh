@@ -4,10 +4,7 @@
 # hand; the comments of the programs say why. Then the headers themselves, the options, and what is
 # said where there is no report.
 . "$(dirname "$0")/lib.sh"
-if ! command -v gcc >/dev/null 2>&1; then
-    echo "skipped: gcc isn't there"
-    exit 0
-fi
+need_gcc
 room=$(mktemp -d)
 trap 'rm -rf "$room"' EXIT
 mkdir "$room/tmp"

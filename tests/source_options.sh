@@ -2,11 +2,7 @@
 # Options of ./sparrow source for whole programs: compile_commands.json, and what a terminal is
 # told.
 . "$(dirname "$0")/lib.sh"
-if ! command -v gcc >/dev/null 2>&1; then
-    echo "skipped: gcc isn't there"
-    exit 0
-fi
-./sparrow >/dev/null 2>&1
+need_gcc
 room=$(mktemp -d)
 trap 'rm -rf "$room"' EXIT
 unset CPP

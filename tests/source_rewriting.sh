@@ -1,16 +1,13 @@
 #!/usr/bin/env bash
 # What ./sparrow source rewrites: the table of texts, and what is said of a program.
 . "$(dirname "$0")/lib.sh"
-if ! command -v gcc >/dev/null 2>&1; then
-    echo "skipped: gcc isn't there"
-    exit 0
-fi
-./sparrow >/dev/null 2>&1
+need_gcc
+program=$(./sparrow --program) || exit 1
 room=$(mktemp -d)
 trap 'rm -rf "$room"' EXIT
 unset CPP
 
-PYTHONDONTWRITEBYTECODE=1 python3 -I tests/source_rewriting.py crates/sparrow/out/sparrow ||
+PYTHONDONTWRITEBYTECODE=1 python3 -I tests/source_rewriting.py "$program" ||
     failed=$((failed + 1))
 python3 -I tests/source_numbers.py || failed=$((failed + 1))
 python3 -I tests/source_layouts.py || failed=$((failed + 1))
