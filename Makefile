@@ -29,9 +29,9 @@ install: all
 	install -d "$(place)/bin" "$(lib)" "$(share)" "$(documents)" "$(manual)" "$(completions)"
 	install -m 755 "$$(./sparrow --program)" "$(lib)/sparrow"
 	./sparrow --version >"$(lib)/version"
-	cp -R $(wildcard include source source.sh) "$(share)"
+	cp -R include source "$(share)"
 	find "$(share)" -name __pycache__ -prune -exec rm -rf {} +
-	[ ! -d source ] || python3 -m compileall -q -s "$(DESTDIR)" "$(share)/source"
+	python3 -m compileall -q -s "$(DESTDIR)" "$(share)/source"
 	chmod -R u=rwX,go=rX "$(lib)" "$(share)"
 	install -m 755 sparrow "$(place)/bin/sparrow"
 	install -m 644 LICENSE docs/LANGUAGE.md docs/REPORT.md docs/REAL_CODE.md "$(documents)"
