@@ -21,9 +21,9 @@ use Rattle.sp_rows.specs.Storing.{may_hit, kept_by}
 use Rattle.sp_rows.specs.Laws.{BelowStore, UnderCeiling, AgreeAt, IsLawful, IsLawfulDestination, IsLawfulValue, IsPlain}
 use Rattle.sp_rows.proofs.SettingLaws.{cells-formed, cells-monotone, cells-within, cells-agree}
 use Rattle.sp_rows.proofs.StoringLaws.{storing-lawful, storing-plain}
-use Rattle.sp_stores.specs.Scene.{IsScene, known_in_regions}
+use Rattle.sp_stores.specs.Scene.{IsScene, fitted, known_in_regions}
 use Rattle.sp_stores.specs.Destinations.{bottom_of, bottom_regions, bottom_accepts, region_under, is_direct}
-use Rattle.sp_stores.proofs.AssignLaws.{bottom-monotone, bottom-within, bottom-agrees, direct-one}
+use Rattle.sp_stores.proofs.AssignLaws.{fitted-lawful, bottom-monotone, bottom-within, bottom-agrees, direct-one}
 use Rattle.sp_scenes.specs.Analysed.{Analysed, setting_of, scene_of, is_summary}
 use Rattle.sp_calls.specs.Copied.{has_cell}
 use Rattle.sp_calls.specs.Copies.{leaf_destination, storing_leaves, keeps_leaves}
@@ -88,8 +88,11 @@ module _ (a : Analysed) (is : IsScene (scene_of a)) where
         agree = λ s t r l m h under under' same. fine.agree s t (region_under g to r) (cell_of (setting_of a) l) under same;
       }
 
+      the_fitted : IsLawfulValue (setting_of a) uses (leaf_destination a to) (λ s r l. fitted (scene_of a) (cell_of (setting_of a) l) (value s (region_under g to r) (cell_of (setting_of a) l)))
+      the_fitted = fitted-lawful (scene_of a) uses (leaf_destination a to) (λ s r l. value s (region_under g to r) (cell_of (setting_of a) l)) the_value
+
       pub leaves-lawful : IsLawful (setting_of a) (may_hit (leaf_destination a to)) uses (storing_leaves a to value)
-      leaves-lawful = storing-lawful (setting_of a) is.setting uses (leaf_destination a to) (λ s r l. value s (region_under g to r) (cell_of (setting_of a) l)) the_destination the_value kept_used
+      leaves-lawful = storing-lawful (setting_of a) is.setting uses (leaf_destination a to) (λ s r l. fitted (scene_of a) (cell_of (setting_of a) l) (value s (region_under g to r) (cell_of (setting_of a) l))) the_destination the_fitted kept_used
 
       pub leaves-plain : IsPlain (setting_of a) (storing_leaves a to value)
-      leaves-plain = storing-plain (setting_of a) is.setting uses (leaf_destination a to) (λ s r l. value s (region_under g to r) (cell_of (setting_of a) l)) the_destination the_value
+      leaves-plain = storing-plain (setting_of a) is.setting uses (leaf_destination a to) (λ s r l. fitted (scene_of a) (cell_of (setting_of a) l) (value s (region_under g to r) (cell_of (setting_of a) l))) the_destination the_fitted

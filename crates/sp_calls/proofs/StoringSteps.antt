@@ -25,7 +25,8 @@ use Rattle.sp_rows.specs.Storing.{may_hit, kept_by}
 use Rattle.sp_updates.proofs.Numbers.{which, same_number, apart_numbers}
 use Rattle.sp_updates.proofs.UpdateLaws.{join-nothing, join-assoc}
 use Rattle.sp_stores.specs.Destinations.{bottom_of, bottom_accepts, region_under}
-use Rattle.sp_scenes.specs.Analysed.{Analysed, setting_of, locations_of}
+use Rattle.sp_stores.specs.Scene.{fitted}
+use Rattle.sp_scenes.specs.Analysed.{Analysed, setting_of, scene_of, locations_of}
 use Rattle.sp_entries.proofs.JoinedLaws.{joins-same}
 use Rattle.sp_entries.proofs.Steps.{joins-next}
 use Rattle.sp_calls.specs.Copied.{has_cell}
@@ -138,19 +139,14 @@ module _ (a : Analysed) (to : Lvalue) (slots : ℕ → ℕ → Slot) (r l : ℕ)
 pub kept-none : (a : Analysed) (to : Lvalue) (l : ℕ) → may_hit (leaf_destination a to) l ≡ true → false ≡ kept_by (leaf_destination a to) [] l
 kept-none a to l h = ap not (sym h)
 
--- both steps together
-pub stored-both : (a : Analysed) (to : Lvalue) (slots : ℕ → ℕ → Slot) (xs : List Target) (old : Store) (l : ℕ) (mid new : Slot) → mid ≡ kept_if (kept_by (leaf_destination a to) xs l) (old l) → new ≡ slot_join mid (joins (λ x. bottom_slot a to slots l x.region) xs)
-    → new ≡ applied (stored_leaves a to slots xs) old l
-stored-both a to slots xs old l mid new h g = g ∙ ap (λ s. slot_join s (joins (λ x. bottom_slot a to slots l x.region) xs)) h
-
 -- what is stored from where the bottom is, is the row
 pub stored-row : (a : Analysed) (to : Lvalue) (value : Store → ℕ → ℕ → Known) (slots : ℕ → ℕ → Slot) (s old : Store) (l : ℕ) (new : Slot) (cells : List ℕ) (xs : List Target) (v : Known)
-    → cells ≡ locations_of a.program → v ≡ bottom_of (terrain_of a.program) (cells_at cells s) to → xs ≡ v.targets → ((q c : ℕ) → slots q c ≡ stored a.ladder (value s q c))
+    → cells ≡ locations_of a.program → v ≡ bottom_of (terrain_of a.program) (cells_at cells s) to → xs ≡ v.targets → ((q c : ℕ) → slots q c ≡ stored a.ladder (fitted (scene_of a) c (value s q c)))
     → new ≡ applied (stored_leaves a to slots xs) old l → new ≡ applied (storing_leaves a to value s) old l
 stored-row a to value slots s old l new cells xs v same bottom targets made is =
-    is ∙ ap (λ y. slot_join (kept_if (kept_by (leaf_destination a to) xs l) (old l)) y) (joins-same (λ (x : Target). bottom_slot a to slots l x.region) (λ (x : Target). bottom_slot a to (λ q c. stored a.ladder (value s q c)) l x.region)
+    is ∙ ap (λ y. slot_join (kept_if (kept_by (leaf_destination a to) xs l) (old l)) y) (joins-same (λ (x : Target). bottom_slot a to slots l x.region) (λ (x : Target). bottom_slot a to (λ q c. stored a.ladder (fitted (scene_of a) c (value s q c))) l x.region)
     (λ x. ap (λ y. cond ((leaf_destination a to).hits x.region l) y Nothing) (made (region_under (terrain_of a.program) to x.region) (cell_of (setting_of a) l))) xs)
-    ∙ ap (λ ys. applied (stored_leaves a to (λ q c. stored a.ladder (value s q c)) ys) old l) (targets ∙ ap (λ (k : Known). k.targets) (bottom ∙ ap (λ cs. bottom_of (terrain_of a.program) (cells_at cs s) to) same))
+    ∙ ap (λ ys. applied (stored_leaves a to (λ q c. stored a.ladder (fitted (scene_of a) c (value s q c))) ys) old l) (targets ∙ ap (λ (k : Known). k.targets) (bottom ∙ ap (λ cs. bottom_of (terrain_of a.program) (cells_at cs s) to) same))
 
 -- keeping twice is keeping once
 kept-twice : (b : Bool) (x : Slot) → kept_if b (kept_if b x) ≡ kept_if b x

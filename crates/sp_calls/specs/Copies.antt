@@ -11,7 +11,7 @@ use Rattle.sp_puts.specs.Puts.{as_struct}
 use Rattle.sp_rows.specs.Rows.{Store, Row}
 use Rattle.sp_rows.specs.Setting.{cell_of}
 use Rattle.sp_rows.specs.Storing.{Destination, may_hit, storing}
-use Rattle.sp_stores.specs.Scene.{known_in_regions}
+use Rattle.sp_stores.specs.Scene.{fitted, known_in_regions}
 use Rattle.sp_stores.specs.Destinations.{bottom_of, bottom_regions, bottom_accepts, region_under, is_direct}
 use Rattle.sp_scenes.specs.Analysed.{Analysed, setting_of, scene_of, is_summary}
 use Rattle.sp_calls.specs.Copied.{cells_in, has_cell, copied_of}
@@ -27,10 +27,12 @@ leaf_destination a to = record {
   summary = λ k. is_summary a.program a.told (cell_of (setting_of a) k);
 }
 
--- what a cell gets hangs on the region that is stored to and on the cell
+-- what a cell gets hangs on the region that is stored to and on the cell, which holds it as one of its
+-- type
 abbrev pub storing_leaves : Analysed → Lvalue → (Store → ℕ → ℕ → Known) → Store → Row
 storing_leaves a to value = storing a.ladder (leaf_destination a to)
-    (λ s r l. value s (region_under (terrain_of a.program) to r) (cell_of (setting_of a) l))
+    (λ s r l. fitted (scene_of a) (cell_of (setting_of a) l)
+    (value s (region_under (terrain_of a.program) to r) (cell_of (setting_of a) l)))
 
 -- it keeps what it may hit through a pointer, and summaries
 abbrev pub keeps_leaves : Analysed → Lvalue → ℕ → Bool

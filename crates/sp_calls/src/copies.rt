@@ -32,18 +32,20 @@ impl<V: View> Gives for FromStruct<'_, V> {
     ghost use Rattle.sp_value.specs.Slots.{known_of};
     ghost use Rattle.sp_value.specs.Held.{stored};
     ghost use Rattle.sp_ir.specs.Programs.{lowered_of};
-    ghost use Rattle.sp_stores.specs.Scene.{known_in_regions};
+    ghost use Rattle.sp_stores.specs.Scene.{fitted, known_in_regions};
     ghost use Rattle.sp_scenes.specs.Analysed.{scene_of};
     ghost use Rattle.sp_scenes.specs.View.{analysed_of};
     ghost use Rattle.sp_calls.specs.Copied.{copied_at};
 
     ghost slots = { λ s q c. stored s.analysis.now.ladder
+        (fitted (scene_of (analysed_of s.analysis.now)) c
         (copied_at (lowered_of s.analysis.now.lowered)
         (known_in_regions (scene_of (analysed_of s.analysis.now)) (V.store s.view.now)) q c
-        (known_of s.from.now)) };
+        (known_of s.from.now))) };
 
     fn slot(&self, alloc: Global, region: u32, cell: u32) -> Result<Slot, AllocError> {
-        let value = copied_at(alloc, self.analysis, self.view, region, cell, self.from)?;
+        let copied = copied_at(alloc, self.analysis, self.view, region, cell, self.from)?;
+        let value = self.analysis.fitted(alloc, cell, copied)?;
         let slot = value.stored(alloc, &self.analysis.ladder)?;
         Ok(slot)
     }

@@ -106,15 +106,19 @@ struct FromOutside<'a> {
 impl Gives for FromOutside<'_> {
     ghost use Rattle.sp_ir.specs.View.{lvalue_of};
     ghost use Rattle.sp_value.specs.Held.{stored};
+    ghost use Rattle.sp_stores.specs.Scene.{fitted};
+    ghost use Rattle.sp_scenes.specs.Analysed.{scene_of};
     ghost use Rattle.sp_scenes.specs.View.{analysed_of};
     ghost use Rattle.sp_calls.specs.Outside.{foreign_leaf};
 
     ghost slots = { λ s q c. stored s.analysis.now.ladder
+        (fitted (scene_of (analysed_of s.analysis.now)) c
         (foreign_leaf (analysed_of s.analysis.now).program (lvalue_of s.to.now) s.site.now.targets q
-        c) };
+        c)) };
 
     fn slot(&self, alloc: Global, region: u32, cell: u32) -> Result<Slot, AllocError> {
-        let value = foreign_as(alloc, self.analysis, self.to.of(), region, cell, self.site)?;
+        let foreign = foreign_as(alloc, self.analysis, self.to.of(), region, cell, self.site)?;
+        let value = self.analysis.fitted(alloc, cell, foreign)?;
         let slot = value.stored(alloc, &self.analysis.ladder)?;
         Ok(slot)
     }

@@ -154,11 +154,14 @@ struct FromFunctions<'a, V: View> {
 impl<V: View> Gives for FromFunctions<'_, V> {
     ghost use Rattle.sp_ir.specs.View.{lvalue_of};
     ghost use Rattle.sp_value.specs.Held.{stored};
+    ghost use Rattle.sp_stores.specs.Scene.{fitted};
+    ghost use Rattle.sp_scenes.specs.Analysed.{scene_of};
     ghost use Rattle.sp_scenes.specs.View.{analysed_of};
     ghost use Rattle.sp_calls.specs.Returns.{results_value};
 
-    ghost slots = { λ s q c. stored s.analysis.now.ladder (results_value
-        (analysed_of s.analysis.now) s.call (lvalue_of s.to.now) (V.store s.view.now) q c) };
+    ghost slots = { λ s q c. stored s.analysis.now.ladder
+        (fitted (scene_of (analysed_of s.analysis.now)) c (results_value
+        (analysed_of s.analysis.now) s.call (lvalue_of s.to.now) (V.store s.view.now) q c)) };
 
     fn slot(&self, alloc: Global, region: u32, cell: u32) -> Result<Slot, AllocError> {
         let functions = self.analysis.pre.calls().callees(self.call);
@@ -169,7 +172,8 @@ impl<V: View> Gives for FromFunctions<'_, V> {
             region,
             cell,
         };
-        let value = join_told(alloc, functions, &each)?;
+        let given = join_told(alloc, functions, &each)?;
+        let value = self.analysis.fitted(alloc, cell, given)?;
         let slot = value.stored(alloc, &self.analysis.ladder)?;
         Ok(slot)
     }

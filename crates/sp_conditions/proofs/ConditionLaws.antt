@@ -34,7 +34,7 @@ use Rattle.sp_rows.specs.Setting.{count, cell_of, ceiling}
 use Rattle.sp_rows.specs.Laws.{BelowStore, UnderCeiling, HeldStore, AgreeAt, IsLawful}
 use Rattle.sp_rows.proofs.Choices.{Implies, chosen, or_left, or_right}
 use Rattle.sp_rows.proofs.SettingLaws.{stored-under, cells-formed, cells-monotone, cells-within, cells-agree, ceiling-within}
-use Rattle.sp_stores.specs.Scene.{Scene, IsScene, known_in_regions}
+use Rattle.sp_stores.specs.Scene.{Scene, IsScene, has_integers, known_in_regions}
 use Rattle.sp_conditions.specs.Sides.{names, keeps_present, is_zero, to_integer, names_all}
 use Rattle.sp_conditions.specs.Conditions.{is_equality, refined_by, drops, numbers_left, drops_left, left_by, either_names, assuming, assume_defines, assumed_reads, assume_uses}
 use Rattle.sp_conditions.specs.Laws.{ConditionLaws}
@@ -149,21 +149,21 @@ module _ (a : Scene) (is : IsScene a) where
   own-formed s l = numbers_of (known_in (s l)) (known_in-formed (s l))
 
   restricts-falls : (s t : Store) (l : ℕ) → l < count a.setting → BelowStore a.setting s t → (e : Expression) → Implies (restricts a t e l) (restricts a s e l)
-  restricts-falls s t l low below e = and-rises (names a e l) (keeps_present (a.is_integer (cell_of a.setting l)) (known_in (t l)) e) (names a e l) (keeps_present (a.is_integer (cell_of a.setting l)) (known_in (s l)) e)
-      (λ k. k) (keeps_present-falls (a.is_integer (cell_of a.setting l)) (known_in (s l)) (known_in (t l)) (known_in-monotone (s l) (t l) (below l low)) e)
+  restricts-falls s t l low below e = and-rises (names a e l) (keeps_present (has_integers a (cell_of a.setting l)) (known_in (t l)) e) (names a e l) (keeps_present (has_integers a (cell_of a.setting l)) (known_in (s l)) e)
+      (λ k. k) (keeps_present-falls (has_integers a (cell_of a.setting l)) (known_in (s l)) (known_in (t l)) (known_in-monotone (s l) (t l) (below l low)) e)
 
   module _ (e : Expression) (op : Relation) (f : Expression) (proper : is_proper f ≡ true) where
     other-formed : (s : Store) → IsFormedKnown (value_of a.terrain (known_in_regions a s) f)
     other-formed s = value-formed a.terrain is.terrain (known_in_regions a s) (cells-formed a.setting is.setting s) f proper
 
     side-formed : (s : Store) (l : ℕ) → IsFormed (side_numbers a s e op f l)
-    side-formed s l = chosen IsFormed (restricts a s e l) (refined_by (a.is_integer (cell_of a.setting l)) op (is_zero f) (value_of a.terrain (known_in_regions a s) f) (known_in (s l)).numbers) (known_in (s l)).numbers
-        (λ k. refined_by-formed (a.is_integer (cell_of a.setting l)) op (is_zero f) (value_of a.terrain (known_in_regions a s) f) (known_in (s l)).numbers (other-formed s) (own-formed s l))
+    side-formed s l = chosen IsFormed (restricts a s e l) (refined_by (has_integers a (cell_of a.setting l)) op (is_zero f) (value_of a.terrain (known_in_regions a s) f) (known_in (s l)).numbers) (known_in (s l)).numbers
+        (λ k. refined_by-formed (has_integers a (cell_of a.setting l)) op (is_zero f) (value_of a.terrain (known_in_regions a s) f) (known_in (s l)).numbers (other-formed s) (own-formed s l))
         (λ k. own-formed s l)
 
     side-within : (s : Store) (l : ℕ) → interval_le (side_numbers a s e op f l) (known_in (s l)).numbers ≡ true
-    side-within s l = chosen (λ i. interval_le i (known_in (s l)).numbers ≡ true) (restricts a s e l) (refined_by (a.is_integer (cell_of a.setting l)) op (is_zero f) (value_of a.terrain (known_in_regions a s) f) (known_in (s l)).numbers) (known_in (s l)).numbers
-        (λ k. refined_by-within (a.is_integer (cell_of a.setting l)) op (is_zero f) (value_of a.terrain (known_in_regions a s) f) (known_in (s l)).numbers (other-formed s) (own-formed s l))
+    side-within s l = chosen (λ i. interval_le i (known_in (s l)).numbers ≡ true) (restricts a s e l) (refined_by (has_integers a (cell_of a.setting l)) op (is_zero f) (value_of a.terrain (known_in_regions a s) f) (known_in (s l)).numbers) (known_in (s l)).numbers
+        (λ k. refined_by-within (has_integers a (cell_of a.setting l)) op (is_zero f) (value_of a.terrain (known_in_regions a s) f) (known_in (s l)).numbers (other-formed s) (own-formed s l))
         (λ k. interval_le-refl (known_in (s l)).numbers)
 
     other-monotone : (s t : Store) → BelowStore a.setting s t → known_le (value_of a.terrain (known_in_regions a s) f) (value_of a.terrain (known_in_regions a t) f) ≡ true
@@ -176,17 +176,17 @@ module _ (a : Scene) (is : IsScene a) where
         own = numbers_le (known_in (s l)) (known_in (t l)) (known_in-monotone (s l) (t l) (below l low))
 
         by : (b : Bool) → b ≡ b → (c : Bool) → Implies c b
-            → interval_le (cond b (refined_by (a.is_integer (cell_of a.setting l)) op (is_zero f) (value_of a.terrain (known_in_regions a s) f) (known_in (s l)).numbers) (known_in (s l)).numbers)
-            (cond c (refined_by (a.is_integer (cell_of a.setting l)) op (is_zero f) (value_of a.terrain (known_in_regions a t) f) (known_in (t l)).numbers) (known_in (t l)).numbers) ≡ true
-        by true q true g = refined_by-monotone (a.is_integer (cell_of a.setting l)) op (is_zero f) (value_of a.terrain (known_in_regions a s) f) (value_of a.terrain (known_in_regions a t) f) (known_in (s l)).numbers (known_in (t l)).numbers (other-formed s) (own-formed s l) (other-monotone s t below) own
-        by true q false g = interval_le-trans (refined_by (a.is_integer (cell_of a.setting l)) op (is_zero f) (value_of a.terrain (known_in_regions a s) f) (known_in (s l)).numbers) (known_in (s l)).numbers (known_in (t l)).numbers
-            (refined_by-within (a.is_integer (cell_of a.setting l)) op (is_zero f) (value_of a.terrain (known_in_regions a s) f) (known_in (s l)).numbers (other-formed s) (own-formed s l)) own
+            → interval_le (cond b (refined_by (has_integers a (cell_of a.setting l)) op (is_zero f) (value_of a.terrain (known_in_regions a s) f) (known_in (s l)).numbers) (known_in (s l)).numbers)
+            (cond c (refined_by (has_integers a (cell_of a.setting l)) op (is_zero f) (value_of a.terrain (known_in_regions a t) f) (known_in (t l)).numbers) (known_in (t l)).numbers) ≡ true
+        by true q true g = refined_by-monotone (has_integers a (cell_of a.setting l)) op (is_zero f) (value_of a.terrain (known_in_regions a s) f) (value_of a.terrain (known_in_regions a t) f) (known_in (s l)).numbers (known_in (t l)).numbers (other-formed s) (own-formed s l) (other-monotone s t below) own
+        by true q false g = interval_le-trans (refined_by (has_integers a (cell_of a.setting l)) op (is_zero f) (value_of a.terrain (known_in_regions a s) f) (known_in (s l)).numbers) (known_in (s l)).numbers (known_in (t l)).numbers
+            (refined_by-within (has_integers a (cell_of a.setting l)) op (is_zero f) (value_of a.terrain (known_in_regions a s) f) (known_in (s l)).numbers (other-formed s) (own-formed s l)) own
         by false q true g = absurd (false≢true (g refl))
         by false q false g = own
 
     side_drops-fall : (s t : Store) (l : ℕ) → l < count a.setting → BelowStore a.setting s t → Implies (side_drops a t e op f l) (side_drops a s e op f l)
-    side_drops-fall s t l low below = and-rises (restricts a t e l) (drops (a.is_integer (cell_of a.setting l)) op (is_zero f) (to_integer e) (value_of a.terrain (known_in_regions a t) f)) (restricts a s e l) (drops (a.is_integer (cell_of a.setting l)) op (is_zero f) (to_integer e) (value_of a.terrain (known_in_regions a s) f))
-        (restricts-falls s t l low below e) (drops-fall (a.is_integer (cell_of a.setting l)) op (is_zero f) (to_integer e) (value_of a.terrain (known_in_regions a s) f) (value_of a.terrain (known_in_regions a t) f) (other-monotone s t below))
+    side_drops-fall s t l low below = and-rises (restricts a t e l) (drops (has_integers a (cell_of a.setting l)) op (is_zero f) (to_integer e) (value_of a.terrain (known_in_regions a t) f)) (restricts a s e l) (drops (has_integers a (cell_of a.setting l)) op (is_zero f) (to_integer e) (value_of a.terrain (known_in_regions a s) f))
+        (restricts-falls s t l low below e) (drops-fall (has_integers a (cell_of a.setting l)) op (is_zero f) (to_integer e) (value_of a.terrain (known_in_regions a s) f) (value_of a.terrain (known_in_regions a t) f) (other-monotone s t below))
 
   -- ---- both sides
 
@@ -232,7 +232,7 @@ module _ (a : Scene) (is : IsScene a) where
     unnamed : (s : Store) (l : ℕ) → assume_defines a e f l ≡ false → either_restricts a s e f l ≡ false
     unnamed s l other = by (names a e l) (names a f l) other
       where
-        by : (b d : Bool) → (b || d) ≡ false → (b && keeps_present (a.is_integer (cell_of a.setting l)) (known_in (s l)) e || d && keeps_present (a.is_integer (cell_of a.setting l)) (known_in (s l)) f) ≡ false
+        by : (b d : Bool) → (b || d) ≡ false → (b && keeps_present (has_integers a (cell_of a.setting l)) (known_in (s l)) e || d && keeps_present (has_integers a (cell_of a.setting l)) (known_in (s l)) f) ≡ false
         by true d h = absurd (false≢true (sym h))
         by false true h = absurd (false≢true (sym h))
         by false false h = refl
@@ -251,24 +251,24 @@ module _ (a : Scene) (is : IsScene a) where
 
     -- the row at a location is made of what stands there and of the values of the two sides
     keeps_from : ℕ → Known → Bool
-    keeps_from l own = not (names a e l && keeps_present (a.is_integer (cell_of a.setting l)) own e || names a f l && keeps_present (a.is_integer (cell_of a.setting l)) own f)
+    keeps_from l own = not (names a e l && keeps_present (has_integers a (cell_of a.setting l)) own e || names a f l && keeps_present (has_integers a (cell_of a.setting l)) own f)
 
     module _ (s t : Store) (l : ℕ) (same : s l ≡ t l) (left : value_of a.terrain (known_in_regions a s) e ≡ value_of a.terrain (known_in_regions a t) e) (right : value_of a.terrain (known_in_regions a s) f ≡ value_of a.terrain (known_in_regions a t) f) where
       side_e : side_numbers a s e op f l ≡ side_numbers a t e op f l
-      side_e = ap (λ x. cond (names a e l && keeps_present (a.is_integer (cell_of a.setting l)) (known_in x) e) (refined_by (a.is_integer (cell_of a.setting l)) op (is_zero f) (value_of a.terrain (known_in_regions a s) f) (known_in x).numbers) (known_in x).numbers) same
-          ∙ ap (λ v. cond (restricts a t e l) (refined_by (a.is_integer (cell_of a.setting l)) op (is_zero f) v (known_in (t l)).numbers) (known_in (t l)).numbers) right
+      side_e = ap (λ x. cond (names a e l && keeps_present (has_integers a (cell_of a.setting l)) (known_in x) e) (refined_by (has_integers a (cell_of a.setting l)) op (is_zero f) (value_of a.terrain (known_in_regions a s) f) (known_in x).numbers) (known_in x).numbers) same
+          ∙ ap (λ v. cond (restricts a t e l) (refined_by (has_integers a (cell_of a.setting l)) op (is_zero f) v (known_in (t l)).numbers) (known_in (t l)).numbers) right
 
       side_f : side_numbers a s f (flipped op) e l ≡ side_numbers a t f (flipped op) e l
-      side_f = ap (λ x. cond (names a f l && keeps_present (a.is_integer (cell_of a.setting l)) (known_in x) f) (refined_by (a.is_integer (cell_of a.setting l)) (flipped op) (is_zero e) (value_of a.terrain (known_in_regions a s) e) (known_in x).numbers) (known_in x).numbers) same
-          ∙ ap (λ v. cond (restricts a t f l) (refined_by (a.is_integer (cell_of a.setting l)) (flipped op) (is_zero e) v (known_in (t l)).numbers) (known_in (t l)).numbers) left
+      side_f = ap (λ x. cond (names a f l && keeps_present (has_integers a (cell_of a.setting l)) (known_in x) f) (refined_by (has_integers a (cell_of a.setting l)) (flipped op) (is_zero e) (value_of a.terrain (known_in_regions a s) e) (known_in x).numbers) (known_in x).numbers) same
+          ∙ ap (λ v. cond (restricts a t f l) (refined_by (has_integers a (cell_of a.setting l)) (flipped op) (is_zero e) v (known_in (t l)).numbers) (known_in (t l)).numbers) left
 
       drop_e : side_drops a s e op f l ≡ side_drops a t e op f l
-      drop_e = ap (λ x. names a e l && keeps_present (a.is_integer (cell_of a.setting l)) (known_in x) e && drops (a.is_integer (cell_of a.setting l)) op (is_zero f) (to_integer e) (value_of a.terrain (known_in_regions a s) f)) same
-          ∙ ap (λ v. restricts a t e l && drops (a.is_integer (cell_of a.setting l)) op (is_zero f) (to_integer e) v) right
+      drop_e = ap (λ x. names a e l && keeps_present (has_integers a (cell_of a.setting l)) (known_in x) e && drops (has_integers a (cell_of a.setting l)) op (is_zero f) (to_integer e) (value_of a.terrain (known_in_regions a s) f)) same
+          ∙ ap (λ v. restricts a t e l && drops (has_integers a (cell_of a.setting l)) op (is_zero f) (to_integer e) v) right
 
       drop_f : side_drops a s f (flipped op) e l ≡ side_drops a t f (flipped op) e l
-      drop_f = ap (λ x. names a f l && keeps_present (a.is_integer (cell_of a.setting l)) (known_in x) f && drops (a.is_integer (cell_of a.setting l)) (flipped op) (is_zero e) (to_integer f) (value_of a.terrain (known_in_regions a s) e)) same
-          ∙ ap (λ v. restricts a t f l && drops (a.is_integer (cell_of a.setting l)) (flipped op) (is_zero e) (to_integer f) v) left
+      drop_f = ap (λ x. names a f l && keeps_present (has_integers a (cell_of a.setting l)) (known_in x) f && drops (has_integers a (cell_of a.setting l)) (flipped op) (is_zero e) (to_integer f) (value_of a.terrain (known_in_regions a s) e)) same
+          ∙ ap (λ v. restricts a t f l && drops (has_integers a (cell_of a.setting l)) (flipped op) (is_zero e) (to_integer f) v) left
 
       assumed-same : assumed a s e op f l ≡ assumed a t e op f l
       assumed-same =
@@ -279,7 +279,7 @@ module _ (a : Scene) (is : IsScene a) where
           ∙ ap (λ x. record { numbers = met (side_numbers a t e op f l) (side_numbers a t f (flipped op) e l); targets = cond (side_drops a t e op f l || side_drops a t f (flipped op) e l) [] (known_in x).targets }) same
 
       either-same : either_restricts a s e f l ≡ either_restricts a t e f l
-      either-same = ap (λ x. names a e l && keeps_present (a.is_integer (cell_of a.setting l)) (known_in x) e || names a f l && keeps_present (a.is_integer (cell_of a.setting l)) (known_in x) f) same
+      either-same = ap (λ x. names a e l && keeps_present (has_integers a (cell_of a.setting l)) (known_in x) e || names a f l && keeps_present (has_integers a (cell_of a.setting l)) (known_in x) f) same
 
     assuming-lawful : IsLawful a.setting (assume_defines a e f) (assume_uses a e f) (assuming a e op f)
     assuming-lawful = record {

@@ -1,6 +1,6 @@
 -- Small stores, computed: strong and weak updates, and conditions.
 -- `int x, y; int *p;` where points-to lets p point to x and to y; x is 1 and y is 2.
-use Rattle.std.proofs.Common.{◌≡◌, ℕ, Bool, true, false, cond, nat_eq, nat_lt, List, [], ◌∷◌, refl, ℤ, pos}
+use Rattle.std.proofs.Common.{◌≡◌, ℕ, Bool, true, false, cond, nat_eq, nat_lt, List, [], ◌∷◌, Some, refl, ℤ, pos}
 use Rattle.std.specs.Prelude.{neg_ℤ}
 use Rattle.sp_tree.specs.declared.fault.Place.{Place}
 use Rattle.sp_types.specs.declared.ctype.IntKind.TheVariants.{Char, Int, Long}
@@ -63,7 +63,7 @@ scene_with summary = record {
     points_to = λ r. cond (nat_eq r 2) (0 ∷ 1 ∷ []) [];
     is_summary = summary;
   };
-  is_integer = λ r. nat_lt r 2;
+  element = λ r. cond (nat_lt r 2) (Some int) (Some pointer);
 }
 
 abbrev scene : Scene

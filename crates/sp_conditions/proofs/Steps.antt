@@ -12,7 +12,7 @@ use Rattle.sp_value.specs.Slots.{known_in, slot_join}
 use Rattle.sp_value.specs.Held.{stored}
 use Rattle.sp_eval.specs.Evaluation.{value_of}
 use Rattle.sp_rows.specs.Rows.{Store, kept_if, applied}
-use Rattle.sp_stores.specs.Scene.{Scene, known_in_regions}
+use Rattle.sp_stores.specs.Scene.{Scene, has_integers, known_in_regions}
 use Rattle.sp_stores.proofs.Seen.{value-seen}
 use Rattle.sp_rows.specs.Setting.{cell_of}
 use Rattle.sp_conditions.specs.Sides.{names, keeps_present}
@@ -74,4 +74,4 @@ module _ (c : Scene) (s : Store) (t : Terrain) (cells : List ℕ) (one : t ≡ c
   both-changed old mid new l first second =
       subst (λ (x : Known). new l ≡ applied (changing c e op f (value_of c.terrain (known_in_regions c s) e) x s) old l) (value-seen c s t cells one two f w right)
       (subst (λ (x : Known). new l ≡ applied (changing c e op f x w s) old l) (value-seen c s t cells one two e v left)
-      (changed-twice (either_names c e f l (known_in (s l))) (names c e l) (names c f l) (old l) (mid l) (new l) (stored c.setting.ladder (left_by c e op f l v w (known_in (s l)))) first second (named (names c e l) (keeps_present (c.is_integer (cell_of c.setting l)) (known_in (s l)) e) (names c f l) (keeps_present (c.is_integer (cell_of c.setting l)) (known_in (s l)) f))))
+      (changed-twice (either_names c e f l (known_in (s l))) (names c e l) (names c f l) (old l) (mid l) (new l) (stored c.setting.ladder (left_by c e op f l v w (known_in (s l)))) first second (named (names c e l) (keeps_present (has_integers c (cell_of c.setting l)) (known_in (s l)) e) (names c f l) (keeps_present (has_integers c (cell_of c.setting l)) (known_in (s l)) f))))

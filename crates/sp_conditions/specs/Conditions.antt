@@ -16,7 +16,7 @@ use Rattle.sp_eval.specs.Numbers.{exactly}
 use Rattle.sp_eval.specs.Evaluation.{value_of}
 use Rattle.sp_rows.specs.Rows.{Store, Row}
 use Rattle.sp_rows.specs.Setting.{cell_of}
-use Rattle.sp_stores.specs.Scene.{Scene, known_in_regions}
+use Rattle.sp_stores.specs.Scene.{Scene, has_integers, known_in_regions}
 use Rattle.sp_conditions.specs.Sides.{names, is_zero, to_integer, names_all}
 
 abbrev pub is_equal : Relation → Bool
@@ -53,11 +53,11 @@ drops int op zero as_integer other =
 -- what the side e leaves of a location that holds `own`, where the side f is worth `other`
 abbrev pub numbers_left : Scene → Expression → Relation → Expression → ℕ → Known → Known → Interval
 numbers_left c e op f l other own = cond (names_all c e l own)
-    (refined_by (c.is_integer (cell_of c.setting l)) op (is_zero f) other own.numbers) own.numbers
+    (refined_by (has_integers c (cell_of c.setting l)) op (is_zero f) other own.numbers) own.numbers
 
 abbrev pub drops_left : Scene → Expression → Relation → Expression → ℕ → Known → Known → Bool
 drops_left c e op f l other own = names_all c e l own
-    && drops (c.is_integer (cell_of c.setting l)) op (is_zero f) (to_integer e) other
+    && drops (has_integers c (cell_of c.setting l)) op (is_zero f) (to_integer e) other
 
 -- ---- both sides
 

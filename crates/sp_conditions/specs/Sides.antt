@@ -10,7 +10,7 @@ use Rattle.sp_ir.specs.Formed.{is_integer, is_pointer}
 use Rattle.sp_value.specs.Known.{Known, has_targets}
 use Rattle.sp_eval.specs.Numbers.{every_number}
 use Rattle.sp_rows.specs.Setting.{cell_of}
-use Rattle.sp_stores.specs.Scene.{Scene}
+use Rattle.sp_stores.specs.Scene.{Scene, has_integers}
 use Rattle.sp_stores.specs.Destinations.{region_under, is_direct}
 
 -- the root region of a direct lvalue
@@ -81,4 +81,4 @@ to_integer (distance e f size) = false
 
 -- a side names the cell of a location, which holds this, and sees all of it
 abbrev pub names_all : Scene → Expression → ℕ → Known → Bool
-names_all c e l own = names c e l && keeps_present (c.is_integer (cell_of c.setting l)) own e
+names_all c e l own = names c e l && keeps_present (has_integers c (cell_of c.setting l)) own e

@@ -6,7 +6,7 @@ ghost use Rattle.sp_ir.specs.View.{expression_of};
 ghost use Rattle.sp_value.specs.Slots.{known_of, known_in};
 ghost use Rattle.sp_conditions.specs.Conditions.{is_equality, is_equal, refined_by, drops, numbers_left, drops_left, left_by, either_names};
 
-use crate::sides::{is_zero, names_all, to_integer};
+use crate::sides::{has_integers, is_zero, names_all, to_integer};
 use sp_interval::Interval;
 use sp_ir::Expr;
 use sp_lattice::Relation;
@@ -84,7 +84,7 @@ impl Side<'_> {
         ensures formed { IsFormed result }
     {
         if names_all(scene, self.side, location, own) {
-            let integer = scene.is_integer(location);
+            let integer = has_integers(scene, location);
             refined_by(
                 integer,
                 self.op,
@@ -105,7 +105,7 @@ impl Side<'_> {
     {
         names_all(scene, self.side, location, own)
             && drops(
-                scene.is_integer(location),
+                has_integers(scene, location),
                 self.op,
                 is_zero(self.other),
                 to_integer(self.side),

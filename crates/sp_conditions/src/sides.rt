@@ -6,6 +6,7 @@ ghost use Rattle.sp_ir.specs.View.{expression_of, lvalue_of};
 ghost use Rattle.sp_types.specs.View.{type_of};
 ghost use Rattle.sp_value.specs.Slots.{known_of};
 ghost use Rattle.sp_rows.specs.Setting.{cell_of};
+ghost use Rattle.sp_stores.specs.Scene.{has_integers};
 ghost use Rattle.sp_stores.specs.Destinations.{is_direct, region_under};
 ghost use Rattle.sp_conditions.specs.Sides.{root_of, names, is_kept, keeps_present, is_zero, to_integer, names_all};
 
@@ -166,10 +167,21 @@ pub(crate) fn keeps_present(integer: bool, held: &Value, side: &Expr) -> bool
     }
 }
 
+/// Whether the cell of a location is of integer type.
+pub(crate) fn has_integers<S: Scenery>(scene: &S, location: u32) -> bool
+    ensures { result ≡ has_integers (S.scene scene.now)
+        (cell_of (S.scene scene.now).setting location) }
+{
+    match scene.element(location) {
+        Some(of) => matches!(of, CType::Int(_)),
+        None => false,
+    }
+}
+
 /// Whether a side names a location, which holds this, and sees all of it.
 pub(crate) fn names_all<S: Scenery>(scene: &S, side: &Expr, location: u32, held: &Value) -> bool
     ensures { result ≡
         names_all (S.scene scene.now) (expression_of side.now) location (known_of held.now) }
 {
-    is_named(scene, side, location) && keeps_present(scene.is_integer(location), held, side)
+    is_named(scene, side, location) && keeps_present(has_integers(scene, location), held, side)
 }

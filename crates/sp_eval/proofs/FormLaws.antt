@@ -34,7 +34,7 @@ use Rattle.sp_value.specs.Known.{Known, none, of_numbers, of_target, known_join,
 use Rattle.sp_value.specs.Tests.{both, first, second}
 use Rattle.sp_value.specs.FormedLaws.{IsFormedTarget, formed_cons, ascend_cons, IsFormedKnown, none-formed, known_join-formed, gathered-formed, formed_from_test, test_from_formed}
 use Rattle.sp_eval.specs.Numbers.{exactly, long_range, pointer_range, every, every_number, signed_by, operated, relation_of, all_hold, undecided, truth, times_size, shifted, outward}
-use Rattle.sp_eval.specs.Steps.{each_target, whole_of, moved_offset, member_target, members_of, element_target, elements_of, accepted_one, accepted, read_cell, read_at, converted_numbers, converted, moved_target, moved, pair_distance, distances, distance_of, compared, comparison_of}
+use Rattle.sp_eval.specs.Steps.{each_target, whole_of, moved_offset, member_target, members_of, element_target, elements_of, accepted_one, accepted, numbers_as, read_cell, read_at, converted_numbers, converted, moved_target, moved, pair_distance, distances, distance_of, compared, comparison_of}
 use Rattle.sp_eval.specs.Evaluation.{matched, address_of, value_of, is_proper, is_proper_lvalue, is_proper_size}
 use Rattle.sp_eval.specs.Laws.{AreFormed}
 use Rattle.sp_eval.proofs.Among.{chosen}
@@ -92,7 +92,7 @@ chosen_numbers-formed : (b : Bool) (i j : Interval) → IsFormed i → IsFormed 
 chosen_numbers-formed b i j h g = chosen IsFormed b i j (λ e. h) (λ e. g)
 
 -- other numbers beside the same targets
-renumbered-formed : (v : Known) → IsFormedKnown v → (i : Interval) → IsFormed i → IsFormedKnown (record { numbers = i; targets = v.targets })
+pub renumbered-formed : (v : Known) → IsFormedKnown v → (i : Interval) → IsFormed i → IsFormedKnown (record { numbers = i; targets = v.targets })
 renumbered-formed v h i k = record { numbers = test_from_formed i k; targets = h.targets; ascending = h.ascending }
 
 -- ---- targets
@@ -223,6 +223,10 @@ converted-formed t v h = by (keeps_targets t)
 
 -- ---- steps
 
+pub numbers_as-formed : (t : CType) (i : Interval) → IsFormed i → IsFormed (numbers_as t i)
+numbers_as-formed (integer k) i h = ranged-formed (range_of k) i (range_is k) (ordered_from_formed i h)
+numbers_as-formed t i h = h
+
 module _ (g : Terrain) (is : IsTerrain g) where
   pub whole_of-formed : (r : ℕ) → IsFormedTarget (whole_of g r)
   whole_of-formed r = let fits = is.count_fits r in record {
@@ -268,8 +272,8 @@ module _ (g : Terrain) (is : IsTerrain g) where
   read-formed cells each t v h = known_join-formed (of_numbers (cond (has_numbers v) (every_number t) Empty)) (gathered (λ x. read_cell g cells t x.region) v.targets)
       (numbers-formed (cond (has_numbers v) (every_number t) Empty) (chosen_numbers-formed (has_numbers v) (every_number t) Empty (every_number-formed t) tt))
       (gathered-formed (λ x. read_cell g cells t x.region)
-      (λ x k. renumbered-formed (cells x.region) (each x.region) (cond (g.collapsed x.region) (every_number t) (cells x.region).numbers)
-      (chosen_numbers-formed (g.collapsed x.region) (every_number t) (cells x.region).numbers (every_number-formed t) (numbers_of (cells x.region) (each x.region))))
+      (λ x k. renumbered-formed (cells x.region) (each x.region) (cond (g.collapsed x.region) (every_number t) (numbers_as t (cells x.region).numbers))
+      (chosen_numbers-formed (g.collapsed x.region) (every_number t) (numbers_as t (cells x.region).numbers) (every_number-formed t) (numbers_as-formed t (cells x.region).numbers (numbers_of (cells x.region) (each x.region)))))
       v.targets h.targets)
 
   -- ---- pointers

@@ -36,7 +36,7 @@ use Rattle.sp_value.specs.TargetLaws.{offset_le, size_le, extent-made, le_match}
 use Rattle.sp_value.specs.KnownLaws.{numbers_le, the_targets_le, known_made, known-refl, known-trans, known_join-monotone, Rises, gathered-monotone}
 use Rattle.sp_value.specs.FormedLaws.{IsFormedKnown}
 use Rattle.sp_eval.specs.Numbers.{exactly, long_range, pointer_range, every, every_number, signed_by, operated, relation_of, all_hold, undecided, truth, times_size, shifted, outward}
-use Rattle.sp_eval.specs.Steps.{each_target, whole_of, moved_offset, member_target, members_of, element_target, elements_of, accepted_one, accepted, read_cell, read_at, converted_numbers, converted, moved_target, moved, pair_distance, distances, distance_of, compared, comparison_of}
+use Rattle.sp_eval.specs.Steps.{each_target, whole_of, moved_offset, member_target, members_of, element_target, elements_of, accepted_one, accepted, numbers_as, read_cell, read_at, converted_numbers, converted, moved_target, moved, pair_distance, distances, distance_of, compared, comparison_of}
 use Rattle.sp_eval.specs.Evaluation.{matched, address_of, value_of, is_proper, is_proper_lvalue}
 use Rattle.sp_eval.specs.Laws.{AreFormed, AreBelow}
 use Rattle.sp_eval.proofs.Among.{chosen}
@@ -292,6 +292,10 @@ comparison-monotone (Some op) v w v' w' h k p q = compared-monotone op v w v' w'
 
 -- ---- steps
 
+pub numbers_as-monotone : (t : CType) (i j : Interval) → IsFormed i → interval_le i j ≡ true → interval_le (numbers_as t i) (numbers_as t j) ≡ true
+numbers_as-monotone (integer k) i j h p = ranged-monotone (range_of k) i j (range_is k) (ordered_from_formed i h) p
+numbers_as-monotone t i j h p = p
+
 module _ (g : Terrain) where
   member-rises : (t : CType) (k : ℕ) → Rises (λ x. of_target (member_target g t k x)) (λ x. of_target (member_target g t k x))
   member-rises t k = rises-made (λ x. of_target (member_target g t k x)) (λ x. of_target (member_target g t k x)) (λ r o s o' s' h k'. by (g.collapsed r) r o s o' s' h k')
@@ -328,17 +332,18 @@ module _ (g : Terrain) where
   matched-monotone (through e t p) v w h = accepted-monotone t v w h
   matched-monotone (field l k t) v w h = h
 
-  read_cell-monotone : (s t : ℕ → Known) → AreBelow s t → (c : CType) (r : ℕ) → known_le (read_cell g s c r) (read_cell g t c r) ≡ true
-  read_cell-monotone s t below c r = known_made (read_cell g s c r) (read_cell g t c r)
-      (same_numbers (g.collapsed r) (every_number c) (s r).numbers (every_number c) (t r).numbers (λ e. interval_le-refl (every_number c)) (numbers_le (s r) (t r) (below r)))
+  pub read_cell-monotone : (s t : ℕ → Known) → AreFormed s → AreBelow s t → (c : CType) (r : ℕ) → known_le (read_cell g s c r) (read_cell g t c r) ≡ true
+  read_cell-monotone s t formed below c r = known_made (read_cell g s c r) (read_cell g t c r)
+      (same_numbers (g.collapsed r) (every_number c) (numbers_as c (s r).numbers) (every_number c) (numbers_as c (t r).numbers) (λ e. interval_le-refl (every_number c))
+      (numbers_as-monotone c (s r).numbers (t r).numbers (numbers_of (s r) (formed r)) (numbers_le (s r) (t r) (below r))))
       (the_targets_le (s r) (t r) (below r))
 
-  read-monotone : (s t : ℕ → Known) → AreBelow s t → (c : CType) (v w : Known) → known_le v w ≡ true → known_le (read_at g s c v) (read_at g t c w) ≡ true
+  read-monotone : (s t : ℕ → Known) → AreFormed s → AreBelow s t → (c : CType) (v w : Known) → known_le v w ≡ true → known_le (read_at g s c v) (read_at g t c w) ≡ true
   unfolding read_at
-  read-monotone s t below c v w h = known_join-monotone (of_numbers (cond (has_numbers v) (every_number c) Empty)) (gathered (λ x. read_cell g s c x.region) v.targets) (of_numbers (cond (has_numbers w) (every_number c) Empty)) (gathered (λ x. read_cell g t c x.region) w.targets)
+  read-monotone s t formed below c v w h = known_join-monotone (of_numbers (cond (has_numbers v) (every_number c) Empty)) (gathered (λ x. read_cell g s c x.region) v.targets) (of_numbers (cond (has_numbers w) (every_number c) Empty)) (gathered (λ x. read_cell g t c x.region) w.targets)
       (numbers-monotone (cond (has_numbers v) (every_number c) Empty) (cond (has_numbers w) (every_number c) Empty) (rising_numbers (has_numbers v) (has_numbers w) (every_number c) Empty (every_number c) Empty (has_numbers-rises v w h) (interval_le-refl (every_number c)) refl refl))
       (gathered-monotone (λ x. read_cell g s c x.region) (λ x. read_cell g t c x.region)
-      (rises-made (λ x. read_cell g s c x.region) (λ x. read_cell g t c x.region) (λ r o a o' a' p q. read_cell-monotone s t below c r)) v.targets w.targets (the_targets_le v w h))
+      (rises-made (λ x. read_cell g s c x.region) (λ x. read_cell g t c x.region) (λ r o a o' a' p q. read_cell-monotone s t formed below c r)) v.targets w.targets (the_targets_le v w h))
 
   -- ---- pointers
 
@@ -409,7 +414,7 @@ module _ (g : Terrain) (is : IsTerrain g) (s t : ℕ → Known) (formed : AreFor
     value-monotone (number z k) h = known-refl (of_numbers (exactly z))
     value-monotone (address l) h = address-monotone l h
     value-monotone (decay l) h = elements-monotone g (matched g l (address_of g s l)) (matched g l (address_of g t l)) (matched-monotone g l (address_of g s l) (address_of g t l) (address-monotone l h))
-    value-monotone (read l) h = read-monotone g s t below (lvalue_type l) (matched g l (address_of g s l)) (matched g l (address_of g t l)) (matched-monotone g l (address_of g s l) (address_of g t l) (address-monotone l h))
+    value-monotone (read l) h = read-monotone g s t formed below (lvalue_type l) (matched g l (address_of g s l)) (matched g l (address_of g t l)) (matched-monotone g l (address_of g s l) (address_of g t l) (address-monotone l h))
     value-monotone (convert c e) h = converted-monotone c (value_of g s e) (value_of g t e) (value-formed g is s formed e h) (value-monotone e h)
     value-monotone (unary op k e) h = numbers-monotone (signed_by op (range_of k) (value_of g s e).numbers) (signed_by op (range_of k) (value_of g t e).numbers)
         (signed_by-monotone op (range_of k) (value_of g s e).numbers (value_of g t e).numbers (range_is k) (numbers_of (value_of g s e) (value-formed g is s formed e h)) (numbers_le (value_of g s e) (value_of g t e) (value-monotone e h)))

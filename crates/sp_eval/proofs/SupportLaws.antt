@@ -9,7 +9,7 @@ use Rattle.sp_value.specs.Kinds.{range_of}
 use Rattle.sp_value.specs.Known.{Known, of_numbers, known_join, has_numbers}
 use Rattle.sp_value.specs.FormedLaws.{gathered-agrees}
 use Rattle.sp_eval.specs.Numbers.{every_number, signed_by, operated, relation_of}
-use Rattle.sp_eval.specs.Steps.{members_of, elements_of, read_cell, read_at, converted, comparison_of, moved, distance_of}
+use Rattle.sp_eval.specs.Steps.{members_of, elements_of, numbers_as, read_cell, read_at, converted, comparison_of, moved, distance_of}
 use Rattle.sp_eval.specs.Evaluation.{address_of, value_of, matched}
 use Rattle.sp_eval.specs.Laws.{Among, PointWithin, AgreeOn}
 use Rattle.sp_eval.proofs.Among.{among-left, among-right}
@@ -28,7 +28,7 @@ module _ (s t : ℕ → Known) (us vs : List ℕ) (h : AgreeOn (us ++ vs) s t) w
 
 module _ (g : Terrain) (points : PointsTo) (s t : ℕ → Known) (below : PointWithin points s) where
   cell-agrees : (c : CType) (r : ℕ) → s r ≡ t r → read_cell g s c r ≡ read_cell g t c r
-  cell-agrees c r e = ap (λ (v : Known). let k : Known = record { numbers = cond (g.collapsed r) (every_number c) v.numbers; targets = v.targets } in k) e
+  cell-agrees c r e = ap (λ (v : Known). let k : Known = record { numbers = cond (g.collapsed r) (every_number c) (numbers_as c v.numbers); targets = v.targets } in k) e
 
   read-agrees : (l : Lvalue) → AgreeOn (cells_of g points l) s t → read_at g s (lvalue_type l) (matched g l (address_of g s l)) ≡ read_at g t (lvalue_type l) (matched g l (address_of g s l))
   unfolding read_at

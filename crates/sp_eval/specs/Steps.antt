@@ -79,10 +79,16 @@ accepted_one g t x =
 unfoldable pub accepted : Terrain → CType → Known → Known
 accepted g t v = gathered (accepted_one g t) v.targets
 
+-- Numbers that are read or stored with a type: of an integer type they become numbers of it, since an
+-- access matches a cell of the other signedness too (C90 6.2.1.2, 6.3).
+abbrev pub numbers_as : CType → Interval → Interval
+numbers_as (integer k) i = ranged (range_of k) i
+numbers_as t i = i
+
 -- a cell, read with a type: of one that is kept as bytes every number, and its targets
 abbrev pub read_cell : Terrain → (ℕ → Known) → CType → ℕ → Known
 read_cell g cells t r = record {
-  numbers = cond (g.collapsed r) (every_number t) (cells r).numbers;
+  numbers = cond (g.collapsed r) (every_number t) (numbers_as t (cells r).numbers);
   targets = (cells r).targets;
 }
 

@@ -25,4 +25,4 @@ mod steps;
 pub use evaluation::{address_of, evaluate, resolve};
 pub use lawful::evaluation_is_lawful;
 pub use numbers::{every_number, relation_of};
-pub use steps::{converted, matched, slot_at};
+pub use steps::{converted, matched, numbers_as, slot_at};

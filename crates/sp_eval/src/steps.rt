@@ -12,7 +12,7 @@ ghost use Rattle.sp_value.specs.Known.{of_target, has_targets, is_ordered_within
 ghost use Rattle.sp_value.specs.Locations.{cells_at, known_of_slot};
 ghost use Rattle.sp_value.specs.Slots.{known_of};
 ghost use Rattle.sp_eval.specs.Numbers.{every};
-ghost use Rattle.sp_eval.specs.Steps.{whole_of, moved_offset, members_of, elements_of, read_at, converted_numbers, converted};
+ghost use Rattle.sp_eval.specs.Steps.{whole_of, moved_offset, members_of, elements_of, numbers_as, read_at, converted_numbers, converted};
 ghost use Rattle.sp_eval.specs.Evaluation.{matched};
 
 use crate::numbers::{every, every_number, exactly};
@@ -204,6 +204,18 @@ pub fn slot_at<'a, V: View>(locations: &Locations, view: &'a V, region: u32) -> 
     }
 }
 
+/// The numbers of a value that is read or stored with a type: of an integer type they become numbers of
+/// it; of another they stay.
+pub fn numbers_as(of: &CType, value: &Value) -> Interval
+    ensures value { result ≡ numbers_as (type_of of.now) (known_of value.now).numbers }
+    ensures formed { is_ordered_within whole result ≡ true }
+{
+    match of {
+        CType::Int(kind) => value.numbers.convert(range_of(*kind)),
+        _ => value.numbers,
+    }
+}
+
 // What the cell of a target holds, read with a type.
 #[derive(Drop)]
 struct Reading<'a, V: View> {
@@ -233,11 +245,12 @@ impl<V: View> AtTarget for Reading<'_, V> {
                 Ok(Part::Numbers(Interval::Empty))
             };
         };
-        let value = if collapsed {
-            held.with_numbers(alloc, every_number(self.access))?
+        let numbers = if collapsed {
+            every_number(self.access)
         } else {
-            held.copy(alloc)?
+            numbers_as(self.access, held)
         };
+        let value = held.with_numbers(alloc, numbers)?;
         Ok(Part::All(value))
     }
 }

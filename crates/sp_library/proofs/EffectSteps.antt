@@ -26,9 +26,10 @@ use Rattle.sp_rows.specs.Storing.{Destination, may_hit, kept_by}
 use Rattle.sp_rows.specs.Laws.{UnderCeiling}
 use Rattle.sp_rows.proofs.StoringLaws.{may_hit-from}
 use Rattle.sp_updates.proofs.UpdateLaws.{join-assoc}
-use Rattle.sp_stores.specs.Scene.{IsScene, known_in_regions}
+use Rattle.sp_stores.specs.Scene.{IsScene, fitted, known_in_regions}
 use Rattle.sp_stores.specs.Destinations.{bottom_of, bottom_regions}
 use Rattle.sp_stores.proofs.AssignLaws.{bottom-within}
+use Rattle.sp_stores.proofs.Fitted.{fitted-none}
 use Rattle.sp_scenes.specs.Analysed.{Analysed, setting_of, scene_of, locations_of}
 use Rattle.sp_entries.proofs.JoinedLaws.{joins-same}
 use Rattle.sp_calls.specs.Copies.{leaf_destination}
@@ -81,7 +82,7 @@ come false false x h = refl
 
 module _ (a : Analysed) (is : IsScene (scene_of a)) (args : List Expression) (site : Option ℕ) (w : Written) (s : Store) (under : UnderCeiling (setting_of a) s) where
   abbrev value : ℕ → ℕ → Known
-  value q c = written_value a.program (known_in_regions (scene_of a) s) w (argument_in a args 1 s) q c
+  value q c = fitted (scene_of a) c (written_value a.program (known_in_regions (scene_of a) s) w (argument_in a args 1 s) q c)
 
   pub written-row : (slots : ℕ → ℕ → Slot) (old : Store) (l : ℕ) (new : Slot) (xs : List Target) → xs ≡ aims_at (terrain_of a.program) w (argument_in a args 0 s) site → ((q c : ℕ) → slots q c ≡ stored a.ladder (value q c))
       → new ≡ slot_join (old l) (joins (λ x. landed_slot a w slots l x.region) xs) → new ≡ applied (writing a args site w s) old l
@@ -91,7 +92,9 @@ module _ (a : Analysed) (is : IsScene (scene_of a)) (args : List Expression) (si
       ∙ ap (λ ys. slot_join (old l) (joins (λ (x : Target). cond (may_come a.program (setting_of a).points_to w args && lands a.program w x.region (cell_of (setting_of a) l)) (stored a.ladder (value x.region (cell_of (setting_of a) l))) Nothing) ys)) targets
     where
       nothing : (r : ℕ) → may_come a.program (setting_of a).points_to w args ≡ false → stored a.ladder (value r (cell_of (setting_of a) l)) ≡ Nothing
-      nothing r e = ap (stored a.ladder) (unwritten a.program (known_in_regions (scene_of a) s) (setting_of a).points_to args w (argument_in a args 1 s) r (cell_of (setting_of a) l) e (argument-within a is s under args 1))
+      nothing r e = ap (λ (v : Known). stored a.ladder (fitted (scene_of a) (cell_of (setting_of a) l) v))
+          (unwritten a.program (known_in_regions (scene_of a) s) (setting_of a).points_to args w (argument_in a args 1 s) r (cell_of (setting_of a) l) e (argument-within a is s under args 1))
+          ∙ ap (stored a.ladder) (fitted-none (scene_of a) (cell_of (setting_of a) l))
 
       one : (r : ℕ) → landed_slot a w slots l r ≡ cond (may_come a.program (setting_of a).points_to w args && lands a.program w r (cell_of (setting_of a) l)) (stored a.ladder (value r (cell_of (setting_of a) l))) Nothing
       one r = ap (λ x. cond (lands a.program w r (cell_of (setting_of a) l)) x Nothing) (made r (cell_of (setting_of a) l))

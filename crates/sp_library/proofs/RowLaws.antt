@@ -34,6 +34,7 @@ use Rattle.sp_rows.proofs.SettingLaws.{cells-formed, cells-monotone, cells-agree
 use Rattle.sp_rows.proofs.AllLaws.{row_laws}
 use Rattle.sp_stores.specs.Scene.{IsScene, known_in_regions}
 use Rattle.sp_stores.specs.Destinations.{region_under}
+use Rattle.sp_stores.proofs.AssignLaws.{fitted-lawful}
 use Rattle.sp_scenes.specs.Analysed.{Analysed, setting_of, scene_of}
 use Rattle.sp_scenes.specs.Whole.{IsAnalysed}
 use Rattle.sp_scenes.specs.SceneLaws.{scene-is}
@@ -166,16 +167,23 @@ module _ (a : Analysed) (whole : IsAnalysed a) (n : ℕ) (which : Routine) (to :
       (λ q k text. same q (text-read a.program (argument_regions g u args 0) (argument_regions g u args 1) r q m (first (is_text a.program r) (nat_eq r c) h) k text)))
   values-same Unwritten s t r c under m h same = refl
 
-  the_value : IsLawfulValue (setting_of a) uses (written_to a args site (written_by which)) (written_cell a args site (written_by which))
-  the_value = record {
+  -- what is written, before a cell holds it as one of its type
+  abbrev written_as_it_is : Store → ℕ → ℕ → Known
+  written_as_it_is s r l = written_value a.program (cells s) (written_by which) (argument_in a args 1 s) r (cell_of (setting_of a) l)
+
+  the_written : IsLawfulValue (setting_of a) uses (written_to a args site (written_by which)) written_as_it_is
+  the_written = record {
     formed = λ s r l. written-formed a.program (cells s) (cells-formed (setting_of a) scene.setting s) (written_by which) (argument_in a args 1 s) (values-formed a whole n which to args site is s 1) r (cell_of (setting_of a) l);
-    rises = λ s t r l below under. written-monotone a.program (cells s) (cells t) (cells-monotone (setting_of a) scene.setting s t below) (written_by which) (argument_in a args 1 s) (argument_in a args 1 t)
+    rises = λ s t r l below under. written-monotone a.program (cells s) (cells t) (cells-formed (setting_of a) scene.setting s) (cells-monotone (setting_of a) scene.setting s t below) (written_by which) (argument_in a args 1 s) (argument_in a args 1 t)
         (values-rise a whole n which to args site is s t below 1) r (cell_of (setting_of a) l);
     within = λ r l m h. cell-within a whole n which to args site is r (cell_of (setting_of a) l) m (second (may_come a.program u (written_by which) args) (lands a.program (written_by which) r (cell_of (setting_of a) l)) h);
     agree = λ s t r l m h under under' agree. values-same (written_by which) s t r (cell_of (setting_of a) l) under m
         (second (may_come a.program u (written_by which) args) (lands a.program (written_by which) r (cell_of (setting_of a) l)) h) (cell-agree s t agree)
         ∙ ap (λ v. written_value a.program (cells t) (written_by which) v r (cell_of (setting_of a) l)) (args-agree s t 1 under agree);
   }
+
+  the_value : IsLawfulValue (setting_of a) uses (written_to a args site (written_by which)) (written_cell a args site (written_by which))
+  the_value = fitted-lawful (scene_of a) uses (written_to a args site (written_by which)) written_as_it_is the_written
 
   pub written-lawful : IsLawful (setting_of a) (may_hit (written_to a args site (written_by which))) uses (writing a args site (written_by which))
   written-lawful = laws.joining_lawful uses (written_to a args site (written_by which)) (written_cell a args site (written_by which)) the_destination the_value

@@ -17,10 +17,10 @@ use Rattle.sp_value.specs.KnownLaws.{numbers_le, the_targets_le, known_made, kno
 use Rattle.sp_value.specs.FormedLaws.{IsFormedKnown, none-formed, known_join-formed, gathered-formed, Within, within-join, within-more, within-gathered, gathered-agrees, test_from_formed}
 use Rattle.sp_eval.specs.Laws.{AreFormed, AreBelow, PointWithin}
 use Rattle.sp_eval.specs.Numbers.{exactly, every_number}
-use Rattle.sp_eval.specs.Steps.{read_cell}
+use Rattle.sp_eval.specs.Steps.{numbers_as, read_cell}
 use Rattle.sp_eval.proofs.Among.{chosen}
-use Rattle.sp_eval.proofs.FormLaws.{every_number-formed}
-use Rattle.sp_eval.proofs.MonotoneLaws.{same_choice, same_numbers}
+use Rattle.sp_eval.proofs.FormLaws.{every_number-formed, numbers_as-formed, numbers_of}
+use Rattle.sp_eval.proofs.MonotoneLaws.{same_choice, same_numbers, read_cell-monotone}
 use Rattle.sp_scenes.specs.Analysed.{element_of}
 use Rattle.sp_entries.specs.Given.{zero_value, every_in}
 use Rattle.sp_entries.specs.Entries.{every_value}
@@ -101,7 +101,8 @@ module _ (p : Lowered) where
 
     read-formed : (r : ℕ) → IsFormedKnown (read_cell g cells character r)
     read-formed r = record {
-      numbers = chosen (λ i. is_ordered_within whole i ≡ true) (g.collapsed r) (every_number character) (cells r).numbers (λ e. test_from_formed (every_number character) (every_number-formed character)) (λ e. (each r).numbers);
+      numbers = chosen (λ i. is_ordered_within whole i ≡ true) (g.collapsed r) (every_number character) (numbers_as character (cells r).numbers) (λ e. test_from_formed (every_number character) (every_number-formed character))
+          (λ e. test_from_formed (numbers_as character (cells r).numbers) (numbers_as-formed character (cells r).numbers (numbers_of (cells r) (each r))));
       targets = (each r).targets;
       ascending = (each r).ascending;
     }
@@ -119,7 +120,7 @@ module _ (p : Lowered) where
 
   -- ---- rising
 
-  module _ (s t : ℕ → Known) (below : AreBelow s t) where
+  module _ (s t : ℕ → Known) (each : AreFormed s) (below : AreBelow s t) where
     pointers-monotone : (v w : Known) → known_le v w ≡ true → known_le (pointers_of v) (pointers_of w) ≡ true
     pointers-monotone v w h = known_made (pointers_of v) (pointers_of w) refl (the_targets_le v w h)
 
@@ -137,9 +138,7 @@ module _ (p : Lowered) where
 
     character-monotone : (r : ℕ) → known_le (character_at p s r) (character_at p t r) ≡ true
     character-monotone r = where-monotone (is_text p r) (read_cell g s character r) (read_cell g t character r)
-        (known_made (read_cell g s character r) (read_cell g t character r)
-        (same_numbers (g.collapsed r) (every_number character) (s r).numbers (every_number character) (t r).numbers (λ e. interval_le-refl (every_number character)) (numbers_le (s r) (t r) (below r)))
-        (the_targets_le (s r) (t r) (below r)))
+        (read_cell-monotone g s t each below character r)
 
     characters-monotone : (v w : Known) → known_le v w ≡ true → known_le (characters_of p s v) (characters_of p t w) ≡ true
     characters-monotone v w h = gathered-monotone (λ x. character_at p s x.region) (λ x. character_at p t x.region)
@@ -192,7 +191,7 @@ module _ (p : Lowered) where
     moved-agrees v q c h same = gathered-agrees S (λ x. moved_from p s q c x.region) (λ x. moved_from p t q c x.region) (λ x m. moved_from-agrees q c x.region (λ e b k. same x.region b m e k)) v.targets h
 
     read-agrees : (r : ℕ) → s r ≡ t r → read_cell g s character r ≡ read_cell g t character r
-    read-agrees r e = ap (λ (v : Known). let k : Known = record { numbers = cond (g.collapsed r) (every_number character) v.numbers; targets = v.targets } in k) e
+    read-agrees r e = ap (λ (v : Known). let k : Known = record { numbers = cond (g.collapsed r) (every_number character) (numbers_as character v.numbers); targets = v.targets } in k) e
 
     pub characters-agree : (v : Known) → Within S v.targets → ((r : ℕ) → S r → is_text p r ≡ true → s r ≡ t r) → characters_of p s v ≡ characters_of p t v
     characters-agree v h same = gathered-agrees S (λ x. character_at p s x.region) (λ x. character_at p t x.region)

@@ -9,7 +9,7 @@ use Rattle.sp_eval.specs.Steps.{converted}
 use Rattle.sp_rows.specs.Rows.{Store, Row, untouched, followed}
 use Rattle.sp_rows.specs.Setting.{cell_of}
 use Rattle.sp_rows.specs.Storing.{Destination, may_hit, joining}
-use Rattle.sp_stores.specs.Scene.{known_in_regions}
+use Rattle.sp_stores.specs.Scene.{fitted, known_in_regions}
 use Rattle.sp_scenes.specs.Analysed.{Analysed, setting_of, scene_of, is_summary}
 use Rattle.sp_verdicts.specs.Library.{argument}
 use Rattle.sp_verdicts.specs.Commands.{values_of}
@@ -52,9 +52,11 @@ module _ (a : Analysed) (args : List Expression) (site : Option ℕ) where
     summary = λ k. is_summary a.program a.told (cell_of (setting_of a) k);
   }
 
+  -- each cell holds what is written as one of its type
   abbrev pub written_cell : Written → Store → ℕ → ℕ → Known
-  written_cell w s r k = written_value a.program (known_in_regions (scene_of a) s) w
-      (argument_in a args 1 s) r (cell_of (setting_of a) k)
+  written_cell w s r k = fitted (scene_of a) (cell_of (setting_of a) k)
+      (written_value a.program (known_in_regions (scene_of a) s) w (argument_in a args 1 s) r
+      (cell_of (setting_of a) k))
 
   abbrev pub writing : Written → Store → Row
   writing w s = joining a.ladder (written_to w) (written_cell w) s

@@ -58,19 +58,21 @@ impl<V: View> Gives for FromRoutine<'_, V> {
     ghost use Rattle.sp_value.specs.Slots.{known_of};
     ghost use Rattle.sp_value.specs.Held.{stored};
     ghost use Rattle.sp_ir.specs.Programs.{lowered_of};
-    ghost use Rattle.sp_stores.specs.Scene.{known_in_regions};
+    ghost use Rattle.sp_stores.specs.Scene.{fitted, known_in_regions};
     ghost use Rattle.sp_scenes.specs.Analysed.{scene_of};
     ghost use Rattle.sp_scenes.specs.View.{analysed_of};
     ghost use Rattle.sp_library.specs.Written.{written_value};
 
     ghost slots = { λ s q c. stored s.analysis.now.ladder
+        (fitted (scene_of (analysed_of s.analysis.now)) c
         (written_value (lowered_of s.analysis.now.lowered)
         (known_in_regions (scene_of (analysed_of s.analysis.now)) (V.store s.view.now)) s.written
-        (known_of s.from.now) q c) };
+        (known_of s.from.now) q c)) };
 
     fn slot(&self, alloc: Global, region: u32, cell: u32) -> Result<Slot, AllocError> {
         let (analysis, view, written, from) = (self.analysis, self.view, self.written, self.from);
-        let value = written_value(alloc, analysis, view, written, from, region, cell)?;
+        let put = written_value(alloc, analysis, view, written, from, region, cell)?;
+        let value = analysis.fitted(alloc, cell, put)?;
         let slot = value.stored(alloc, &analysis.ladder)?;
         Ok(slot)
     }
@@ -144,11 +146,17 @@ struct Same<'a> {
 impl Gives for Same<'_> {
     ghost use Rattle.sp_value.specs.Slots.{known_of};
     ghost use Rattle.sp_value.specs.Held.{stored};
+    ghost use Rattle.sp_stores.specs.Scene.{fitted};
+    ghost use Rattle.sp_scenes.specs.Analysed.{scene_of};
+    ghost use Rattle.sp_scenes.specs.View.{analysed_of};
 
-    ghost slots = { λ s q c. stored s.analysis.now.ladder (known_of s.value.now) };
+    ghost slots = { λ s q c. stored s.analysis.now.ladder
+        (fitted (scene_of (analysed_of s.analysis.now)) c (known_of s.value.now)) };
 
-    fn slot(&self, alloc: Global, _region: u32, _cell: u32) -> Result<Slot, AllocError> {
-        let slot = self.value.stored(alloc, &self.analysis.ladder)?;
+    fn slot(&self, alloc: Global, _region: u32, cell: u32) -> Result<Slot, AllocError> {
+        let copy = self.value.copy(alloc)?;
+        let value = self.analysis.fitted(alloc, cell, copy)?;
+        let slot = value.stored(alloc, &self.analysis.ladder)?;
         Ok(slot)
     }
 }

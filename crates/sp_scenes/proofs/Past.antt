@@ -8,7 +8,7 @@ use Rattle.sp_ir.specs.declared.region.Step.{Step}
 use Rattle.sp_ir.specs.Programs.{Lowered, Object}
 use Rattle.sp_ir.specs.Formed.{Table, table_of, IsFormed, root_count, HasRegions, of_function, of_no_type, of_no_layout, of_shape, HaveRegions, no_regions, next_regions}
 use Rattle.sp_pre.specs.PointsTo.{Told}
-use Rattle.sp_scenes.specs.Analysed.{is_integer_element, element_in, element_of, is_recursive, owner_at, is_summary}
+use Rattle.sp_scenes.specs.Analysed.{element_in, element_of, is_recursive, owner_at, is_summary}
 
 pub none-past : {A : Type 0} (xs : List A) (n : ℕ) → length xs ≤ n → slice_get xs n ≡ None
 none-past [] n h = refl
@@ -25,7 +25,7 @@ same-there [] n d e h = absurd (omega (arith, h))
 same-there (x ∷ xs) zero d e h = refl
 same-there (x ∷ xs) (suc n) d e h = same-there xs n d e (omega (arith, h))
 
--- ---- what isn't there is no summary and no integer
+-- ---- what isn't there is no summary and has no element
 
 module _ (p : Lowered) (told : Told) (cells : List ℕ) (l : ℕ) (few : length p.regions ≤ 2 ^ 32) (past : length cells ≤ l) where
   pub absent : slice_get p.regions (get_or cells l (2 ^ 32)) ≡ None
@@ -34,8 +34,8 @@ module _ (p : Lowered) (told : Told) (cells : List ℕ) (l : ℕ) (few : length 
   pub no-summary : is_summary p told (get_or cells l (2 ^ 32)) ≡ false
   no-summary = ap (λ o. is_summary_region p.regions o || is_recursive told (owner_at p o)) absent
 
-  pub no-integer : is_integer_element (element_of p (get_or cells l (2 ^ 32))) ≡ false
-  no-integer = ap (λ o. is_integer_element (element_in o)) absent
+  pub no-element : element_of p (get_or cells l (2 ^ 32)) ≡ None
+  no-element = ap element_in absent
 
 -- ---- each object has a region
 

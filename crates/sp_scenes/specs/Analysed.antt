@@ -5,7 +5,6 @@ use Rattle.sp_sets.specs.Reached.{row}
 use Rattle.sp_ir.specs.Regions.{Region, is_cell, numbers_of, is_summary_at}
 use Rattle.sp_ir.specs.Programs.{Lowered, Object}
 use Rattle.sp_ir.specs.Terrain.{terrain_of}
-use Rattle.sp_ir.specs.Formed.{is_integer}
 use Rattle.sp_pre.specs.PointsTo.{Told}
 use Rattle.sp_rows.specs.Setting.{Setting}
 use Rattle.sp_stores.specs.Scene.{Scene}
@@ -34,10 +33,6 @@ element_in (Some r) = r.element
 
 abbrev pub element_of : Lowered → ℕ → Option CType
 element_of p r = element_in (slice_get p.regions r)
-
-abbrev pub is_integer_element : Option CType → Bool
-is_integer_element None = false
-is_integer_element (Some t) = is_integer t
 
 -- ---- objects of functions
 
@@ -77,5 +72,5 @@ abbrev pub scene_of : Analysed → Scene
 scene_of a = record {
   terrain = terrain_of a.program;
   setting = setting_of a;
-  is_integer = λ r. is_integer_element (element_of a.program r);
+  element = element_of a.program;
 }

@@ -9,14 +9,16 @@ ghost use Rattle.sp_scenes.specs.Analysed.{analysed, locations_of};
 ghost use Rattle.sp_scenes.specs.Whole.{IsAnalysed};
 
 use crate::cells::locations_of;
-use crate::summaries::{is_integer, is_summary};
+use crate::summaries::{element_of, is_summary};
+use sp_eval::numbers_as;
 use sp_graph::{Flow, supergraph};
 use sp_ir::Lowered;
 use sp_lattice::Ladder;
 use sp_pre::{PointsTo, points_to};
 use sp_puts::{Groups, groups_of, under};
 use sp_stores::Scenery;
-use sp_value::Locations;
+use sp_types::CType;
+use sp_value::{Locations, Value};
 use std::alloc::{AllocError, Global};
 
 /// A formed program, and what is known of it before any effect: where cells may point, the
@@ -45,7 +47,9 @@ impl Analysis {
     ghost use Rattle.sp_puts.specs.Leaves.{leaf_points};
     ghost use Rattle.sp_puts.specs.Paths.{reaches, object_at};
     ghost use Rattle.sp_rows.specs.Setting.{count, cell_of};
-    ghost use Rattle.sp_scenes.specs.Analysed.{setting_of};
+    ghost use Rattle.sp_value.specs.Slots.{known_of};
+    ghost use Rattle.sp_stores.specs.Scene.{fitted};
+    ghost use Rattle.sp_scenes.specs.Analysed.{setting_of, scene_of};
     ghost use Rattle.sp_scenes.specs.View.{analysed_of};
 
     /// The analysis of a formed program.
@@ -87,6 +91,24 @@ impl Analysis {
         self.groups.pointers.has(region)
     }
 
+    /// A value as the cell of a region holds it: numbers become those of an integer type.
+    pub fn fitted(&self, alloc: Global, region: u32, value: Value) -> Result<Value, AllocError>
+        ensures { IfOk result (λ it. known_of it ≡
+            fitted (scene_of (analysed_of self.now)) region (known_of value)) }
+    {
+        match element_of(&self.lowered, region) {
+            Some(of) => {
+                if matches!(of, CType::Int(_)) {
+                    let fitted = value.with_numbers(alloc, numbers_as(of, &value))?;
+                    Ok(fitted)
+                } else {
+                    Ok(value)
+                }
+            }
+            None => Ok(value),
+        }
+    }
+
     /// The region of a location.
     pub fn region(&self, location: u32) -> u32
         requires { location < count (setting_of (analysed_of self.now)) }
@@ -117,10 +139,10 @@ impl Scenery for Analysis {
         }
     }
 
-    fn is_integer(&self, location: u32) -> bool {
+    fn element(&self, location: u32) -> Option<&CType> {
         match self.locations.cells.get(location as usize) {
-            Some(region) => is_integer(&self.lowered, *region),
-            None => false,
+            Some(region) => element_of(&self.lowered, *region),
+            None => None,
         }
     }
 

@@ -1,7 +1,8 @@
-//! Which regions stand for more than one place of the machine.
-ghost use Rattle.std.specs.Prelude.{◌≡◌};
+//! What regions are: which stand for more than one place of the machine, and of which type.
+ghost use Rattle.std.specs.Prelude.{◌≡◌, option_map};
+ghost use Rattle.sp_types.specs.View.{type_of};
 ghost use Rattle.sp_ir.specs.Programs.{lowered_of};
-ghost use Rattle.sp_scenes.specs.Analysed.{owner_of, is_recursive, is_summary, element_of, is_integer_element};
+ghost use Rattle.sp_scenes.specs.Analysed.{owner_of, is_recursive, is_summary, element_of};
 
 use sp_ir::Lowered;
 use sp_pre::PointsTo;
@@ -32,15 +33,12 @@ pub(crate) fn is_summary(lowered: &Lowered, pre: &PointsTo, region: u32) -> bool
     lowered.regions.is_summary_shape(region) || is_recursive(pre, owner_of(lowered, region))
 }
 
-/// Whether the elements of a region are of integer type.
-pub(crate) fn is_integer(lowered: &Lowered, region: u32) -> bool
-    ensures { result ≡ is_integer_element (element_of (lowered_of lowered.now) region) }
+/// The type of the elements of a region; `None` of one that is kept as bytes.
+pub(crate) fn element_of(lowered: &Lowered, region: u32) -> Option<&CType>
+    ensures { option_map (λ t. type_of t.now) result ≡ element_of (lowered_of lowered.now) region }
 {
     match lowered.regions.get(region) {
-        Some(found) => match &found.element {
-            Some(element) => matches!(element, CType::Int(_)),
-            None => false,
-        },
-        None => false,
+        Some(found) => found.element.as_ref(),
+        None => None,
     }
 }

@@ -1,33 +1,64 @@
 -- An assignment is lawful.
-use Rattle.std.proofs.Common.{◌≡◌, ◌⊎◌, inl, inr, ℕ, Bool, true, false, not, ◌&&◌, ◌||◌, [], ◌∷◌, refl, ap, ◌∙◌, subst}
+use Rattle.std.proofs.Common.{◌≡◌, ◌⊎◌, inl, inr, ℕ, Bool, true, false, Option, Some, None, not, ◌&&◌, ◌||◌, [], ◌∷◌, refl, ap, ◌∙◌, subst}
 use Rattle.std.specs.List.{list_any}
 use Rattle.std.proofs.lemmas.Bool.{false≢true}
+use Rattle.sp_types.specs.Types.{CType}
 use Rattle.sp_lattice.specs.System.{has}
+use Rattle.sp_interval.specs.declared.interval.Interval.{Interval}
+use Rattle.sp_interval.specs.Interval.{interval_le, IsFormed}
 use Rattle.sp_ir.specs.Commands.{Expression, Lvalue, direct, through, field}
 use Rattle.sp_ir.specs.Denoted.{regions_of, uses_of, pointer_uses}
 use Rattle.sp_value.specs.declared.targets.Target.{Target}
-use Rattle.sp_value.specs.Known.{known_le, of_target}
+use Rattle.sp_value.specs.Known.{Known, known_le, of_target}
 use Rattle.sp_value.specs.Tests.{which, both}
-use Rattle.sp_value.specs.KnownLaws.{the_targets_le, known-refl}
-use Rattle.sp_value.specs.FormedLaws.{Within, within-more}
+use Rattle.sp_value.specs.KnownLaws.{numbers_le, the_targets_le, known_made, known-refl}
+use Rattle.sp_value.specs.FormedLaws.{IsFormedKnown, Within, within-more}
 use Rattle.sp_value.specs.SlotLaws.{slot-refl}
 use Rattle.sp_eval.specs.Steps.{whole_of}
 use Rattle.sp_eval.specs.Evaluation.{value_of, is_proper, is_proper_lvalue}
 use Rattle.sp_eval.proofs.Among.{among-one, among-left, among-right}
-use Rattle.sp_eval.proofs.FormLaws.{value-formed}
-use Rattle.sp_eval.proofs.MonotoneLaws.{value-monotone}
+use Rattle.sp_eval.proofs.FormLaws.{numbers_of, numbers_as-formed, renumbered-formed, value-formed}
+use Rattle.sp_eval.proofs.MonotoneLaws.{numbers_as-monotone, value-monotone}
 use Rattle.sp_eval.proofs.RegionLaws.{value-within}
 use Rattle.sp_eval.proofs.SupportLaws.{value-agrees}
 use Rattle.sp_rows.specs.Rows.{Store}
 use Rattle.sp_rows.specs.Setting.{cell_of, ceiling}
-use Rattle.sp_rows.specs.Storing.{may_hit, kept_by}
+use Rattle.sp_rows.specs.Storing.{Destination, may_hit, kept_by}
 use Rattle.sp_rows.specs.Laws.{BelowStore, UnderCeiling, AgreeAt, IsLawful, IsLawfulDestination, IsLawfulValue, IsPlain}
 use Rattle.sp_rows.proofs.Choices.{or_left, or_right}
 use Rattle.sp_rows.proofs.SettingLaws.{cells-formed, cells-monotone, cells-within, cells-agree}
 use Rattle.sp_rows.proofs.StoringLaws.{storing-lawful, storing-plain}
-use Rattle.sp_stores.specs.Scene.{Scene, IsScene, known_in_regions}
+use Rattle.sp_stores.specs.Scene.{Scene, IsScene, fitted_numbers, fitted, known_in_regions}
 use Rattle.sp_stores.specs.Destinations.{bottom_of, bottom_regions, is_direct, destination, assigning, keeps_hit, assigned_reads, assign_uses}
 use Rattle.sp_stores.specs.Laws.{IsAssignClosed, AssignLaws}
+
+-- ---- what a cell holds of a value
+
+fitted_numbers-formed : (o : Option CType) (i : Interval) → IsFormed i → IsFormed (fitted_numbers o i)
+fitted_numbers-formed None i h = h
+fitted_numbers-formed (Some t) i h = numbers_as-formed t i h
+
+fitted_numbers-monotone : (o : Option CType) (i j : Interval) → IsFormed i → interval_le i j ≡ true → interval_le (fitted_numbers o i) (fitted_numbers o j) ≡ true
+fitted_numbers-monotone None i j h p = p
+fitted_numbers-monotone (Some t) i j h p = numbers_as-monotone t i j h p
+
+module _ (c : Scene) where
+  pub fitted-formed : (r : ℕ) (v : Known) → IsFormedKnown v → IsFormedKnown (fitted c r v)
+  fitted-formed r v h = renumbered-formed v h (fitted_numbers (c.element r) v.numbers) (fitted_numbers-formed (c.element r) v.numbers (numbers_of v h))
+
+  pub fitted-monotone : (r : ℕ) (v w : Known) → IsFormedKnown v → known_le v w ≡ true → known_le (fitted c r v) (fitted c r w) ≡ true
+  fitted-monotone r v w h p = known_made (fitted c r v) (fitted c r w)
+      (fitted_numbers-monotone (c.element r) v.numbers w.numbers (numbers_of v h) (numbers_le v w p)) (the_targets_le v w p)
+
+  -- a lawful value stays one where each cell holds it as one of its type
+  pub fitted-lawful : (uses : ℕ → Bool) (d : Destination) (value : Store → ℕ → ℕ → Known) → IsLawfulValue c.setting uses d value
+      → IsLawfulValue c.setting uses d (λ s r l. fitted c (cell_of c.setting l) (value s r l))
+  fitted-lawful uses d value is = record {
+    formed = λ s r l. fitted-formed (cell_of c.setting l) (value s r l) (is.formed s r l);
+    rises = λ s t r l below under. fitted-monotone (cell_of c.setting l) (value s r l) (value t r l) (is.formed s r l) (is.rises s t r l below under);
+    within = λ r l m h. is.within r l m h;
+    agree = λ s t r l m h under under' agree. ap (λ v. fitted c (cell_of c.setting l) v) (is.agree s t r l m h under under' agree);
+  }
 
 module _ (c : Scene) (is : IsScene c) where
   pub bottom-monotone : (s t : Store) → BelowStore c.setting s t → (p : Lvalue) → is_proper_lvalue p ≡ true → known_le (bottom_of c.terrain (known_in_regions c s) p) (bottom_of c.terrain (known_in_regions c t) p) ≡ true
@@ -91,10 +122,12 @@ module _ (c : Scene) (is : IsScene c) where
         by (inl h) = both (may_hit (destination c p) l) (not (is_direct p) || c.setting.is_summary (cell_of c.setting l)) hit (ap (λ b. not b || c.setting.is_summary (cell_of c.setting l)) h ∙ summary (direct-one s p h))
 
     assign-lawful : IsLawful c.setting (may_hit (destination c p)) (assign_uses c p e) (assigning c p e)
-    assign-lawful = storing-lawful c.setting is.setting (assign_uses c p e) (destination c p) (λ s r k. value_of c.terrain (known_in_regions c s) e) the_destination the_value kept_used
+    assign-lawful = storing-lawful c.setting is.setting (assign_uses c p e) (destination c p) (λ s r k. fitted c (cell_of c.setting k) (value_of c.terrain (known_in_regions c s) e)) the_destination
+        (fitted-lawful c (assign_uses c p e) (destination c p) (λ s r k. value_of c.terrain (known_in_regions c s) e) the_value) kept_used
 
     assign-plain : IsPlain c.setting (assigning c p e)
-    assign-plain = storing-plain c.setting is.setting (assign_uses c p e) (destination c p) (λ s r k. value_of c.terrain (known_in_regions c s) e) the_destination the_value
+    assign-plain = storing-plain c.setting is.setting (assign_uses c p e) (destination c p) (λ s r k. fitted c (cell_of c.setting k) (value_of c.terrain (known_in_regions c s) e)) the_destination
+        (fitted-lawful c (assign_uses c p e) (destination c p) (λ s r k. value_of c.terrain (known_in_regions c s) e) the_value)
 
 pub assign_laws : AssignLaws
 assign_laws = record { lawful = assign-lawful; plain = assign-plain }

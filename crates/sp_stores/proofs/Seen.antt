@@ -1,5 +1,5 @@
 -- What the code evaluates is what the scene gives.
-use Rattle.std.proofs.Common.{◌≡◌, ℕ, List, ℤ, subst, sym, true}
+use Rattle.std.proofs.Common.{◌≡◌, ℕ, List, subst, sym, true}
 use Rattle.sp_lattice.specs.System.{has}
 use Rattle.sp_ir.specs.Commands.{Expression, Lvalue}
 use Rattle.sp_ir.specs.Terrain.{Terrain}
@@ -11,9 +11,10 @@ use Rattle.sp_value.specs.Locations.{cells_at}
 use Rattle.sp_value.specs.Held.{stored}
 use Rattle.sp_eval.specs.Evaluation.{value_of}
 use Rattle.sp_rows.specs.Rows.{Store, applied}
+use Rattle.sp_rows.specs.Setting.{cell_of}
 use Rattle.sp_rows.specs.Laws.{UnderCeiling}
 use Rattle.sp_updates.specs.Rows.{stored_at}
-use Rattle.sp_stores.specs.Scene.{Scene, IsScene, known_in_regions}
+use Rattle.sp_stores.specs.Scene.{Scene, IsScene, fitted, known_in_regions}
 use Rattle.sp_stores.specs.Destinations.{bottom_of, destination, assigning}
 use Rattle.sp_stores.proofs.AssignLaws.{bottom-within}
 
@@ -31,12 +32,9 @@ module _ (c : Scene) (s : Store) (p : Lvalue) (xs : List Target) (v : Known) (ta
   pub within-seen : IsScene c → UnderCeiling c.setting s → Within (λ r. has r (destination c p).regions ≡ true) xs
   within-seen is under = subst (Within (λ r. has r (destination c p).regions ≡ true)) (sym targets-seen) (bottom-within c is s under p)
 
-  -- one slot stored at the targets is the assignment
-  pub assigned : (e : Expression) (ladder : List ℤ) (w : Known) (slot : Slot) (old : Store) (new : Slot) (l : ℕ)
-      → slot ≡ stored ladder w → ladder ≡ c.setting.ladder → w ≡ value_of c.terrain (known_in_regions c s) e
-      → new ≡ applied (stored_at (destination c p) xs slot) old l → new ≡ applied (assigning c p e s) old l
-  assigned e ladder w slot old new l made same value is =
-      subst (λ ts. new ≡ applied (stored_at (destination c p) ts (stored c.setting.ladder (value_of c.terrain (known_in_regions c s) e))) old l) targets-seen
-      (subst (λ (x : Known). new ≡ applied (stored_at (destination c p) xs (stored c.setting.ladder x)) old l) value
-      (subst (λ points. new ≡ applied (stored_at (destination c p) xs (stored points w)) old l) same
-      (subst (λ x. new ≡ applied (stored_at (destination c p) xs x) old l) made is)))
+  -- the value stored at the targets, in each cell as one of its type, is the assignment
+  pub assigned : (e : Expression) (w : Known) (old : Store) (new : Slot) (l : ℕ) → w ≡ value_of c.terrain (known_in_regions c s) e
+      → new ≡ applied (stored_at (destination c p) xs (λ k. stored c.setting.ladder (fitted c (cell_of c.setting k) w))) old l → new ≡ applied (assigning c p e s) old l
+  assigned e w old new l value is =
+      subst (λ ts. new ≡ applied (stored_at (destination c p) ts (λ k. stored c.setting.ladder (fitted c (cell_of c.setting k) (value_of c.terrain (known_in_regions c s) e)))) old l) targets-seen
+      (subst (λ (x : Known). new ≡ applied (stored_at (destination c p) xs (λ k. stored c.setting.ladder (fitted c (cell_of c.setting k) x))) old l) value is)

@@ -10,7 +10,7 @@ use Rattle.sp_eval.specs.Evaluation.{value_of}
 use Rattle.sp_rows.specs.Rows.{Store, Row}
 use Rattle.sp_rows.specs.Setting.{cell_of}
 use Rattle.sp_rows.specs.Storing.{Destination, may_hit, storing}
-use Rattle.sp_stores.specs.Scene.{Scene, known_in_regions}
+use Rattle.sp_stores.specs.Scene.{Scene, fitted, known_in_regions}
 
 -- ---- the bottom of an lvalue: the object or the pointer that its members are steps from
 
@@ -56,10 +56,10 @@ destination c l = record {
 
 -- ---- assignments
 
--- the value goes wherever the lvalue may be
+-- the value goes wherever the lvalue may be, and each cell holds it as one of its type
 abbrev pub assigning : Scene → Lvalue → Expression → Store → Row
 assigning c l e = storing c.setting.ladder (destination c l)
-    (λ s r k. value_of c.terrain (known_in_regions c s) e)
+    (λ s r k. fitted c (cell_of c.setting k) (value_of c.terrain (known_in_regions c s) e))
 
 -- a store keeps what it may hit: through a pointer always, directly where the cell is a summary
 abbrev pub keeps_hit : Scene → Lvalue → ℕ → Bool

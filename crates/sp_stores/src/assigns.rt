@@ -47,8 +47,13 @@ pub fn assign<S: Scenery, V: View>(
     let bottom = bottom_of(alloc, lowered, locations, lvalue, view)?;
     let value = evaluate(alloc, lowered, locations, value, view)?;
     let slot = value.stored(alloc, scene.ladder())?;
-    let to = Into { scene, lvalue };
+    let to = Into {
+        scene,
+        lvalue,
+        value: &value,
+        slot: &slot,
+    };
     let targets = bottom.targets.as_slice();
-    store(alloc, row, places, hit, targets, &to, slot)?;
+    store(alloc, row, places, hit, targets, &to)?;
     Ok(())
 }

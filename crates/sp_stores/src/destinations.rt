@@ -1,19 +1,23 @@
 //! Where an lvalue is stored to.
 ghost use Rattle.std.specs.Prelude.{◌≡◌, ℕ, true, false, nat_eq, IfOk, IfSome, IfNone};
+ghost use Rattle.sp_types.specs.View.{type_of};
+ghost use Rattle.sp_ir.specs.Formed.{is_integer};
 ghost use Rattle.sp_ir.specs.Programs.{lowered_of};
 ghost use Rattle.sp_ir.specs.Terrain.{terrain_of};
 ghost use Rattle.sp_ir.specs.View.{lvalue_of};
 ghost use Rattle.sp_value.specs.Locations.{cells_at};
 ghost use Rattle.sp_value.specs.Slots.{known_of};
+ghost use Rattle.sp_value.specs.Held.{stored};
 ghost use Rattle.sp_eval.specs.Evaluation.{is_proper_lvalue};
 ghost use Rattle.sp_rows.specs.Setting.{cell_of};
 ghost use Rattle.sp_stores.specs.Destinations.{bottom_of, bottom_accepts, region_under};
 
 use crate::scene::Scenery;
-use sp_eval::{address_of, evaluate};
+use sp_eval::{address_of, evaluate, numbers_as};
 use sp_ir::{Lowered, Lvalue};
-use sp_updates::Reach;
-use sp_value::{Locations, Value, View};
+use sp_types::CType;
+use sp_updates::Stores;
+use sp_value::{Locations, Slot, Value, View};
 use std::alloc::{AllocError, Global};
 
 /// The address at the bottom of an lvalue: of the object, or the pointer, that its members are steps
@@ -77,18 +81,35 @@ pub fn location_at<S: Scenery>(scene: &S, region: u32) -> Option<u32>
     scene.locations().location(region)
 }
 
-/// The destination of a scalar lvalue.
-#[derive(Drop)]
-pub struct Into<'a, S: Scenery> {
-    pub scene: &'a S,
-    pub lvalue: &'a Lvalue,
+fn is_integer(of: &CType) -> bool
+    ensures { result ≡ is_integer (type_of of.now) }
+{
+    matches!(of, CType::Int(_))
 }
 
-impl<S: Scenery> Reach for Into<'_, S> {
+/// A store of a value to a scalar lvalue. `slot` is what is stored of the value as it is.
+#[derive(Drop)]
+pub(crate) struct Into<'a, S: Scenery> {
+    pub scene: &'a S,
+    pub lvalue: &'a Lvalue,
+    pub value: &'a Value,
+    pub slot: &'a Slot,
+    ghost made: { slot.now ≡ stored (S.scene scene.now).setting.ladder (known_of value.now) },
+}
+
+impl<S: Scenery> Stores for Into<'_, S> {
     ghost use Rattle.sp_ir.specs.View.{lvalue_of};
+    ghost use Rattle.sp_value.specs.Slots.{known_of};
+    ghost use Rattle.sp_value.specs.Held.{stored};
+    ghost use Rattle.sp_rows.specs.Setting.{cell_of};
+    ghost use Rattle.sp_stores.specs.Scene.{fitted};
     ghost use Rattle.sp_stores.specs.Destinations.{destination};
 
     ghost reach = { λ to. destination (S.scene to.scene.now) (lvalue_of to.lvalue.now) };
+    ghost slots = { λ to l. stored (S.scene to.scene.now).setting.ladder
+        (fitted (S.scene to.scene.now) (cell_of (S.scene to.scene.now).setting l)
+        (known_of to.value.now)) };
+    ghost usual = { λ to. to.slot.now };
 
     fn location(&self, region: u32) -> Option<u32> {
         let lowered = self.scene.lowered();
@@ -101,5 +122,24 @@ impl<S: Scenery> Reach for Into<'_, S> {
 
     fn is_summary(&self, location: u32) -> bool {
         self.scene.is_summary(location)
+    }
+
+    fn usual(&self) -> &Slot {
+        self.slot
+    }
+
+    fn instead(&self, alloc: Global, location: u32) -> Result<Option<Slot>, AllocError> {
+        match self.scene.element(location) {
+            Some(of) => {
+                if is_integer(of) {
+                    let value = self.value.with_numbers(alloc, numbers_as(of, self.value))?;
+                    let slot = value.stored(alloc, self.scene.ladder())?;
+                    Ok(Some(slot))
+                } else {
+                    Ok(None)
+                }
+            }
+            None => Ok(None),
+        }
     }
 }

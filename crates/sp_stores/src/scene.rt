@@ -1,5 +1,6 @@
 //! What effects ask of an analysed program.
-ghost use Rattle.std.specs.Prelude.{◌≡◌};
+ghost use Rattle.std.specs.Prelude.{◌≡◌, option_map};
+ghost use Rattle.sp_types.specs.View.{type_of};
 ghost use Rattle.sp_ir.specs.Programs.{lowered_of};
 ghost use Rattle.sp_ir.specs.Terrain.{terrain_of};
 ghost use Rattle.sp_rows.specs.Setting.{cell_of};
@@ -7,6 +8,7 @@ ghost use Rattle.sp_stores.specs.Scene.{Scene, IsScene};
 
 use sp_ir::Lowered;
 use sp_lattice::Ladder;
+use sp_types::CType;
 use sp_value::Locations;
 
 /// An analysed program, as effects see it.
@@ -26,9 +28,10 @@ pub trait Scenery {
         ensures { result ≡ (scene self.now).setting.is_summary
             (cell_of (scene self.now).setting location) };
 
-    /// Whether the cell of a location is of integer type.
-    fn is_integer(&self, location: u32) -> bool
-        ensures { result ≡ (scene self.now).is_integer (cell_of (scene self.now).setting location) };
+    /// The type of the elements of a location's region; `None` of one that is kept as bytes.
+    fn element(&self, location: u32) -> Option<&CType>
+        ensures { option_map (λ t. type_of t.now) result ≡
+            (scene self.now).element (cell_of (scene self.now).setting location) };
 
     /// The points to which what is stored is moved.
     fn ladder(&self) -> &Ladder

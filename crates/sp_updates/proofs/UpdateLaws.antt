@@ -50,37 +50,37 @@ joins-snoc f [] x = join-nothing (f x)
 joins-snoc f (y ∷ xs) x = ap (λ v. slot_join (f y) v) (joins-snoc f xs x) ∙ sym (join-assoc (f y) (joins f xs) (f x))
 
 -- one more target
-pub hit-next : (hits : ℕ → ℕ → Bool) (slot : Slot) (xs : List Target) (i : ℕ) (d : Target) (old now new : Slot) (l : ℕ) → i < length xs
-    → now ≡ slot_join old (where_hit hits slot (take i xs) l) → new ≡ slot_join now (cond (hits (get_or xs i d).region l) slot Nothing)
-    → new ≡ slot_join old (where_hit hits slot (take (i + 1) xs) l)
-hit-next hits slot xs i d old now new l low h g =
+pub hit-next : (hits : ℕ → ℕ → Bool) (slots : ℕ → Slot) (xs : List Target) (i : ℕ) (d : Target) (old now new : Slot) (l : ℕ) → i < length xs
+    → now ≡ slot_join old (where_hit hits slots (take i xs) l) → new ≡ slot_join now (cond (hits (get_or xs i d).region l) (slots l) Nothing)
+    → new ≡ slot_join old (where_hit hits slots (take (i + 1) xs) l)
+hit-next hits slots xs i d old now new l low h g =
     let one : i + 1 ≡ suc i = omega arith in
-    g ∙ ap (λ x. slot_join x (cond (hits (get_or xs i d).region l) slot Nothing)) h
-    ∙ join-assoc old (where_hit hits slot (take i xs) l) (cond (hits (get_or xs i d).region l) slot Nothing)
-    ∙ ap (λ x. slot_join old x) (sym (joins-snoc (λ x. cond (hits x.region l) slot Nothing) (take i xs) (get_or xs i d)))
-    ∙ ap (λ ts. slot_join old (where_hit hits slot ts l)) (sym (ap (λ n. take n xs) one ∙ take-suc xs i d low))
+    g ∙ ap (λ x. slot_join x (cond (hits (get_or xs i d).region l) (slots l) Nothing)) h
+    ∙ join-assoc old (where_hit hits slots (take i xs) l) (cond (hits (get_or xs i d).region l) (slots l) Nothing)
+    ∙ ap (λ x. slot_join old x) (sym (joins-snoc (λ x. cond (hits x.region l) (slots l) Nothing) (take i xs) (get_or xs i d)))
+    ∙ ap (λ ts. slot_join old (where_hit hits slots ts l)) (sym (ap (λ n. take n xs) one ∙ take-suc xs i d low))
 
 -- ---- the rule of strong updates, by how many targets there are
 
-pub stored-none : (d : Destination) (slot old new : Slot) (xs : List Target) (l : ℕ) → length xs ≡ 0 → new ≡ cond (may_hit d l) Nothing old → new ≡ slot_join (kept_if (kept_by d xs l) old) (where_hit d.hits slot xs l)
-stored-none d slot old new [] l h g = g ∙ by (may_hit d l)
+pub stored-none : (d : Destination) (slots : ℕ → Slot) (old new : Slot) (xs : List Target) (l : ℕ) → length xs ≡ 0 → new ≡ cond (may_hit d l) Nothing old → new ≡ slot_join (kept_if (kept_by d xs l) old) (where_hit d.hits slots xs l)
+stored-none d slots old new [] l h g = g ∙ by (may_hit d l)
   where
     by : (b : Bool) → cond b Nothing old ≡ slot_join (kept_if (not b) old) Nothing
     by true = refl
     by false = sym (join-nothing old)
-stored-none d slot old new (x ∷ xs) l h g = absurd (omega (arith, h))
+stored-none d slots old new (x ∷ xs) l h g = absurd (omega (arith, h))
 
-pub stored-one : (d : Destination) (slot old new : Slot) (xs : List Target) (e : Target) (l : ℕ) → length xs ≡ 1
-    → new ≡ slot_join (kept_if (not (d.hits (get_or xs 0 e).region l && not (d.summary l))) old) (cond (d.hits (get_or xs 0 e).region l) slot Nothing)
-    → new ≡ slot_join (kept_if (kept_by d xs l) old) (where_hit d.hits slot xs l)
-stored-one d slot old new [] e l h g = absurd (omega (arith, h))
-stored-one d slot old new (x ∷ []) e l h g = g ∙ ap (λ y. slot_join (kept_if (not (d.hits x.region l && not (d.summary l))) old) y) (sym (join-nothing (cond (d.hits x.region l) slot Nothing)))
-stored-one d slot old new (x ∷ y ∷ xs) e l h g = absurd (omega (arith, h))
+pub stored-one : (d : Destination) (slots : ℕ → Slot) (old new : Slot) (xs : List Target) (e : Target) (l : ℕ) → length xs ≡ 1
+    → new ≡ slot_join (kept_if (not (d.hits (get_or xs 0 e).region l && not (d.summary l))) old) (cond (d.hits (get_or xs 0 e).region l) (slots l) Nothing)
+    → new ≡ slot_join (kept_if (kept_by d xs l) old) (where_hit d.hits slots xs l)
+stored-one d slots old new [] e l h g = absurd (omega (arith, h))
+stored-one d slots old new (x ∷ []) e l h g = g ∙ ap (λ y. slot_join (kept_if (not (d.hits x.region l && not (d.summary l))) old) y) (sym (join-nothing (cond (d.hits x.region l) (slots l) Nothing)))
+stored-one d slots old new (x ∷ y ∷ xs) e l h g = absurd (omega (arith, h))
 
-pub stored-many : (d : Destination) (slot old new : Slot) (xs : List Target) (l : ℕ) → 1 < length xs → new ≡ slot_join old (where_hit d.hits slot xs l) → new ≡ slot_join (kept_if (kept_by d xs l) old) (where_hit d.hits slot xs l)
-stored-many d slot old new [] l h g = absurd (omega (arith, h))
-stored-many d slot old new (x ∷ []) l h g = absurd (omega (arith, h))
-stored-many d slot old new (x ∷ y ∷ xs) l h g = g
+pub stored-many : (d : Destination) (slots : ℕ → Slot) (old new : Slot) (xs : List Target) (l : ℕ) → 1 < length xs → new ≡ slot_join old (where_hit d.hits slots xs l) → new ≡ slot_join (kept_if (kept_by d xs l) old) (where_hit d.hits slots xs l)
+stored-many d slots old new [] l h g = absurd (omega (arith, h))
+stored-many d slots old new (x ∷ []) l h g = absurd (omega (arith, h))
+stored-many d slots old new (x ∷ y ∷ xs) l h g = g
 
 -- ---- slots that are placed
 

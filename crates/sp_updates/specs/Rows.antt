@@ -16,13 +16,13 @@ store_of places row l = store_at Nothing places row l
 abbrev pub only_at : ℕ → Slot → ℕ → Slot
 only_at location slot l = cond (nat_eq l location) slot Nothing
 
--- the slot, where a target's region hits
-abbrev pub where_hit : (ℕ → ℕ → Bool) → Slot → List Target → ℕ → Slot
-where_hit hits slot xs l = joins (λ x. cond (hits x.region l) slot Nothing) xs
+-- the slot of a location, where a target's region hits it
+abbrev pub where_hit : (ℕ → ℕ → Bool) → (ℕ → Slot) → List Target → ℕ → Slot
+where_hit hits slots xs l = joins (λ x. cond (hits x.region l) (slots l) Nothing) xs
 
--- one slot stored where targets hit, by the rule of strong and weak updates
-abbrev pub stored_at : Destination → List Target → Slot → Row
-stored_at d xs slot = record { keeps = kept_by d xs; puts = where_hit d.hits slot xs }
+-- slots stored where targets hit, by the rule of strong and weak updates
+abbrev pub stored_at : Destination → List Target → (ℕ → Slot) → Row
+stored_at d xs slots = record { keeps = kept_by d xs; puts = where_hit d.hits slots xs }
 
 -- slots that go to these locations: at each the join of those that go there
 abbrev pub slots_at : List ℕ → List Slot → ℕ → Slot

@@ -5,9 +5,9 @@
 //! too, at the locations that it uses: [`GivenAt`] is that store. [`copy_into`] fills a row with what
 //! the node is given. The other calls change it:
 //!
-//! - [`store`] through an address, by its targets: with one target the slot replaces what a location
-//!   held, unless the location is a summary; with more it is joined; without any, all that might be
-//!   hit is emptied. [`Reach`] says which location a target's region hits.
+//! - [`store`] through an address, by its targets: with one target what is stored replaces what a
+//!   location held, unless the location is a summary; with more it is joined; without any, all that
+//!   might be hit is emptied. [`Stores`] says which location a target's region hits, and what it gets.
 //! - [`place`] at locations known beforehand: the strong ones lose what they held.
 //!
 //! So after `*p = 1;`, where `p` points to `a` and to `b`, both hold what they held, or 1.
@@ -26,5 +26,5 @@ mod views;
 pub use places::find_place;
 pub use placing::place;
 pub use stores::store;
-pub use updates::{Reach, join_at, join_where_hit, put_at};
+pub use updates::{Stores, join_at, join_where_hit, put_at};
 pub use views::{GivenAt, copy_into};

@@ -1,9 +1,10 @@
 //! Updates of a row of slots, one for each place of an ascending list.
 ghost use Rattle.std.specs.Prelude.{◌≡◌, ◌≢◌, ℕ, true, false, length, nat_eq};
-ghost use Rattle.std.specs.Prelude.{OnOk, IfSome, IfNone, All, cond};
+ghost use Rattle.std.specs.Prelude.{OnOk, IfOk, IfSome, IfNone, All, cond, unwrap_or};
 ghost use Rattle.std.specs.List.Sorted.{IsStrictlyIncreasing};
 ghost use Rattle.sp_lattice.specs.System.{has};
 ghost use Rattle.sp_value.specs.Slots.{slot_join};
+ghost use Rattle.sp_value.specs.declared.slots.Slot.{Slot};
 ghost use Rattle.sp_value.specs.declared.slots.Slot.TheVariants.{Nothing};
 ghost use Rattle.sp_rows.specs.Storing.{Destination};
 ghost use Rattle.sp_updates.specs.Rows.{store_of, only_at, where_hit};
@@ -45,9 +46,11 @@ pub fn join_at(
     Ok(())
 }
 
-/// Where an lvalue is stored to.
-pub trait Reach {
+/// A store: where it goes, and what each location gets.
+pub trait Stores {
     ghost reach: { Self → Destination };
+    ghost slots: { Self → ℕ → Slot };
+    ghost usual: { Self → Slot };
 
     /// The location that a store at a region hits; `None` exactly where it hits none.
     fn location(&self, region: u32) -> Option<u32>
@@ -58,16 +61,23 @@ pub trait Reach {
     /// Whether a location stands for more than one place of the machine.
     fn is_summary(&self, location: u32) -> bool
         ensures { result ≡ (reach self.now).summary location };
+
+    /// What most locations get.
+    fn usual(&self) -> &Slot
+        ensures { result.now ≡ usual self.now };
+
+    /// What a location gets in place of that, if it does.
+    fn instead(&self, alloc: Global, location: u32) -> Result<Option<Slot>, AllocError>
+        ensures { IfOk result (λ slot. unwrap_or slot (usual self.now) ≡ slots self.now location) };
 }
 
-/// Joins a slot to what a row has where the targets hit: a weak update.
-pub fn join_where_hit<H: Reach>(
+/// Joins what is stored to what a row has where the targets hit: a weak update.
+pub fn join_where_hit<H: Stores>(
     alloc: Global,
     row: &mut [Slot],
     places: &[u32],
     targets: &[Target],
     to: &H,
-    slot: &Slot,
 ) -> Result<(), AllocError>
     requires ascend { IsStrictlyIncreasing places.now }
     requires there { All (λ x. (l : ℕ) → (H.reach to.now).hits x.region l ≡ true
@@ -75,32 +85,52 @@ pub fn join_where_hit<H: Reach>(
     requires long { length row.old ≡ length places.now }
     ensures joined { OnOk result ((l : ℕ) → store_of places.now row.new l ≡
         slot_join (store_of places.now row.old l)
-        (where_hit ((H.reach to.now).hits) slot.now targets.now l)) }
+        (where_hit ((H.reach to.now).hits) (H.slots to.now) targets.now l)) }
 {
     for target in targets {
-        join_from(alloc, row, places, target.region, to, slot)?;
+        join_from(alloc, row, places, target.region, to)?;
     }
     Ok(())
 }
 
-/// Joins a slot to what a row has where a region hits.
-fn join_from<H: Reach>(
+/// Joins what is stored at a location to what a row has there.
+pub(crate) fn join_stored<H: Stores>(
+    alloc: Global,
+    row: &mut [Slot],
+    places: &[u32],
+    location: u32,
+    to: &H,
+) -> Result<(), AllocError>
+    requires ascend { IsStrictlyIncreasing places.now }
+    requires there { has location places.now ≡ true }
+    requires long { length row.old ≡ length places.now }
+    ensures joined { OnOk result ((l : ℕ) → store_of places.now row.new l ≡
+        slot_join (store_of places.now row.old l)
+        (only_at location (H.slots to.now location) l)) }
+{
+    match to.instead(alloc, location)? {
+        Some(slot) => join_at(alloc, row, places, location, &slot),
+        None => join_at(alloc, row, places, location, to.usual()),
+    }
+}
+
+/// Joins what is stored to what a row has where a region hits.
+fn join_from<H: Stores>(
     alloc: Global,
     row: &mut [Slot],
     places: &[u32],
     region: u32,
     to: &H,
-    slot: &Slot,
 ) -> Result<(), AllocError>
     requires ascend { IsStrictlyIncreasing places.now }
     requires there { (l : ℕ) → (H.reach to.now).hits region l ≡ true → has l places.now ≡ true }
     requires long { length row.old ≡ length places.now }
     ensures joined { OnOk result ((l : ℕ) → store_of places.now row.new l ≡
         slot_join (store_of places.now row.old l)
-        (cond ((H.reach to.now).hits region l) slot.now Nothing)) }
+        (cond ((H.reach to.now).hits region l) (H.slots to.now l) Nothing)) }
 {
     match to.location(region) {
-        Some(location) => join_at(alloc, row, places, location, slot),
+        Some(location) => join_stored(alloc, row, places, location, to),
         None => Ok(()),
     }
 }

@@ -1,7 +1,8 @@
-use Rattle.std.proofs.Common.{ℕ, get_or}
+use Rattle.std.proofs.Common.{ℕ, get_or, ap, ◌∙◌}
 use Rattle.sp_ir.specs.Programs.{lowered_of}
 use Rattle.sp_ir.specs.Terrain.{terrain_of}
 use Rattle.sp_ir.specs.View.{expression_of, lvalue_of}
+use Rattle.sp_value.specs.Held.{stored}
 use Rattle.sp_value.specs.Slots.{known_of}
 use Rattle.sp_updates.specs.Rows.{store_of}
 use Rattle.sp_stores.specs.Destinations.{destination}
@@ -32,7 +33,9 @@ returns g c = λ l h.
     let cells = c.locations-locations.result.now.cells.items in
     assigned scene s lvalue c.as_slice-targets.result.now (known_of c.in_ok-bottom.bottom) c.as_slice-targets.ensures
     (bottom-seen scene s terrain cells c.lowered-lowered.ensures c.locations-locations.ensures lvalue (known_of c.in_ok-bottom.bottom) c.in_ok-bottom.ensures)
-    e c.ladder.result.now (known_of c.in_ok-value.value) c.in_ok-slot.slot (λ (k : ℕ). store_of c.args.places.now c.args.row.now k) (store_of c.args.places.now c.store.new.row l) l
-    c.in_ok-slot.ensures c.ladder.ensures
+    e (known_of c.in_ok-value.value) (λ (k : ℕ). store_of c.args.places.now c.args.row.now k) (store_of c.args.places.now c.store.new.row l) l
     (value-seen scene s terrain cells c.lowered-lowered.ensures c.locations-locations.ensures e (known_of c.in_ok-value.value) c.in_ok-value.ensures)
     (c.in_ok-store.ensures.stored l h)
+
+pub invariant_of-to : goal.invariant_of-to
+invariant_of-to g c = record { made = c.in_ok-slot.ensures ∙ ap (λ points. stored points (known_of c.in_ok-value.value)) c.ladder.ensures }

@@ -7,5 +7,5 @@ join_from-requires-clause-there g c = c.requires.there c.loop-target.target-inde
 
 pub loop-target-preserved : goal.loop-target-preserved
 loop-target-preserved g c =
-    λ k. hit-next (g.H.Reach.reach c.args.to.now).hits c.args.slot.now c.args.targets.now c.loop-target.target-index _ (store_of c.args.places.now c.args.row.now k) (store_of c.args.places.now c.loop-target.row k) (store_of c.args.places.now c.join_from.new.row k) k
+    λ k. hit-next (g.H.Stores.reach c.args.to.now).hits (g.H.Stores.slots c.args.to.now) c.args.targets.now c.loop-target.target-index _ (store_of c.args.places.now c.args.row.now k) (store_of c.args.places.now c.loop-target.row k) (store_of c.args.places.now c.join_from.new.row k) k
     c.loop-target-test.true (c.loop-target.invariant k) (c.in_ok-join_from.ensures.joined k)
