@@ -11,7 +11,6 @@ use Rattle.sp_lattice.specs.Laws.{InputsUnder}
 use Rattle.sp_sets.specs.Reached.{row}
 use Rattle.sp_sets.proofs.Members.{has_there}
 use Rattle.sp_ir.specs.Commands.{Node}
-use Rattle.sp_ir.specs.Terrain.{terrain_of}
 use Rattle.sp_puts.specs.Puts.{command_in, command_at}
 use Rattle.sp_value.specs.declared.slots.Slot.{Slot}
 use Rattle.sp_value.specs.Slots.{slot_order, slot_le}
@@ -127,7 +126,7 @@ module _ (e : Equations) (whole : IsAnalysed e.analysed) (are : AreEquations e) 
 
   module _ (k : ℕ) (low : k < length (nodes_of e)) (node : Node) (is : slice_get a.program.nodes (number_of e k) ≡ Some node) where
     abbrev read : List ℕ
-    read = command_uses (terrain_of a.program) (setting_of a).points_to node.command
+    read = command_uses a.program (setting_of a).points_to node.command
 
     command-is : command_at a.program (number_of e k) ≡ node.command
     command-is = ap command_in is

@@ -18,12 +18,13 @@ abbrev pub store_given : (ℕ → ℕ → Option Slot) → ℕ → ℕ → Slot
 store_given given k l = slot_or_nothing (given k l)
 
 -- the command of a node that may be there is proper
-abbrev pub IsProperNode : Option Node → Type 0
-IsProperNode found = (node : Node) → found ≡ Some node → is_proper_command node.command ≡ true
+abbrev pub IsProperNode : Lowered → Option Node → Type 0
+IsProperNode p found = (node : Node) → found ≡ Some node
+    → is_proper_command p node.command ≡ true
 
 -- those of a list of nodes of the program are
 abbrev pub AreProperNodes : Lowered → List ℕ → Type 0
-AreProperNodes p nodes = (n : ℕ) → has n nodes ≡ true → IsProperNode (slice_get p.nodes n)
+AreProperNodes p nodes = (n : ℕ) → has n nodes ≡ true → IsProperNode p (slice_get p.nodes n)
 
 -- the alarms of a node that may be there
 abbrev pub alarms_at : Lowered → List ℕ → (ℕ → Slot) → Option Node → List Alarm

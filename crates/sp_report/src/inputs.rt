@@ -66,7 +66,8 @@ fn add_alarms<I: Inputs<Value = Slot>>(
     input: &InputAt<'_, I>,
     alarms: &mut Vec<Alarm>,
 ) -> Result<(), AllocError>
-    requires { IsProperNode (slice_get (lowered_of lowered.now).nodes number) }
+    requires { IsProperNode (lowered_of lowered.now)
+        (slice_get (lowered_of lowered.now).nodes number) }
     ensures { OnOk result (alarms.new.items ≡ alarms.old.items ++
         alarms_at (lowered_of lowered.now) locations.now.cells.items
         (store_given (I.given input.now.inputs.now) input.now.node)

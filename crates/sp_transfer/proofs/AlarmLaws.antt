@@ -4,7 +4,6 @@ use Rattle.std.specs.Prelude.{slice_get}
 use Rattle.sp_lattice.specs.System.{has}
 use Rattle.sp_sets.proofs.Members.{has_there}
 use Rattle.sp_ir.specs.Commands.{Node}
-use Rattle.sp_ir.specs.Terrain.{terrain_of}
 use Rattle.sp_value.specs.Slots.{known_in}
 use Rattle.sp_value.specs.Locations.{location_of, known_at}
 use Rattle.sp_puts.specs.Puts.{command_in}
@@ -37,5 +36,5 @@ pub alarms-agree : (a : Analysed) → IsAnalysed a → (n : ℕ) (node : Node) �
     → node_alarms a.program (known_in_regions (scene_of a) s) node ≡ node_alarms a.program (known_in_regions (scene_of a) t) node
 alarms-agree a whole n node is s t under agree =
     node-agrees a.program (setting_of a).points_to (known_in_regions (scene_of a) s) (known_in_regions (scene_of a) t) (cells-within (setting_of a) (scene-is a whole).setting s under) node
-    (λ r there. alike-at a s t (command_uses (terrain_of a.program) (setting_of a).points_to node.command) r there
+    (λ r there. alike-at a s t (command_uses a.program (setting_of a).points_to node.command) r there
     (λ l at cell used. agree l (ap (λ c. used_by a n c l) (ap command_in is) ∙ alarms-used a r cell l at n node.command used)))

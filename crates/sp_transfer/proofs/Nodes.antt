@@ -4,7 +4,6 @@ use Rattle.std.specs.Prelude.{slice_get}
 use Rattle.std.proofs.Props.{props}
 use Rattle.std.proofs.Math.Logic.{∥∥₁_elim}
 use Rattle.sp_ir.specs.Commands.{Command, Node, skip}
-use Rattle.sp_ir.specs.Formed.{table_of}
 use Rattle.sp_puts.specs.Puts.{command_in, command_at}
 use Rattle.sp_scenes.specs.Analysed.{Analysed}
 use Rattle.sp_scenes.specs.Whole.{IsAnalysed}
@@ -24,12 +23,12 @@ mapped-at f (y ∷ ys) zero x low is = ap (λ z. Some (f z)) (sym is)
 mapped-at f (y ∷ ys) (suc i) x low is = mapped-at f ys i x (omega arith) is
 
 -- each is proper
-formed-proper : (a : Analysed) → IsAnalysed a → (n : ℕ) (c : Command) → command_at a.program n ≡ c → is_proper_command c ≡ true
+formed-proper : (a : Analysed) → IsAnalysed a → (n : ℕ) (c : Command) → command_at a.program n ≡ c → is_proper_command a.program c ≡ true
 formed-proper a whole n c is =
     let found = command-formed a.program whole.formed n c is in
-    command-proper (table_of a.program) found.0 a.program.regions n c found.1
+    command-proper a.program whole.formed found.0 n c found.1
 
-pub node-proper : (a : Analysed) → ∥ IsAnalysed a ∥₁ → (n : ℕ) (c : Command) → command_at a.program n ≡ c → is_proper_command c ≡ true
+pub node-proper : (a : Analysed) → ∥ IsAnalysed a ∥₁ → (n : ℕ) (c : Command) → command_at a.program n ≡ c → is_proper_command a.program c ≡ true
 node-proper a whole n c is = ∥∥₁_elim whole (hlevel props) (λ w. formed-proper a w n c is)
 
 -- past the last node there is none

@@ -89,22 +89,22 @@ module _ (a : Analysed) (r : ℕ) (cell : has r (locations_of a.program) ≡ tru
   argument-read (move e f back size) h = h
   argument-read (distance e f size) h = h
 
-  arguments-read : (args : List Expression) → Among (list_uses g points args) r → Among (arguments_read a args) r
+  arguments-read : (args : List Expression) → Among (list_uses a.program points args) r → Among (arguments_read a args) r
   arguments-read [] h = h
-  arguments-read (e ∷ args) h = by (split (uses_of g points e) (list_uses g points args) r h) (arguments-read args)
+  arguments-read (e ∷ args) h = by (split (uses_of g points e) (list_uses a.program points args) r h) (arguments-read args)
     where
-      by : Among (uses_of g points e) r ⊎ Among (list_uses g points args) r → (Among (list_uses g points args) r → Among (arguments_read a args) r) → Among (arguments_read a (e ∷ args)) r
+      by : Among (uses_of g points e) r ⊎ Among (list_uses a.program points args) r → (Among (list_uses a.program points args) r → Among (arguments_read a args) r) → Among (arguments_read a (e ∷ args)) r
       by (inl k) more = among-left (argument_reads a e (as_struct e)) (arguments_read a args) r (argument-read e k)
       by (inr k) more = among-right (argument_reads a e (as_struct e)) (arguments_read a args) r (more k)
 
-  result-read : (to : Option Lvalue) → Among (result_uses g points to) r → Among (result_found a to) r
+  result-read : (to : Option Lvalue) → Among (result_uses a.program points to) r → Among (result_found a to) r
   result-read None h = h
   result-read (Some to) h = h
 
-  given-read : (to : Option Lvalue) (args : List Expression) → Among (result_uses g points to ++ list_uses g points args) r → Among (arguments_read a args ++ result_found a to) r
-  given-read to args h = by (split (result_uses g points to) (list_uses g points args) r h)
+  given-read : (to : Option Lvalue) (args : List Expression) → Among (result_uses a.program points to ++ list_uses a.program points args) r → Among (arguments_read a args ++ result_found a to) r
+  given-read to args h = by (split (result_uses a.program points to) (list_uses a.program points args) r h)
     where
-      by : Among (result_uses g points to) r ⊎ Among (list_uses g points args) r → Among (arguments_read a args ++ result_found a to) r
+      by : Among (result_uses a.program points to) r ⊎ Among (list_uses a.program points args) r → Among (arguments_read a args ++ result_found a to) r
       by (inl k) = among-right (arguments_read a args) (result_found a to) r (result-read to k)
       by (inr k) = among-left (arguments_read a args) (result_found a to) r (arguments-read args k)
 
@@ -112,8 +112,8 @@ module _ (a : Analysed) (r : ℕ) (cell : has r (locations_of a.program) ≡ tru
     moved : (rs : List ℕ) → Among rs r → has (cell_of (setting_of a) l) rs ≡ true
     moved rs h = subst (λ q. has q rs ≡ true) at h
 
-    pub alarms-used : (n : ℕ) (c : Command) → Among (command_uses g points c) r → used_by a n c l ≡ true
-    alarms-used n start h = absurd (false≢true h)
+    pub alarms-used : (n : ℕ) (c : Command) → Among (command_uses a.program points c) r → used_by a n c l ≡ true
+    alarms-used n start h = moved (flat_map (λ o. leaf_reads (scene_of a) o.start) a.program.objects) h
     alarms-used n (entry f) h = absurd (false≢true h)
     alarms-used n (exit f) h = absurd (false≢true h)
     alarms-used n skip h = absurd (false≢true h)
@@ -130,9 +130,9 @@ module _ (a : Analysed) (r : ℕ) (cell : has r (locations_of a.program) ≡ tru
     alarms-used n (assume e op f) h = or-right (assume_defines (scene_of a) e f l) _ (moved (assumed_reads (scene_of a) e f) h)
     alarms-used n (eval e) h = moved (uses_of g points e) h
     alarms-used n (call callee args) h = or-right (call_defines a n l && is_summary a.program a.told (cell_of (setting_of a) l)) _
-        (moved (arguments_read a args ++ uses_of g points callee) (by (split (uses_of g points callee) (list_uses g points args) r h)))
+        (moved (arguments_read a args ++ uses_of g points callee) (by (split (uses_of g points callee) (list_uses a.program points args) r h)))
       where
-        by : Among (uses_of g points callee) r ⊎ Among (list_uses g points args) r → Among (arguments_read a args ++ uses_of g points callee) r
+        by : Among (uses_of g points callee) r ⊎ Among (list_uses a.program points args) r → Among (arguments_read a args ++ uses_of g points callee) r
         by (inl k) = among-right (arguments_read a args) (uses_of g points callee) r k
         by (inr k) = among-left (arguments_read a args) (uses_of g points callee) r (arguments-read args k)
     alarms-used n (return c to) h = or-right (result_keeps a to l) _

@@ -94,7 +94,8 @@ fn change_by<V: View>(
     row: &mut [Slot],
     places: &[u32],
 ) -> Result<(), AllocError>
-    requires proper { is_proper_command (command_of command.now) ≡ true }
+    requires proper { is_proper_command (analysed_of analysis.now).program
+        (command_of command.now) ≡ true }
     requires ascend { IsStrictlyIncreasing places.now }
     requires low { AllBelow (count (setting_of (analysed_of analysis.now))) places.now }
     requires long { length row.old ≡ length places.now }

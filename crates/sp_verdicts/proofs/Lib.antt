@@ -8,3 +8,4 @@ pub mod NodeLaws
 pub mod ProperCommands
 mod Examples
 mod LibraryExamples
+mod StartExamples

@@ -1,15 +1,17 @@
--- The commands of formed programs are proper.
-use Rattle.std.proofs.Common.{◌≡◌, ℕ, true, List, [], ◌∷◌, Option, Some, None, refl}
+-- The commands and the start values of formed programs are proper.
+use Rattle.std.proofs.Common.{◌≡◌, ℕ, suc, Bool, true, false, List, [], ◌∷◌, Option, Some, None, refl, ap}
+use Rattle.std.specs.Prelude.{slice_get}
 use Rattle.std.specs.List.{All}
 use Rattle.std.proofs.lemmas.List.Elements.{All-head, All-tail}
 use Rattle.sp_ir.specs.Commands.{Expression, Lvalue, Leaf, Command, start, entry, exit, skip, assign, copy, init, assume, eval, call, return, library, outside}
 use Rattle.sp_ir.specs.Regions.{Region}
+use Rattle.sp_ir.specs.Programs.{Object, Lowered}
 use Rattle.sp_ir.specs.Shapes.{Shape}
-use Rattle.sp_ir.specs.Formed.{Table, IsExpression, IsScalar, IsLeaf, IsResult, IsScalarResult, IsForeign, IsCommand}
+use Rattle.sp_ir.specs.Formed.{Table, IsExpression, IsScalar, IsLeaf, IsResult, IsScalarResult, IsForeign, IsCommand, IsFormed, HasStart, starts, table_of}
 use Rattle.sp_value.specs.Tests.{both}
 use Rattle.sp_eval.specs.Evaluation.{is_proper, is_proper_lvalue}
 use Rattle.sp_eval.proofs.ProperLaws.{expression-proper, lvalue-proper}
-use Rattle.sp_verdicts.specs.Commands.{are_proper, are_proper_leaves, is_proper_result, is_proper_command}
+use Rattle.sp_verdicts.specs.Commands.{are_proper, are_proper_leaves, are_proper_starts, is_proper_result, is_proper_command}
 
 module _ (p : Table) (f : Option ℕ) where
   list-proper : (es : List Expression) → All (IsExpression p f) es → are_proper es ≡ true
@@ -32,21 +34,34 @@ module _ (p : Table) (f : Option ℕ) where
   scalar_result-proper None h = refl
   scalar_result-proper (Some l) h = lvalue-proper p f l h.0
 
-  pub command-proper : (rs : List Region) (n : ℕ) (c : Command) → IsCommand p rs n f c → is_proper_command c ≡ true
-  command-proper rs n start h = refl
-  command-proper rs n (entry k) h = refl
-  command-proper rs n (exit k) h = refl
-  command-proper rs n skip h = refl
-  command-proper rs n (assign to e) h = both (is_proper_lvalue to) (is_proper e) (lvalue-proper p f to h.0) (expression-proper p f e h.1)
-  command-proper rs n (copy to from) h = both (is_proper_lvalue to) (is_proper_lvalue from) (lvalue-proper p f to h.0) (lvalue-proper p f from h.1)
-  command-proper rs n (init o values others) h = leaves-proper rs h.4.shape h.4.root values h.4.leaves
-  command-proper rs n (assume a op b) h = both (is_proper a) (is_proper b) (expression-proper p f a h.0.0) (expression-proper p f b h.1.0)
-  command-proper rs n (eval e) h = expression-proper p f e h
-  command-proper rs n (call callee args) h = both (is_proper callee) (are_proper args) (expression-proper p f callee h.0) (list-proper args h.2)
-  command-proper rs n (return k to) h = result-proper to h
-  command-proper rs n (library r to args site) h = both (is_proper_result to) (are_proper args) (scalar_result-proper to h.0) (scalars-proper args h.1)
-  command-proper rs n (outside to args site) h = both (is_proper_result to) (are_proper args) (foreign to h.1) (list-proper args h.0)
+-- where each object has proper start values, all have
+all-starts : (os : List Object) → ((i : ℕ) (o : Object) → slice_get os i ≡ Some o → are_proper_leaves o.start ≡ true) → are_proper_starts os ≡ true
+all-starts [] h = refl
+all-starts (o ∷ os) h = both (are_proper_leaves o.start) (are_proper_starts os) (h 0 o refl) (all-starts os (λ i. h (suc i)))
+
+starts-proper : (p : Lowered) → IsFormed p → are_proper_starts p.objects ≡ true
+starts-proper p formed = all-starts p.objects (λ i o there. by i o (starts o.kind) (formed.objects i o there).start)
+  where
+    by : (i : ℕ) (o : Object) (b : Bool) → HasStart p i o b → are_proper_leaves o.start ≡ true
+    by i o true h = leaves-proper (table_of p) None p.regions h.2.shape h.2.root o.start h.2.leaves
+    by i o false h = ap are_proper_leaves h.0
+
+module _ (p : Lowered) (formed : IsFormed p) (f : Option ℕ) where
+  pub command-proper : (n : ℕ) (c : Command) → IsCommand (table_of p) p.regions n f c → is_proper_command p c ≡ true
+  command-proper n start h = starts-proper p formed
+  command-proper n (entry k) h = refl
+  command-proper n (exit k) h = refl
+  command-proper n skip h = refl
+  command-proper n (assign to e) h = both (is_proper_lvalue to) (is_proper e) (lvalue-proper (table_of p) f to h.0) (expression-proper (table_of p) f e h.1)
+  command-proper n (copy to from) h = both (is_proper_lvalue to) (is_proper_lvalue from) (lvalue-proper (table_of p) f to h.0) (lvalue-proper (table_of p) f from h.1)
+  command-proper n (init o values others) h = leaves-proper (table_of p) f p.regions h.4.shape h.4.root values h.4.leaves
+  command-proper n (assume a op b) h = both (is_proper a) (is_proper b) (expression-proper (table_of p) f a h.0.0) (expression-proper (table_of p) f b h.1.0)
+  command-proper n (eval e) h = expression-proper (table_of p) f e h
+  command-proper n (call callee args) h = both (is_proper callee) (are_proper args) (expression-proper (table_of p) f callee h.0) (list-proper (table_of p) f args h.2)
+  command-proper n (return k to) h = result-proper (table_of p) f to h
+  command-proper n (library r to args site) h = both (is_proper_result to) (are_proper args) (scalar_result-proper (table_of p) f to h.0) (scalars-proper (table_of p) f args h.1)
+  command-proper n (outside to args site) h = both (is_proper_result to) (are_proper args) (foreign to h.1) (list-proper (table_of p) f args h.0)
     where
-      foreign : (to : Option Lvalue) → IsForeign p f n to site → is_proper_result to ≡ true
+      foreign : (to : Option Lvalue) → IsForeign (table_of p) f n to site → is_proper_result to ≡ true
       foreign None k = refl
-      foreign (Some l) k = lvalue-proper p f l k.0.0
+      foreign (Some l) k = lvalue-proper (table_of p) f l k.0.0

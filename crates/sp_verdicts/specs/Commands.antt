@@ -4,7 +4,7 @@ use Rattle.std.specs.List.{flat_map, list_all, list_any}
 use Rattle.sp_tree.specs.declared.fault.Place.{Place}
 use Rattle.sp_ir.specs.Commands.{Expression, Lvalue, Leaf, Command, start, entry, exit, skip, assign, copy, init, assume, eval, call, return, library, outside, Node}
 use Rattle.sp_ir.specs.Functions.{function_at}
-use Rattle.sp_ir.specs.Programs.{Lowered}
+use Rattle.sp_ir.specs.Programs.{Object, Lowered}
 use Rattle.sp_ir.specs.Terrain.{terrain_of}
 use Rattle.sp_value.specs.declared.targets.Target.{Target}
 use Rattle.sp_value.specs.Known.{Known}
@@ -35,6 +35,10 @@ module _ (p : Lowered) (cells : ℕ → Known) where
   abbrev pub leaf_alarms : List Leaf → List Alarm
   leaf_alarms ls = flat_map (λ l. alarms_of l.value) ls
 
+  -- of the start values of objects
+  abbrev pub start_alarms : List Object → List Alarm
+  start_alarms os = flat_map (λ o. leaf_alarms o.start) os
+
   -- where a result goes
   abbrev pub result_alarms : Option Lvalue → List Alarm
   result_alarms None = []
@@ -44,9 +48,9 @@ module _ (p : Lowered) (cells : ℕ → Known) where
   abbrev pub values_of : List Expression → List Known
   values_of es = map (value_of (terrain_of p) cells) es
 
-  -- at a place
+  -- at a place; a start value is no command of its own, so those of all objects are the start's
   abbrev pub command_alarms : Place → Command → List Alarm
-  command_alarms at start = []
+  command_alarms at start = start_alarms p.objects
   command_alarms at (entry f) = []
   command_alarms at (exit f) = []
   command_alarms at skip = []
@@ -65,7 +69,7 @@ module _ (p : Lowered) (cells : ℕ → Known) where
   abbrev pub node_alarms : Node → List Alarm
   node_alarms n = command_alarms n.place n.command
 
--- ---- what is asked of a command, as a test: all its expressions and lvalues are proper
+-- ---- what is asked of a command of a program, as a test: all its expressions and lvalues are proper
 
 abbrev pub are_proper : List Expression → Bool
 are_proper es = list_all is_proper es
@@ -73,21 +77,24 @@ are_proper es = list_all is_proper es
 abbrev pub are_proper_leaves : List Leaf → Bool
 are_proper_leaves ls = list_all (λ l. is_proper l.value) ls
 
+abbrev pub are_proper_starts : List Object → Bool
+are_proper_starts os = list_all (λ o. are_proper_leaves o.start) os
+
 abbrev pub is_proper_result : Option Lvalue → Bool
 is_proper_result None = true
 is_proper_result (Some l) = is_proper_lvalue l
 
-abbrev pub is_proper_command : Command → Bool
-is_proper_command start = true
-is_proper_command (entry f) = true
-is_proper_command (exit f) = true
-is_proper_command skip = true
-is_proper_command (assign to e) = is_proper_lvalue to && is_proper e
-is_proper_command (copy to from) = is_proper_lvalue to && is_proper_lvalue from
-is_proper_command (init o values others) = are_proper_leaves values
-is_proper_command (assume e op f) = is_proper e && is_proper f
-is_proper_command (eval e) = is_proper e
-is_proper_command (call callee args) = is_proper callee && are_proper args
-is_proper_command (return c to) = is_proper_result to
-is_proper_command (library r to args site) = is_proper_result to && are_proper args
-is_proper_command (outside to args site) = is_proper_result to && are_proper args
+abbrev pub is_proper_command : Lowered → Command → Bool
+is_proper_command p start = are_proper_starts p.objects
+is_proper_command p (entry f) = true
+is_proper_command p (exit f) = true
+is_proper_command p skip = true
+is_proper_command p (assign to e) = is_proper_lvalue to && is_proper e
+is_proper_command p (copy to from) = is_proper_lvalue to && is_proper_lvalue from
+is_proper_command p (init o values others) = are_proper_leaves values
+is_proper_command p (assume e op f) = is_proper e && is_proper f
+is_proper_command p (eval e) = is_proper e
+is_proper_command p (call callee args) = is_proper callee && are_proper args
+is_proper_command p (return c to) = is_proper_result to
+is_proper_command p (library r to args site) = is_proper_result to && are_proper args
+is_proper_command p (outside to args site) = is_proper_result to && are_proper args

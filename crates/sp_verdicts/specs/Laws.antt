@@ -1,11 +1,10 @@
 -- The laws of alarms, as the layers above use them.
-use Rattle.std.specs.Prelude.{◌≡◌, ℕ, true, List, Option}
+use Rattle.std.specs.Prelude.{◌≡◌, ℕ, true, Option}
 use Rattle.sp_ir.specs.Commands.{Expression, Lvalue, Command, Node}
-use Rattle.sp_ir.specs.Regions.{Region}
 use Rattle.sp_ir.specs.Programs.{Lowered}
-use Rattle.sp_ir.specs.Terrain.{Terrain, terrain_of}
+use Rattle.sp_ir.specs.Terrain.{Terrain}
 use Rattle.sp_ir.specs.Denoted.{PointsTo, pointer_uses, uses_of}
-use Rattle.sp_ir.specs.Formed.{Table, IsCommand}
+use Rattle.sp_ir.specs.Formed.{table_of, IsCommand, IsFormed}
 use Rattle.sp_value.specs.Known.{Known}
 use Rattle.sp_eval.specs.Laws.{PointWithin, AgreeOn}
 use Rattle.sp_verdicts.specs.Alarms.{access_alarms, expression_alarms}
@@ -22,7 +21,7 @@ pub record AlarmLaws : Type 0 where
       → PointWithin points s → (l : Lvalue) → AgreeOn (pointer_uses g points l) s t
       → access_alarms g s l ≡ access_alarms g t l
   pub node_agrees : (p : Lowered) (points : PointsTo) (s t : ℕ → Known)
-      → PointWithin points s → (n : Node) → AgreeOn (node_uses (terrain_of p) points n) s t
+      → PointWithin points s → (n : Node) → AgreeOn (node_uses p points n) s t
       → node_alarms p s n ≡ node_alarms p t n
-  pub proper : (p : Table) (rs : List Region) (n : ℕ) (f : Option ℕ) (c : Command)
-      → IsCommand p rs n f c → is_proper_command c ≡ true
+  pub proper : (p : Lowered) → IsFormed p → (n : ℕ) (f : Option ℕ) (c : Command)
+      → IsCommand (table_of p) p.regions n f c → is_proper_command p c ≡ true

@@ -5,11 +5,14 @@
 //! region of a target, *punned* where the region has elements of another type, and goes through a
 //! *number* where the pointer may be one. A division may be by 0, and what is called may be no
 //! defined function of as many parameters. A routine of the library accesses at the call's place:
-//! `memcpy` so many bytes, `strcpy` as many characters as its source has room for.
+//! `memcpy` so many bytes, `strcpy` as many characters as its source has room for. A start value has
+//! no command, so what may go wrong in those of all objects are alarms of the start of the program.
 //!
 //! So for `int a[3];` and `a[i] = 5 / j;`, where `i` is [0,3] and `j` is [0,2], the alarms are an
 //! overrun with offset [0,3], count [1,1] and size [3,3], and a divisor [0,2]. For `char d[4];` and
-//! `strcpy(d, "abcd");` it is an overrun with offset [0,0], count [1,5] and size [4,4].
+//! `strcpy(d, "abcd");` it is an overrun with offset [0,0], count [1,5] and size [4,4]. And of
+//! `int b[2][3], *p = &b[5][0];` at file scope, the start has an overrun with offset [5,5], count
+//! [1,1] and size [2,2].
 //!
 //! The layer above uses that [`verdicts`] lists exactly `node_alarms` of `specs.Commands`, over the
 //! program and what the view's store holds in each region, and the laws of alarms (`AlarmLaws` of

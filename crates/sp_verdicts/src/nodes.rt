@@ -1,29 +1,30 @@
 //! The alarms of a node.
 ghost use Rattle.std.specs.Prelude.{◌≡◌, true, ◌++◌, map, option_map, IfOk, OnOk};
 ghost use Rattle.sp_types.specs.View.{type_of};
-ghost use Rattle.sp_ir.specs.Programs.{lowered_of};
+ghost use Rattle.sp_ir.specs.Programs.{object_of, lowered_of};
 ghost use Rattle.sp_ir.specs.Terrain.{terrain_of};
 ghost use Rattle.sp_ir.specs.View.{expression_of, lvalue_of, leaf_of, command_of, node_of};
 ghost use Rattle.sp_value.specs.Locations.{cells_at};
 ghost use Rattle.sp_eval.specs.Evaluation.{value_of, is_proper, is_proper_lvalue};
 ghost use Rattle.sp_verdicts.specs.Alarms.{through_alarms, divisor_alarms, access_alarms, address_alarms, expression_alarms};
-ghost use Rattle.sp_verdicts.specs.Commands.{callee_alarms, list_alarms, leaf_alarms, result_alarms, command_alarms, node_alarms, are_proper, are_proper_leaves, is_proper_result, is_proper_command};
+ghost use Rattle.sp_verdicts.specs.Commands.{callee_alarms, list_alarms, leaf_alarms, start_alarms, result_alarms, command_alarms, node_alarms, are_proper, are_proper_leaves, are_proper_starts, is_proper_result, is_proper_command};
 
 use crate::accesses::{add_callee, add_divisor, add_through, divides};
 use crate::alarm::Alarm;
 use crate::arguments::arguments_of;
 use crate::library::add_library;
 use sp_eval::evaluate;
-use sp_ir::{Command, Expr, Leaf, Lowered, Lvalue, Node};
+use sp_ir::{Command, Expr, Leaf, Lowered, Lvalue, Node, Object};
 use sp_tree::{Place, Punct};
 use sp_types::CType;
 use sp_value::{Locations, View};
 use std::alloc::{AllocError, Global};
 
 /// The alarms of a node of a formed program whose input is the store of a view: of each access
-/// through a pointer in its command, of each divisor, and of what it calls. One that comes twice is
-/// listed twice. Of a library call these are the alarms of where its result goes, of its arguments,
-/// and of what the routine accesses.
+/// through a pointer in its command, of each divisor, and of what it calls. Those of the start of
+/// the program are those of all start values. One that comes twice is listed twice. Of a library
+/// call these are the alarms of where its result goes, of its arguments, and of what the routine
+/// accesses.
 pub fn verdicts<V: View>(
     alloc: Global,
     lowered: &Lowered,
@@ -31,7 +32,7 @@ pub fn verdicts<V: View>(
     node: &Node,
     view: &V,
 ) -> Result<Vec<Alarm>, AllocError>
-    requires { is_proper_command (command_of node.now.command) ≡ true }
+    requires { is_proper_command (lowered_of lowered.now) (command_of node.now.command) ≡ true }
     ensures { IfOk result (λ alarms. alarms.items ≡ node_alarms (lowered_of lowered.now)
         (cells_at locations.now.cells.items (V.store view.now)) (node_of node.now)) }
 {
@@ -58,13 +59,18 @@ fn add_command<V: View>(
     command: &Command,
     alarms: &mut Vec<Alarm>,
 ) -> Result<(), AllocError>
-    requires { is_proper_command (command_of command.now) ≡ true }
+    requires { is_proper_command (lowered_of lowered.now) (command_of command.now) ≡ true }
     ensures { OnOk result (alarms.new.items ≡ alarms.old.items ++ command_alarms
         (lowered_of lowered.now) (cells_at locations.now.cells.items (V.store view.now)) place
         (command_of command.now)) }
 {
     match command {
-        Command::Start | Command::Entry { .. } | Command::Exit { .. } | Command::Skip => Ok(()),
+        Command::Start => {
+            let objects = lowered.objects.as_slice();
+            add_starts(alloc, lowered, locations, view, objects, alarms)?;
+            Ok(())
+        }
+        Command::Entry { .. } | Command::Exit { .. } | Command::Skip => Ok(()),
         Command::Assign { to, value } => {
             add_access(alloc, lowered, locations, view, to, alarms)?;
             add_expression(alloc, lowered, locations, view, value, alarms)?;
@@ -155,6 +161,26 @@ fn add_leaves<V: View>(
 {
     for leaf in leaves {
         add_expression(alloc, lowered, locations, view, &leaf.value, alarms)?;
+    }
+    Ok(())
+}
+
+// Adds those of the start values of objects.
+fn add_starts<V: View>(
+    alloc: Global,
+    lowered: &Lowered,
+    locations: &Locations,
+    view: &V,
+    objects: &[Object],
+    alarms: &mut Vec<Alarm>,
+) -> Result<(), AllocError>
+    requires { are_proper_starts (map object_of objects.now) ≡ true }
+    ensures { OnOk result (alarms.new.items ≡ alarms.old.items ++ start_alarms
+        (lowered_of lowered.now) (cells_at locations.now.cells.items (V.store view.now))
+        (map object_of objects.now)) }
+{
+    for object in objects {
+        add_leaves(alloc, lowered, locations, view, &object.start, alarms)?;
     }
     Ok(())
 }

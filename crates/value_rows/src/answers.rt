@@ -1,5 +1,6 @@
 //! The answers to rows.
 ghost use Rattle.std.specs.Prelude.{◌≡◌, true};
+ghost use Rattle.sp_ir.specs.Programs.{lowered_of};
 ghost use Rattle.sp_ir.specs.View.{command_of, expression_of};
 ghost use Rattle.sp_eval.specs.Evaluation.{is_proper};
 ghost use Rattle.sp_verdicts.specs.Commands.{is_proper_command};
@@ -65,7 +66,7 @@ fn alarm_text(alloc: Global, kind: AlarmKind) -> Result<String, AllocError> {
 
 // The alarms of a node with a command, with a semicolon behind each.
 fn alarms(alloc: Global, scene: &Scene, command: Command) -> Result<String, AllocError>
-    requires { is_proper_command (command_of command) ≡ true }
+    requires { is_proper_command (lowered_of scene.now.lowered) (command_of command) ≡ true }
 {
     let place = Place {
         name: 0,

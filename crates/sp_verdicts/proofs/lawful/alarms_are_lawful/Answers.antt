@@ -9,6 +9,6 @@ returns c = record {
     expression_agrees = alarms-agree;
     access_agrees = access-agrees;
     node_agrees = node-agrees;
-    proper = λ p rs n f k h. command-proper p f rs n k h;
+    proper = λ p formed n f c h. command-proper p formed f n c h;
   };
 }
