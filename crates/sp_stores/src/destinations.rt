@@ -106,9 +106,11 @@ impl<S: Scenery> Stores for Into<'_, S> {
     ghost use Rattle.sp_stores.specs.Destinations.{destination};
 
     ghost reach = { λ to. destination (S.scene to.scene.now) (lvalue_of to.lvalue.now) };
+
     ghost slots = { λ to l. stored (S.scene to.scene.now).setting.ladder
         (fitted (S.scene to.scene.now) (cell_of (S.scene to.scene.now).setting l)
         (known_of to.value.now)) };
+
     ghost usual = { λ to. to.slot.now };
 
     fn location(&self, region: u32) -> Option<u32> {

@@ -49,7 +49,9 @@ pub fn join_at(
 /// A store: where it goes, and what each location gets.
 pub trait Stores {
     ghost reach: { Self → Destination };
+
     ghost slots: { Self → ℕ → Slot };
+
     ghost usual: { Self → Slot };
 
     /// The location that a store at a region hits; `None` exactly where it hits none.
