@@ -18,8 +18,6 @@ use Rattle.sp_value.specs.Slots.{slot_join}
 use Rattle.sp_value.specs.Held.{stored}
 use Rattle.sp_value.specs.Locations.{cells_at}
 use Rattle.sp_eval.specs.Laws.{Among}
-use Rattle.sp_eval.specs.Steps.{read_cell}
-use Rattle.sp_verdicts.specs.Library.{character}
 use Rattle.sp_rows.specs.Rows.{Store, joins, kept_if, applied, followed, Row}
 use Rattle.sp_rows.specs.Setting.{cell_of}
 use Rattle.sp_rows.specs.Storing.{Destination, may_hit, kept_by}
@@ -36,7 +34,7 @@ use Rattle.sp_calls.specs.Copies.{leaf_destination}
 use Rattle.sp_calls.specs.Slots.{bottom_slot, stored_leaves}
 use Rattle.sp_library.specs.declared.written.Written.{Written}
 use Rattle.sp_library.specs.declared.written.Written.TheVariants.{Zeros, Filled, Copied, CopiedText, PaddedText, Unwritten}
-use Rattle.sp_library.specs.Written.{lands, aims_at, argument_regions, may_come, moved_from, character_at, written_value}
+use Rattle.sp_library.specs.Written.{lands, aims_at, argument_regions, may_come, moved_from, given_character, character_at, written_value}
 use Rattle.sp_library.specs.Effects.{argument_in, writing}
 use Rattle.sp_library.specs.Slots.{landed_slot}
 use Rattle.sp_library.proofs.ArgumentLaws.{argument-within}
@@ -59,7 +57,7 @@ module _ (p : Lowered) (cells : ℕ → Known) where
       by (inr h) = h
 
   no-character : (r : ℕ) → is_text p r ≡ false → character_at p cells r ≡ none
-  no-character r h = ap (λ b. cond b (read_cell (terrain_of p) cells character r) none) h
+  no-character r h = ap (λ b. cond b (given_character (terrain_of p) cells r) none) h
 
   none-read : (rs : List ℕ) (xs : List Target) → list_any (is_text p) rs ≡ false → Within (Among rs) xs → gathered (λ x. character_at p cells x.region) xs ≡ none
   none-read rs [] e w = refl

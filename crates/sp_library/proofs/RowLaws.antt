@@ -174,7 +174,7 @@ module _ (a : Analysed) (whole : IsAnalysed a) (n : ℕ) (which : Routine) (to :
   the_written : IsLawfulValue (setting_of a) uses (written_to a args site (written_by which)) written_as_it_is
   the_written = record {
     formed = λ s r l. written-formed a.program (cells s) (cells-formed (setting_of a) scene.setting s) (written_by which) (argument_in a args 1 s) (values-formed a whole n which to args site is s 1) r (cell_of (setting_of a) l);
-    rises = λ s t r l below under. written-monotone a.program (cells s) (cells t) (cells-formed (setting_of a) scene.setting s) (cells-monotone (setting_of a) scene.setting s t below) (written_by which) (argument_in a args 1 s) (argument_in a args 1 t)
+    rises = λ s t r l below under. written-monotone a.program (cells s) (cells t) (cells-monotone (setting_of a) scene.setting s t below) (written_by which) (argument_in a args 1 s) (argument_in a args 1 t)
         (values-rise a whole n which to args site is s t below 1) r (cell_of (setting_of a) l);
     within = λ r l m h. cell-within a whole n which to args site is r (cell_of (setting_of a) l) m (second (may_come a.program u (written_by which) args) (lands a.program (written_by which) r (cell_of (setting_of a) l)) h);
     agree = λ s t r l m h under under' agree. values-same (written_by which) s t r (cell_of (setting_of a) l) under m

@@ -17,10 +17,9 @@ use Rattle.sp_value.specs.KnownLaws.{numbers_le, the_targets_le, known_made, kno
 use Rattle.sp_value.specs.FormedLaws.{IsFormedKnown, none-formed, known_join-formed, gathered-formed, Within, within-join, within-more, within-gathered, gathered-agrees, test_from_formed}
 use Rattle.sp_eval.specs.Laws.{AreFormed, AreBelow, PointWithin}
 use Rattle.sp_eval.specs.Numbers.{exactly, every_number}
-use Rattle.sp_eval.specs.Steps.{numbers_as, read_cell}
 use Rattle.sp_eval.proofs.Among.{chosen}
-use Rattle.sp_eval.proofs.FormLaws.{every_number-formed, numbers_as-formed, numbers_of}
-use Rattle.sp_eval.proofs.MonotoneLaws.{same_choice, same_numbers, read_cell-monotone}
+use Rattle.sp_eval.proofs.FormLaws.{every_number-formed}
+use Rattle.sp_eval.proofs.MonotoneLaws.{same_choice, same_numbers}
 use Rattle.sp_scenes.specs.Analysed.{element_of}
 use Rattle.sp_entries.specs.Given.{zero_value, every_in}
 use Rattle.sp_entries.specs.Entries.{every_value}
@@ -30,7 +29,7 @@ use Rattle.sp_calls.proofs.CopiedLaws.{from-formed, from-monotone, Closes, from-
 use Rattle.sp_verdicts.specs.Library.{character}
 use Rattle.sp_library.specs.declared.written.Written.{Written}
 use Rattle.sp_library.specs.declared.written.Written.TheVariants.{Zeros, Filled, Copied, CopiedText, PaddedText, Unwritten}
-use Rattle.sp_library.specs.Written.{filled, pointers_of, moved_from, moved, character_at, characters_of, written_value}
+use Rattle.sp_library.specs.Written.{filled, pointers_of, moved_from, moved, given_character, character_at, characters_of, written_value}
 
 module _ (p : Lowered) where
   abbrev g : Terrain
@@ -99,16 +98,15 @@ module _ (p : Lowered) where
         (λ k. from-formed p cells each q c s))
         (λ e. every-formed c)
 
-    read-formed : (r : ℕ) → IsFormedKnown (read_cell g cells character r)
+    read-formed : (r : ℕ) → IsFormedKnown (given_character g cells r)
     read-formed r = record {
-      numbers = chosen (λ i. is_ordered_within whole i ≡ true) (g.collapsed r) (every_number character) (numbers_as character (cells r).numbers) (λ e. test_from_formed (every_number character) (every_number-formed character))
-          (λ e. test_from_formed (numbers_as character (cells r).numbers) (numbers_as-formed character (cells r).numbers (numbers_of (cells r) (each r))));
+      numbers = chosen (λ i. is_ordered_within whole i ≡ true) (g.collapsed r) (every_number character) (cells r).numbers (λ e. test_from_formed (every_number character) (every_number-formed character)) (λ e. (each r).numbers);
       targets = (each r).targets;
       ascending = (each r).ascending;
     }
 
     characters-formed : (v : Known) → IsFormedKnown v → IsFormedKnown (characters_of p cells v)
-    characters-formed v h = gathered-formed (λ x. character_at p cells x.region) (λ x k. where-formed (is_text p x.region) (read_cell g cells character x.region) (read-formed x.region)) v.targets h.targets
+    characters-formed v h = gathered-formed (λ x. character_at p cells x.region) (λ x k. where-formed (is_text p x.region) (given_character g cells x.region) (read-formed x.region)) v.targets h.targets
 
     pub written-formed : (w : Written) (v : Known) → IsFormedKnown v → (q c : ℕ) → IsFormedKnown (written_value p cells w v q c)
     written-formed Zeros v h q c = zero-formed
@@ -120,7 +118,7 @@ module _ (p : Lowered) where
 
   -- ---- rising
 
-  module _ (s t : ℕ → Known) (each : AreFormed s) (below : AreBelow s t) where
+  module _ (s t : ℕ → Known) (below : AreBelow s t) where
     pointers-monotone : (v w : Known) → known_le v w ≡ true → known_le (pointers_of v) (pointers_of w) ≡ true
     pointers-monotone v w h = known_made (pointers_of v) (pointers_of w) refl (the_targets_le v w h)
 
@@ -137,8 +135,10 @@ module _ (p : Lowered) where
         (known-refl (every_value p c))
 
     character-monotone : (r : ℕ) → known_le (character_at p s r) (character_at p t r) ≡ true
-    character-monotone r = where-monotone (is_text p r) (read_cell g s character r) (read_cell g t character r)
-        (read_cell-monotone g s t each below character r)
+    character-monotone r = where-monotone (is_text p r) (given_character g s r) (given_character g t r)
+        (known_made (given_character g s r) (given_character g t r)
+        (same_numbers (g.collapsed r) (every_number character) (s r).numbers (every_number character) (t r).numbers (λ e. interval_le-refl (every_number character)) (numbers_le (s r) (t r) (below r)))
+        (the_targets_le (s r) (t r) (below r)))
 
     characters-monotone : (v w : Known) → known_le v w ≡ true → known_le (characters_of p s v) (characters_of p t w) ≡ true
     characters-monotone v w h = gathered-monotone (λ x. character_at p s x.region) (λ x. character_at p t x.region)
@@ -171,7 +171,7 @@ module _ (p : Lowered) where
 
     pub characters-within : (v : Known) → Within S v.targets → ((s x : ℕ) → S s → is_text p s ≡ true → has x (points s) ≡ true → P x) → Within P (characters_of p cells v).targets
     characters-within v h to = within-gathered S P (λ x. character_at p cells x.region)
-        (λ x m. where-within P (is_text p x.region) (read_cell g cells character x.region) (λ e. within-more (λ y. has y (points x.region) ≡ true) P (λ y k. to x.region y m e k) (cells x.region).targets (inside x.region)))
+        (λ x m. where-within P (is_text p x.region) (given_character g cells x.region) (λ e. within-more (λ y. has y (points x.region) ≡ true) P (λ y k. to x.region y m e k) (cells x.region).targets (inside x.region)))
         v.targets h
 
   -- ---- hanging on what is read
@@ -190,9 +190,9 @@ module _ (p : Lowered) where
     pub moved-agrees : (v : Known) (q c : ℕ) → Within S v.targets → ((r b : ℕ) → S r → pairs p q r ≡ true → reaches p r b ≡ true → s b ≡ t b) → moved p s v q c ≡ moved p t v q c
     moved-agrees v q c h same = gathered-agrees S (λ x. moved_from p s q c x.region) (λ x. moved_from p t q c x.region) (λ x m. moved_from-agrees q c x.region (λ e b k. same x.region b m e k)) v.targets h
 
-    read-agrees : (r : ℕ) → s r ≡ t r → read_cell g s character r ≡ read_cell g t character r
-    read-agrees r e = ap (λ (v : Known). let k : Known = record { numbers = cond (g.collapsed r) (every_number character) (numbers_as character v.numbers); targets = v.targets } in k) e
+    read-agrees : (r : ℕ) → s r ≡ t r → given_character g s r ≡ given_character g t r
+    read-agrees r e = ap (λ (v : Known). let k : Known = record { numbers = cond (g.collapsed r) (every_number character) v.numbers; targets = v.targets } in k) e
 
     pub characters-agree : (v : Known) → Within S v.targets → ((r : ℕ) → S r → is_text p r ≡ true → s r ≡ t r) → characters_of p s v ≡ characters_of p t v
     characters-agree v h same = gathered-agrees S (λ x. character_at p s x.region) (λ x. character_at p t x.region)
-        (λ x m. alike-where (is_text p x.region) (read_cell g s character x.region) (read_cell g t character x.region) none (λ e. read-agrees x.region (same x.region m e))) v.targets h
+        (λ x m. alike-where (is_text p x.region) (given_character g s x.region) (given_character g t x.region) none (λ e. read-agrees x.region (same x.region m e))) v.targets h

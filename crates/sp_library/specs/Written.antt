@@ -12,7 +12,7 @@ use Rattle.sp_ir.specs.Denoted.{PointsTo, regions_of}
 use Rattle.sp_puts.specs.Paths.{reaches, pairs, is_text}
 use Rattle.sp_value.specs.declared.targets.Target.{Target}
 use Rattle.sp_value.specs.Known.{Known, none, known_le, known_join, is_none, gathered}
-use Rattle.sp_eval.specs.Steps.{read_cell}
+use Rattle.sp_eval.specs.Numbers.{every_number}
 use Rattle.sp_entries.specs.Given.{zero_value, site_targets}
 use Rattle.sp_entries.specs.Entries.{every_value}
 use Rattle.sp_calls.specs.Copied.{cells_in, copied_from}
@@ -107,9 +107,17 @@ moved_from p cells q c s = cond (pairs p q s)
 abbrev pub moved : Lowered → (ℕ → Known) → Known → ℕ → ℕ → Known
 moved p cells v q c = gathered (λ x. moved_from p cells q c x.region) v.targets
 
+-- What a cell of text gives: what it holds, and of one that is kept as bytes every char. So characters
+-- of one type are copied as they are.
+abbrev pub given_character : Terrain → (ℕ → Known) → ℕ → Known
+given_character g cells r = record {
+  numbers = cond (g.collapsed r) (every_number character) (cells r).numbers;
+  targets = (cells r).targets;
+}
+
 -- a character of text
 abbrev pub character_at : Lowered → (ℕ → Known) → ℕ → Known
-character_at p cells r = cond (is_text p r) (read_cell (terrain_of p) cells character r) none
+character_at p cells r = cond (is_text p r) (given_character (terrain_of p) cells r) none
 
 abbrev pub characters_of : Lowered → (ℕ → Known) → Known → Known
 characters_of p cells v = gathered (λ x. character_at p cells x.region) v.targets

@@ -11,7 +11,7 @@ ghost use Rattle.sp_entries.specs.Entries.{every_value};
 
 use sp_calls::{copied_from, held_at};
 use sp_entries::{every_value, zero_value};
-use sp_eval::{every_number, numbers_as};
+use sp_eval::every_number;
 use sp_interval::Interval;
 use sp_ir::{Lowered, Routine};
 use sp_lattice::Lattice;
@@ -160,13 +160,12 @@ fn character_at<V: View>(
     if !is_text(&analysis.lowered, region) {
         return Ok(Value::of_numbers(alloc, Interval::Empty));
     }
-    let (of, held) = (character(), held_at(alloc, analysis, view, region)?);
-    let numbers = if analysis.lowered.is_collapsed(region) {
-        every_number(&of)
+    let held = held_at(alloc, analysis, view, region)?;
+    if analysis.lowered.is_collapsed(region) {
+        held.with_numbers(alloc, every_number(&character()))
     } else {
-        numbers_as(&of, &held)
-    };
-    held.with_numbers(alloc, numbers)
+        Ok(held)
+    }
 }
 
 /// The characters of each target.
