@@ -11,6 +11,8 @@ LIMIT = 600  # seconds
 NODES = 71  # of a function of a module: 6,400 of them stay below 500,000 nodes and 2,000,000 tokens
 MODULE = 40  # functions
 HELPERS = 8  # functions that all modules call
+SITES = 50  # calls of malloc in a function of `allocations`
+ALLOCATING = 206  # nodes of such a function
 
 
 def blocks(chance, cells, count):
@@ -70,6 +72,19 @@ def deep(functions):
     return "\n".join(lines) + "\n"
 
 
+def allocations(functions):
+    """A program of so many functions that each allocate blocks and copy each to the next by memcpy."""
+    lines = ["void *malloc(unsigned long);void *memcpy(void *,const void *,unsigned long);"]
+    for k in range(functions):
+        blocks = "".join(f"int *p{i};" for i in range(SITES))
+        blocks += "".join(f"p{i}=(int *)malloc(16);p{i}[0]=n;" for i in range(SITES))
+        blocks += "".join(f"memcpy(p{i},p{i - 1},16);" for i in range(1, SITES))
+        lines.append(f"static int f{k}(int n){{{blocks}return p{SITES - 1}[1];}}")
+    calls = "".join(f"s=s+f{k}(c);" for k in range(functions))
+    lines.append(f"int main(int c,char **v){{int s;s=0;{calls}return s;}}")
+    return "\n".join(lines) + "\n"
+
+
 def chain(nodes):
     """A straight line of so many assignments to 64 scalars."""
     line = "".join(f"x{(k + 1) % 64}=x{k % 64};" for k in range(nodes))
@@ -98,7 +113,7 @@ def measured(words):
 def table(command, head, made, sizes, words, source, nodes=1):
     """Prints a row for each size, of so many nodes each: what a node takes, and the ratio of its time to
     that of the row above."""
-    print(f"{command:9}{head:>10}{'nodes':>9}{'s':>9}{'KiB':>10}{'us/node':>9}{'KiB/node':>10}{'ratio':>7}  last line")
+    print(f"{command:9}{head:>12}{'nodes':>9}{'s':>9}{'KiB':>10}{'us/node':>9}{'KiB/node':>10}{'ratio':>7}  last line")
     last = None
     for size in sizes:
         with open(source, "w", encoding="ascii") as out:
@@ -106,12 +121,12 @@ def table(command, head, made, sizes, words, source, nodes=1):
         found = measured([*words, source])
         count = size * nodes
         if found is None:
-            print(f"{'':9}{size:10}{count:9}{'> ' + str(LIMIT):>9}", flush=True)
+            print(f"{'':9}{size:12}{count:9}{'> ' + str(LIMIT):>9}", flush=True)
             break
         seconds, peak, line = found
         ratio = "-" if last is None else f"{seconds / count / last:.2f}"
         last = max(seconds, 0.001) / count
-        print(f"{'':9}{size:10}{count:9}{seconds:9.2f}{peak:10}{1e6 * seconds / count:9.2f}{peak / count:10.2f}"
+        print(f"{'':9}{size:12}{count:9}{seconds:9.2f}{peak:10}{1e6 * seconds / count:9.2f}{peak / count:10.2f}"
               f"{ratio:>7}  {line}", flush=True)
 
 
@@ -125,6 +140,7 @@ def main():
             table(command, "modules", modules, some, [sparrow, command], source, NODES)
         # of the functions of a deep program eight in ten are reached where there are many
         table("analyse", "deep", deep, sizes, [sparrow, "analyse"], source)
+        table("analyse", "allocations", allocations, [10, 100], [sparrow, "analyse"], source, ALLOCATING)
         others = {"gcc": ["-O2", "-Wall", "-c", "-o", os.devnull], "frama-c": ["-eva", "-eva-verbose", "0"]}
         for name, flags in others.items():
             if shutil.which(name):

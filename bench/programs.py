@@ -44,7 +44,8 @@ def token_places(folder: str) -> set[tuple[str, str, str]]:
 def run(words: list[str], folder: str) -> tuple[str, float]:
     """What ./sparrow source writes, and its seconds of processors."""
     before = resource.getrusage(resource.RUSAGE_CHILDREN)
-    command = [sys.executable, "-I", os.path.join(TOP, "source"), *words]
+    source = os.path.join(TOP, "source")
+    command = [sys.executable, "-I", source, "--format=plain", "--no-contexts", *words]
     try:
         done = subprocess.run(command, cwd=folder, capture_output=True, timeout=LATE, check=False)
         said = done.stdout.decode("latin-1") or done.stderr.decode("latin-1")

@@ -128,7 +128,8 @@ def units_of(package: Package, folder: str) -> list[str]:
 def outcome_of(words: list[str], folder: str) -> Outcome:
     """Runs ./sparrow source with these words, by the package that it starts."""
     before = resource.getrusage(resource.RUSAGE_CHILDREN)
-    command = [sys.executable, "-I", os.path.join(TOP, "source"), *words]
+    source = os.path.join(TOP, "source")
+    command = [sys.executable, "-I", source, "--format=plain", "--no-contexts", *words]
     try:
         done = subprocess.run(command, cwd=folder, capture_output=True, timeout=LATE, check=False)
         status, said = done.returncode, (done.stdout or done.stderr).decode("latin-1")

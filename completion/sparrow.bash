@@ -1,6 +1,16 @@
 # Completion of the words of sparrow for bash: commands, options, folders, and files of C.
 # shellcheck shell=bash
 
+# The targets of the compile_commands.json among the words: folders NAME.dir or NAME.p of outputs.
+_sparrow_targets() {
+    local at
+    for ((at = 2; at < COMP_CWORD; at++)); do
+        [ "${COMP_WORDS[at]}" != --compile-commands ] ||
+            grep -oE '[^/" ]+\.(dir|p)/' "${COMP_WORDS[at + 1]}" 2>/dev/null |
+            sed 's,\.[a-z]*/$,,' | sort -u
+    done
+}
+
 _sparrow() {
     local word=${COMP_WORDS[COMP_CWORD]} options=--values
     COMPREPLY=()
@@ -10,10 +20,22 @@ _sparrow() {
         return
     fi
     case ${COMP_WORDS[1]} in
-        source) options+=' --strict --keep --compile-commands --target -D -I -U -idirafter -imacros -include -iquote -isystem' ;;
+        source) options+=' --strict --keep --compile-commands --target -D -I -U -idirafter -imacros -include -iquote -isystem --contexts= --no-contexts --format --output --color --baseline --update-baseline --fail-on' ;;
         analyse | dense) ;;
         *) return ;;
     esac
+    case ${COMP_WORDS[1]}:${COMP_WORDS[COMP_CWORD - 1]} in
+        source:--compile-commands)
+            compopt -o filenames 2>/dev/null
+            mapfile -t COMPREPLY < <(compgen -d -- "$word"; compgen -f -X '!*.json' -- "$word")
+            return
+            ;;
+        source:--target) options=$(_sparrow_targets) ;;
+        source:--format) options='text plain json sarif html' ;;
+        source:--color) options='auto always never' ;;
+        source:--fail-on) options='any new' ;;
+        *) false ;;
+    esac && mapfile -t COMPREPLY < <(compgen -W "$options" -- "$word") && return
     if [[ $word == -* ]]; then
         mapfile -t COMPREPLY < <(compgen -W "$options" -- "$word")
     else

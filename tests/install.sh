@@ -39,7 +39,7 @@ for words in 'analyse overrun.c' 'analyse --values overrun.c' 'dense none.c' '';
 done
 if command -v gcc >/dev/null 2>&1; then
     report=$(tail -n +2 examples/source/cut.expected | sed 's,^examples/source/,,')
-    check 'source' 1 "$report"$'\n' elsewhere source cut.c
+    check 'source' 1 "$report"$'\n' elsewhere source --format=plain cut.c
     said() { elsewhere source cut.c 2>&1 >/dev/null | cat; }
     check 'source on standard error' 0 '' said
 fi
@@ -79,8 +79,17 @@ mkdir "$room/sources/part"
 touch "$room/sources/notes.txt"
 check 'the commands' 0 $'source\n' complete_words sparrow s
 check 'the options of analyse' 0 $'--values\n' complete_words sparrow analyse -
-check 'the options of source' 0 $'--values\n--strict\n--keep\n--compile-commands\n--target\n' \
-    complete_words sparrow source --
+options=$'--values\n--strict\n--keep\n--compile-commands\n--target\n'
+options+=$'--contexts=\n--no-contexts\n--format\n--output\n--color\n--baseline\n--update-baseline\n--fail-on\n'
+check 'the options of source' 0 "$options" complete_words sparrow source --
+check 'the forms of a report' 0 $'sarif\n' complete_words sparrow source --format s
 names() { complete_words sparrow source --keep '' | LC_ALL=C sort; }
+printf '{"command": "cc -o CMakeFiles/tool.dir/a.o"} {"output": "b.p/a.o"} {"output": "b.p/c.o"}' \
+    >"$room/sources/commands.json"
+check 'the targets' 0 $'b\ntool\n' \
+    complete_words sparrow source --compile-commands commands.json --target ''
+check 'a target' 0 $'tool\n' \
+    complete_words sparrow source --compile-commands commands.json --target t
+check 'a database' 0 $'part\ncommands.json\n' complete_words sparrow source --compile-commands ''
 check 'folders and files of C' 0 $'cut.c\noverrun.c\npart\n' names
 finish

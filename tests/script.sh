@@ -50,9 +50,21 @@ check 'the program is up to date' 1 '' run 1
 check 'by a link' 1 '' "$room/link" 1
 check 'where the program is' 0 "$out/sparrow"$'\n' run --program
 commands='sparrow: the commands are: analyse [--values] FILE.., dense [--values] FILE..,'
-commands+=' source [--values] [--keep DIR] [CPP-OPTION..] FILE.c..'
+commands+=' source [--values] [--strict] [--keep DIR] [CPP-OPTION..] FILE.c..,'
+commands+=' source --compile-commands FILE [--target NAME] ..'
 check_said 'status 3' "$commands" run 3
-check 'the help of a command' 0 "$(run --help)"$'\n' run source --help
+for command in source analyse dense; do
+    for word in --help -h; do
+        check "$command $word" 0 "$(run --help)"$'\n' run $command $word
+    done
+done
+# The program that stands in refuses all for a word 2.
+printf '#include <a.h>\n' >"$room/text.c"
+hint="sparrow: hint: $room/text.c isn't preprocessed; sparrow source does that"
+check_said 'a text that is not preprocessed' "$hint" run 2 --values "$room/none.c" "$room/text.c"
+printf '# 1 "a.c"\n#pragma once\nint x;\n' >"$room/text.c"
+check_all() { [ -z "$(run 2 "$room/text.c" 2>&1)" ]; }
+check 'a text that is preprocessed' 0 '' check_all
 check_said 'status 5' "sparrow: standard output can't be written" run 5
 check_said 'status 6' 'sparrow: out of memory' run 6
 check_said 'status 7' "sparrow: the words of the command line can't be read" run 7

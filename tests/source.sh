@@ -17,7 +17,7 @@ check_source() {
     shift
     status=$(head -n 1 "$expected")
     bytes=$(tail -n +2 "$expected"; printf x)
-    check "source $*" "${status#status }" "${bytes%x}" ./sparrow source "$@"
+    check "source $*" "${status#status }" "${bytes%x}" ./sparrow source --format=plain "$@"
 }
 
 here=tests/source
@@ -50,49 +50,53 @@ echo 'int main(void) { return 0; }' >"$room/main.c"
 headers c90 | units c90
 headers posix | units posix
 check 'there are the headers of C90' 0 $'15\n' eval 'headers c90 | grep -c .'
-check 'each header of C90' 0 $'0 alarms\n' ./sparrow source "$room"/main.c "$room"/c90-*.c
+check 'each header of C90' 0 $'0 alarms\n' \
+    ./sparrow source --format=plain "$room"/main.c "$room"/c90-*.c
 check 'each header of C90 without POSIX' 0 $'0 alarms\n' \
-    ./sparrow source -D_ANSI_SOURCE "$room"/main.c "$room"/c90-*.c
+    ./sparrow source --format=plain -D_ANSI_SOURCE "$room"/main.c "$room"/c90-*.c
 # A program has at most 64 files.
-check 'each header of POSIX' 0 $'0 alarms\n' ./sparrow source "$room"/main.c "$room"/posix-*[0-4].c
+check 'each header of POSIX' 0 $'0 alarms\n' \
+    ./sparrow source --format=plain "$room"/main.c "$room"/posix-*[0-4].c
 check 'each other header of POSIX' 0 $'0 alarms\n' \
-    ./sparrow source "$room"/main.c "$room"/posix-*[5-9].c
+    ./sparrow source --format=plain "$room"/main.c "$room"/posix-*[5-9].c
 { headers c90 && headers posix; } | sed 's/.*/#include <&>/' >"$room/together.c"
 tac "$room/together.c" >"$room/backwards.c"
 for order in together backwards; do
     check "all headers $order" 0 $'0 alarms\n' \
-        ./sparrow source -D_GNU_SOURCE "$room/main.c" "$room/$order.c"
+        ./sparrow source --format=plain -D_GNU_SOURCE "$room/main.c" "$room/$order.c"
 done
-check 'what C90 names' 0 $'0 alarms\n' ./sparrow source $here/standard.c
+check 'what C90 names' 0 $'0 alarms\n' ./sparrow source --format=plain $here/standard.c
 check 'what C90 names, without POSIX' 0 $'0 alarms\n' \
-    ./sparrow source -D_ANSI_SOURCE $here/standard.c
+    ./sparrow source --format=plain -D_ANSI_SOURCE $here/standard.c
 check "the program's own names" 0 $'0 alarms\n' \
-    ./sparrow source -D_ANSI_SOURCE $here/own_names.c
+    ./sparrow source --format=plain -D_ANSI_SOURCE $here/own_names.c
 
 # Names with blanks and quotes; a refusal of the whole program names the source.
 odd="$room/it's a/b c.c"
 mkdir "${odd%/*}"
 printf 'int x;\n' >"$odd"
 check 'a program without main' 2 "$odd"$':1:1: refused F25: no main\n' \
-    ./sparrow source -D "A=it's" "$odd"
+    ./sparrow source --format=plain -D "A=it's" "$odd"
 many() { for _ in $(seq "$1"); do echo "$room/together.c"; done; }
 # shellcheck disable=SC2046
 check 'the 65th file' 2 "$odd"$':1:1: refused M9: files past 64\n' \
-    ./sparrow source "$room/main.c" $(many 63) "$odd"
+    ./sparrow source --format=plain "$room/main.c" $(many 63) "$odd"
 printf 'int main(void) { int a[2]; a[2] = 0; return 0; }\n' >"$room/-a.c"
 in_room() { (cd "$room" && "$top/sparrow" "$@"); }
 check 'a name that begins with -' 1 $'./-a.c:1:28: overrun: offset [2,2], size [2,2]\n1 alarm\n' \
-    in_room source -- -a.c
+    in_room source --format=plain -- -a.c
 printf 'int main(void) { int a[__SPARROW__];\na[1] = 0; return 0; }\n' >"$room/name.c"
 check 'a name that is given' 1 $'name.c:2:1: overrun: offset [1,1], size [1,1]\n1 alarm\n' \
-    in_room source name.c
-check 'comments to the end of the line' 0 $'0 alarms\n' ./sparrow source "$here/comments.c"
-check 'words that fall away' 0 $'0 alarms\n' ./sparrow source "$here/words.c"
+    in_room source --format=plain name.c
+check 'comments to the end of the line' 0 $'0 alarms\n' \
+    ./sparrow source --format=plain "$here/comments.c"
+check 'words that fall away' 0 $'0 alarms\n' ./sparrow source --format=plain "$here/words.c"
 printf 'int main(void) { int inline = 0; return inline; }\n' >"$room/inline.c"
-check 'a word that is given back' 0 $'0 alarms\n' ./sparrow source -Uinline "$room/inline.c"
+check 'a word that is given back' 0 $'0 alarms\n' \
+    ./sparrow source --format=plain -Uinline "$room/inline.c"
 check 'values' 0 $'0 alarms\nnode 2 '"$room"$'/x.c:1:36: x = [7,7]\n' eval '
     printf "static int x = 7; int main(void) { return x; }" >"$room/x.c"
-    ./sparrow source --values "$room/x.c"'
+    ./sparrow source --format=plain --values "$room/x.c"'
 
 # What is kept gives the same report.
 check 'what is kept' 0 $'1-main.i\n2-b c.i\n' eval '
@@ -112,10 +116,22 @@ check 'a missing file' 4 '' ./sparrow source "$room/main.c" "$room/none.c"
 check_said 'a missing file' "sparrow: $room/none.c can't be read" \
     ./sparrow source "$room/none.c"
 printf '#include "none.h"\n' >"$room/fails.c"
-last_said() { ./sparrow source "$room/main.c" "$room/fails.c" 2>&1 >/dev/null | tail -n 1; }
+last_said() { ./sparrow source "$room/main.c" "$room/fails.c" 2>&1 >/dev/null | tail -n 2; }
 check 'a preprocessor that fails' 3 '' ./sparrow source "$room/main.c" "$room/fails.c"
-check 'it is said which file' 0 "sparrow: $room/fails.c was not preprocessed by gcc -E"$'\n' \
-    last_said
+check 'it is said which file' 0 "sparrow: $room/fails.c was not preprocessed by gcc -E
+sparrow: hint: -I tells in which folder none.h is
+" last_said
+printf '#include <dirent.h>\n#include <linux/limits.h>\n' >"$room/fails.c"
+if [ -e /usr/include/linux/limits.h ]; then
+    check 'a header of the machine' 0 "sparrow: $room/fails.c was not preprocessed by gcc -E
+sparrow: hint: -idirafter /usr/include gives linux/limits.h
+" last_said
+    check 'the header is found so' 0 $'0 alarms\n' \
+        ./sparrow source --format=plain -idirafter /usr/include "$room/main.c" "$room/fails.c"
+fi
+printf '#error none.h\n' >"$room/fails.c"
+hints() { ./sparrow source "$room/main.c" "$room/fails.c" 2>&1 | grep -c hint; }
+check 'another error has no hint' 1 $'0\n' hints
 without() { CPP='no-such-cpp -E' ./sparrow source "$room/main.c"; }
 check 'no preprocessor' 3 '' without
 check_said 'no preprocessor' \
@@ -124,7 +140,7 @@ check_said 'no preprocessor' \
 printf '#!/bin/sh\nexec gcc -E -DLAST=2 "$@"\n' >"$room/cpp"
 chmod +x "$room/cpp"
 printf 'int main(void) { int a[SIZE]; a[LAST] = 0; return 0; }\n' >"$room/last.c"
-another() { CPP="$room/cpp -DSIZE=2" ./sparrow source "$room/last.c"; }
+another() { CPP="$room/cpp -DSIZE=2" ./sparrow source --format=plain "$room/last.c"; }
 check 'another preprocessor' 1 \
     "$room"$'/last.c:1:28: overrun: offset [2,2], size [2,2]\n1 alarm\n' another
 unnamed() { yes | ./sparrow source -; }
@@ -160,6 +176,9 @@ for signal in TERM HUP; do
     check "$signal leaves nothing behind" 0 '' ls "$TMPDIR"
 done
 python3 -I tests/source_headers.py || failed=$((failed + 1))
+for part in report formats baseline contexts documents; do
+    PYTHONDONTWRITEBYTECODE=1 python3 "tests/source_$part.py" || failed=$((failed + 1))
+done
 bash tests/source_rewriting.sh || failed=$((failed + 1))
 bash tests/source_options.sh || failed=$((failed + 1))
 finish

@@ -32,19 +32,20 @@ database=$room/compile_commands.json
     entry other.c other && echo ']'
 } >"$database"
 tool=$'overrun: offset [4,4], size [4,4]\n1 alarm\n'
-source_of() { ./sparrow source --compile-commands "$@"; }
+source_of() { ./sparrow source --format=plain --compile-commands "$@"; }
 check 'a target, each file by options of its own' 1 "$room/tree/src/main.c:2:28: $tool" \
     source_of "$database" --target tool
 check 'another target' 0 $'0 alarms\n' source_of "$database" --target wide
 check 'options behind those of the database' 0 $'0 alarms\n' \
     source_of "$database" --target tool -UFACTOR -DFACTOR=1
+targets='--target NAME takes one of other, tool, wide'
 check_said 'a file of two targets' \
-    "sparrow: $room/tree/src/main.c is compiled more than once; --target NAME chooses" \
+    "sparrow: $room/tree/src/main.c is compiled more than once: $targets" \
     source_of "$database"
 other="$room/tree/src/other.c:1:25: refused F8: undeclared name: other"
 check 'a file of the database' 2 "$other"$'\n' \
     source_of "$database" "$room/tree/src/other.c"
-check_said 'no such target' "sparrow: $database has no entry for a file of that target" \
+check_said 'no such target' "sparrow: $database has no target none: $targets" \
     source_of "$database" --target none
 check_said 'a file that it does not have' "sparrow: $database has no entry for $room/a.c" \
     source_of "$database" "$room/a.c"
@@ -60,10 +61,53 @@ check_said 'a quote that is open' "sparrow: $room/bad.json has a command that is
     bad '[{"directory": "/", "file": "a.c", "command": "cc \"a"}]'
 check 'a target without a database' 3 $'usage: sparrow COMMAND [OPTION] WORD..\n' \
     ./sparrow source --target tool "$room/tree/src/main.c"
+# Two programs in one database, with their own mains of one type or of two.
+two=$room/two.json
+printf 'int main(void) { return 0; }\n' >"$room/tree/src/one.c"
+printf 'int main(argc, argv) int argc; char **argv; { return argc; }\n' >"$room/tree/src/two.c"
+printf 'int main(void) { return 1; }\n' >"$room/tree/src/three.c"
+both="sparrow: hint: $room/tree/src/one.c and $room/tree/src"
+for other in three two; do
+    { echo '[' && entry one.c first && echo , && entry $other.c second && echo ']'; } >"$two"
+    last_said() { source_of "$two" 2>&1 >/dev/null | tail -n 1; }
+    check "the mains of one and $other" 0 \
+        "$both/$other.c have a main each: --target NAME takes one of first, second"$'\n' last_said
+    check "one of one and $other" 0 $'0 alarms\n' source_of "$two" --target first
+done
+check_said 'two mains without a database' \
+    "$both/three.c have a main each: give the files of one program" \
+    ./sparrow source "$room/tree/src/one.c" "$room/tree/src/three.c"
+printf '[{"directory": "%s", "file": "one.c", "arguments": ["cc", "one.c"]}]' \
+    "$room/tree/src" >"$two"
+check_said 'no output tells a target' "sparrow: $two has no target a: give the files of one \
+program, since no output tells a target" source_of "$two" --target a
+printf '[{"directory": "%s", "file": "one.c", "output": "../b/c.p/one.o", "command": "cc one.c"},
+{"directory": "%s", "file": "three.c", "arguments": ["cc", "-o", "./d/e/three.o"]}]' \
+    "$room/tree/src" "$room/tree/src" >"$two"
+check_said 'targets of Meson and others' \
+    "sparrow: $two has no target a: --target NAME takes one of c, e" source_of "$two" --target a
 in_build() {
-    (cd "$room/build" && "$top/sparrow" source --compile-commands ../*_commands.json --target tool)
+    (cd "$room/build" &&
+        "$top/sparrow" source --format=plain --compile-commands ../*_commands.json --target tool)
 }
 check 'in the folder of the build names are its own' 1 "../tree/src/main.c:2:28: $tool" in_build
+
+# What a compiler's command says of its outputs falls away; nothing is written there.
+cd "$room" || exit
+printf 'int main(void) { int a[SIZE]; a[4] = 1; return 0; }\n' >"$room/out.c"
+for words in '-c -o out.o' '-oout.o' '-MMD -MP -MF out.d -MT out.o' '-MD -MFout.d -MTout.o -MQout' \
+    '-M' '-MM -MG' '-E' '-S' '-P' '-Wp,-MD,out.d'; do
+    # shellcheck disable=SC2086
+    check "source $words" 1 $'out.c:1:28: overrun: offset [4,4], size [4,4]\n1 alarm\n' \
+        "$top/sparrow" source --format=plain $words -DSIZE=4 out.c
+done
+check 'nothing is written there' 0 $'out.c\n' eval 'ls out*'
+check 'an output without its name' 3 $'usage: sparrow COMMAND [OPTION] WORD..\n' \
+    "$top/sparrow" source out.c -o
+check 'a list of macros' 3 '' "$top/sparrow" source -dM out.c
+check_said 'a list of macros' "sparrow: -dM asks for another text than the program's" \
+    "$top/sparrow" source -dM out.c
+cd "$top" || exit
 
 no_program() { SPARROW_PROGRAM=$room/none SPARROW_INCLUDE=$top/include python3 -I source "$@"; }
 check 'a program that is missing' 7 '' no_program "$room/tree/src/other.c"

@@ -43,11 +43,11 @@ int main(void)
 TEXT
 check 'a place behind a declaration that was moved' 1 \
     "$room/c99.c:16:19: overrun: offset [4,4], size [4,4]"$'\n1 alarm\n' \
-    ./sparrow source "$room/c99.c"
+    ./sparrow source --format=plain "$room/c99.c"
 check_said 'what was rewritten' "sparrow: rewritten: 1 variadic definition, 1 declaration behind a \
 statement, 1 declaration in a for" ./sparrow source "$room/c99.c"
 check 'nothing is rewritten' 2 "$room/c99.c:3:1: refused U6: variadic definition"$'\n' \
-    ./sparrow source --strict "$room/c99.c"
+    ./sparrow source --format=plain --strict "$room/c99.c"
 check_said 'a hint' 'sparrow: hint: --strict leaves it as it is; without --strict it is rewritten' \
     ./sparrow source --strict "$room/c99.c"
 printf 'int main(void) { int a[2]; a[0] = 0; return a[0]; }\n' >"$room/c90.c"
@@ -62,16 +62,39 @@ printf 'int f(void) { return missing; }\n' >"$room/missing.c"
 printf 'int g(void) { return ({ while (0) ; 1; }); }\n' >"$room/words.c"
 check 'the first fault of each file' 2 "$room/missing.c:1:22: refused F8: undeclared name: missing
 $room/words.c:1:23: refused U8: GNU word
-" ./sparrow source "$room/c99.c" "$room/missing.c" "$room/words.c"
+" ./sparrow source --format=plain "$room/c99.c" "$room/missing.c" "$room/words.c"
+# Where a name that isn't declared keeps a form from being rewritten, it is what is told.
+# check_undeclared NAME TEXT LINE:COLUMN: it is b_t there.
+check_undeclared() {
+    printf '%s\n' "$2" >"$room/left.c"
+    check "$1" 2 "$room/left.c:$3: refused F8: undeclared name: b_t"$'\n' \
+        ./sparrow source --format=plain "$room/left.c"
+}
+check_undeclared 'a name beside floating numbers' 'double f(double a) { return a + b_t; }' 1:33
+check_undeclared 'an argument' 'int f(int); float g(void) { return f(b_t) + .5f; }' 1:38
+check_undeclared 'an index in an initialiser' 'int a[3] = { [b_t] = 1 };' 1:15
+check_undeclared 'a type in a block' 'int f(void) { int a; a = 1; b_t c; return a; }' 1:29
+check_undeclared 'a type at file scope' $'long long a;\nstatic const b_t *c;' 2:14
+check_undeclared 'the type of a parameter' 'long long f(int a, b_t *b) { return a; }' 1:20
+check_undeclared 'the type of the first one' 'long long f(b_t b) { return 0; }' 1:13
+check_undeclared 'the type of a member' 'struct s { int a; b_t b; }; long long c;' 1:19
+check_undeclared 'a name behind a type' 'int b_t a; long long c;' 1:5
+check_undeclared 'a name in a declarator' $'double a;\nint f(int n, char *b_t *p) { return n; }' 2:20
+check 'behind what is not read no name is told' 2 "$room/left.c:1:9: refused F7: unexpected token
+" eval 'echo "int a = ; double c; int d[2] = { [e] = 1 };" >"$room/left.c"
+    ./sparrow source --format=plain "$room/left.c"'
+check 'another fault before it' 2 "$room/left.c:1:15: refused U2: setjmp
+" eval 'echo "int f(void) { setjmp(0); return 0; } double g(void) { return b_t; }" \
+    >"$room/left.c"; ./sparrow source --format=plain "$room/left.c"'
 printf '#define A b +\nint f(void) { return A 1; }\n' >"$room/macro.c"
 check 'the name that a macro writes' 2 "$room/macro.c:2:22: refused F8: undeclared name: b"$'\n' \
-    ./sparrow source "$room/macro.c"
+    ./sparrow source --format=plain "$room/macro.c"
 check 'a fault of the whole' 2 "$room/c90.c:1:5: refused F23: second definition"$'\n' \
-    ./sparrow source "$room/c90.c" "$room/c90.c"
+    ./sparrow source --format=plain "$room/c90.c" "$room/c90.c"
 printf 'struct __attribute__((packed)) s { char c; int i; };\n' >"$room/packed.c"
 check 'a word that lays out data' 2 "$room/missing.c:1:22: refused F8: undeclared name: missing
 $room/packed.c:1:23: refused: packed changes the layout
-" ./sparrow source "$room/missing.c" "$room/c99.c" "$room/packed.c"
+" ./sparrow source --format=plain "$room/missing.c" "$room/c99.c" "$room/packed.c"
 check 'what is kept is what was analysed' 1 \
     "$room/c99.c:16:19: overrun: offset [4,4], size [4,4]"$'\n1 alarm\n' eval '
     ./sparrow source --keep "$room/kept" "$room/c99.c" >/dev/null

@@ -7,7 +7,8 @@ trap 'rm -rf "$room"' EXIT
 
 usage=$'usage: sparrow COMMAND [OPTION] WORD..\n'
 commands='sparrow: the commands are: analyse [--values] FILE.., dense [--values] FILE..,'
-commands+=' source [--values] [--keep DIR] [CPP-OPTION..] FILE.c..'
+commands+=' source [--values] [--strict] [--keep DIR] [CPP-OPTION..] FILE.c..,'
+commands+=' source --compile-commands FILE [--target NAME] ..'
 file=examples/overrun.c
 check 'no words' 3 "$usage" ./sparrow
 check 'a command alone' 3 "$usage" ./sparrow analyse
@@ -16,7 +17,7 @@ check 'the flag twice' 3 "$usage" ./sparrow analyse --values --values "$file"
 check 'a value for the flag' 3 "$usage" ./sparrow analyse --values=1 "$file"
 check 'the flag without a file' 3 "$usage" ./sparrow dense --values
 check 'no file behind the end of options' 3 "$usage" ./sparrow dense --
-check 'help' 3 "$usage" ./sparrow analyse --help
+check 'help behind a file' 3 "$usage" ./sparrow analyse "$file" --help
 check 'an option in place of the file' 3 "$usage" ./sparrow analyse --fast
 check 'another command' 3 "$usage" ./sparrow Analyse "$file"
 check 'the file first' 3 "$usage" ./sparrow "$file" analyse

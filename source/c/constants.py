@@ -8,9 +8,10 @@ from typing import Callable, Optional
 
 from .trees import Expression, records_of
 from .types import (
-    DOUBLE, INT, LONG, UNSIGNED, UNSIGNED_LONG, Floating, Integer, MaybeType, common, layout_of,
-    promoted, size_of,
+    BOOL, DOUBLE, INT, LONG, UNSIGNED, UNSIGNED_LONG, Floating, Integer, MaybeType, common,
+    layout_of, promoted, size_of,
 )
+from .wide import wide_values
 
 INTEGER = re.compile(r"(0[xX][0-9a-fA-F]+|[0-9]+)([uUlL]*)")
 PURE = frozenset(
@@ -45,6 +46,9 @@ def integer_literal(text: str) -> Optional[tuple[int, Integer]]:
 
 def character_value(text: str) -> Optional[int]:
     """The value of a character constant of one character."""
+    if text.startswith("L"):
+        numbers = wide_values([text])
+        return numbers[0] if numbers is not None and len(numbers) == 1 else None
     inside = text[text.index("'") + 1 : -1]
     match = ESCAPE.fullmatch(inside)
     if match is None:
@@ -63,6 +67,8 @@ def string_length(texts: list[str]) -> int:
 
 def wrapped(value: int, kind: Integer) -> int:
     """The value as a number of that type."""
+    if kind is BOOL:
+        return int(value != 0)
     bits = kind.size * 8
     value &= (1 << bits) - 1
     return value - (1 << bits) if kind.is_signed and value >> (bits - 1) else value
@@ -127,7 +133,12 @@ def value_of(expression: Optional[Expression]) -> Optional[int]:
         return size_of(parts[0].type)
     if kind == "sizeof type" and expression.written is not None:
         return size_of(expression.written.type)
+    if kind == "generic" and parts:
+        return value_of(parts[0])
     if kind == "cast" and isinstance(parts[0].type, Floating):
+        if expression.type is BOOL:
+            number = floating_value(parts[0])
+            return None if number is None else int(number != 0)
         return in_type(truncated(floating_value(parts[0])), expression.type)
     if kind in ("unary", "cast"):
         return unary_value(expression, value_of(parts[0]))

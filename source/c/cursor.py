@@ -3,10 +3,12 @@
 from __future__ import annotations
 
 from abc import ABC, abstractmethod
+from typing import Optional
+
 from .scopes import Scopes
 from .tokens import NAME, Tokens, Unreadable
 from .trees import Declaration, Initialiser, Statement, TypeName
-from .words import SPECIFIERS, STRANGE
+from .words import ASSERTION, SPECIFIERS, STRANGE
 
 
 class Cursor(ABC):
@@ -20,6 +22,9 @@ class Cursor(ABC):
         self.scopes = Scopes()
         # The first call of each function that isn't declared there.
         self.implicit: dict[str, int] = {}
+        # The first name that isn't declared, as far as all parts before it are read.
+        self.undeclared: Optional[int] = None
+        self.is_whole = True
 
     def expect(self, value: str) -> int:
         """Goes past a token of that spelling, and gives its number."""
@@ -40,11 +45,17 @@ class Cursor(ABC):
         return Unreadable(self.at, text)
 
     def starts_type(self, token: int) -> bool:
-        """Whether specifiers with a type may begin at a token."""
+        """Whether a declaration may begin at a token."""
         value = self.values[token]
         if self.kinds[token] != NAME:
             return False
-        return value in SPECIFIERS or value in STRANGE or self.scopes.is_type(value)
+        is_word = value in SPECIFIERS or value in STRANGE or value == ASSERTION
+        return is_word or self.scopes.is_type(value)
+
+    def note_undeclared(self, token: int) -> None:
+        """Notes a name that isn't declared. Behind a part that isn't read none is for certain."""
+        if self.is_whole and self.undeclared is None:
+            self.undeclared = token
 
     @abstractmethod
     def type_name(self) -> TypeName:

@@ -13,7 +13,9 @@ from .trees import (
     RecordBody, Specifiers, TypeName,
 )
 from .types import ENUM, INT, Array, Function, MaybeType, Member, Pointer, Void, type_of_words
-from .words import ASSEMBLY, QUALIFIERS, RESERVED, STORAGE, STRANGE, TAGGED, TYPES
+from .words import (
+    ASSEMBLY, ASSERTION, QUALIFIERS, RESERVED, STORAGE, STRANGE, TAGGED, TYPES,
+)
 
 
 class Declarations(Expressions):
@@ -82,6 +84,9 @@ class Declarations(Expressions):
         members: list[Member] = []
         while not self.accept("}"):
             if self.accept(";"):
+                continue
+            if self.values[self.at] == ASSERTION:
+                body.members.append(self.assertion())
                 continue
             declaration = Declaration(self.specifiers())
             if self.values[self.at] == ";":
@@ -255,10 +260,24 @@ class Declarations(Expressions):
 
     def declaration(self) -> Declaration:
         """A declaration with its semicolon."""
+        if self.values[self.at] == ASSERTION:
+            return self.assertion()
         declaration = Declaration(self.specifiers())
         if self.values[self.at] != ";":
             self.declare(declaration, self.declarator(declaration.specifiers.type))
             self.declarators(declaration)
+        declaration.last = self.expect(";")
+        return declaration
+
+    def assertion(self) -> Declaration:
+        """A static assertion (C11 6.7.10, C23 6.7.11)."""
+        declaration = Declaration(Specifiers(self.at))
+        self.at += 1
+        self.expect("(")
+        declaration.assertion = self.conditional()
+        if self.accept(","):
+            self.strings()
+        self.expect(")")
         declaration.last = self.expect(";")
         return declaration
 

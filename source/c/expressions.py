@@ -5,11 +5,13 @@ from __future__ import annotations
 from . import rules
 from .constants import string_length
 from .cursor import Cursor
+from .generic import Choice, chosen_of
 from .placing import completed
 from .tokens import CHARACTER, NAME, NUMBER, STRING
 from .trees import Expression, TypeName
 from .types import INT, VOID, Function
-from .words import FUNCTION_NAMES, RESERVED
+from .wide import wide_values
+from .words import FUNCTION_NAMES, GENERIC, RESERVED
 
 LEVELS = [
     ["||"], ["&&"], ["|"], ["^"], ["&"], ["==", "!="], ["<", ">", "<=", ">="], ["<<", ">>"],
@@ -143,6 +145,8 @@ class Expressions(Cursor):
             return self.strings()
         if value == "(":
             return self.parenthesis()
+        if value == GENERIC:
+            return self.generic()
         if kind not in (NAME, NUMBER, CHARACTER) or value in RESERVED:
             raise self.unreadable("no expression")
         self.at += 1
@@ -164,9 +168,11 @@ class Expressions(Cursor):
         if symbol is None and self.values[self.at] == "(":
             symbol = self.scopes.declare("function", node.text, Function(INT, None, False))
             self.implicit.setdefault(node.text, node.first)
-        if symbol is not None and symbol.kind == "typedef":
+        if symbol is None:
+            self.note_undeclared(node.first)
+        elif symbol.kind == "typedef":
             raise self.unreadable("a type where an expression should be")
-        if symbol is not None:
+        else:
             symbol.uses.append(node.first)
         node.symbol = symbol
         node.type = None if symbol is None else symbol.type
@@ -178,7 +184,28 @@ class Expressions(Cursor):
             self.at += 1
         texts = self.values[first : self.at]
         node = self.made("string", first, [])
-        node.type = rules.string_type(string_length(texts), texts[0].startswith("L"))
+        if any(text.startswith("L") for text in texts):
+            numbers = wide_values(texts)
+            node.type = None if numbers is None else rules.string_type(len(numbers), True)
+        else:
+            node.type = rules.string_type(string_length(texts), False)
+        return node
+
+    def generic(self) -> Expression:
+        """`_Generic` (C11 6.5.1.1)."""
+        first = self.at
+        self.at += 1
+        self.expect("(")
+        control = self.assignment()
+        choices: list[Choice] = []
+        while self.accept(","):
+            written = None if self.accept("default") else self.type_name()
+            self.expect(":")
+            choices.append(Choice(written, self.assignment()))
+        self.expect(")")
+        chosen = chosen_of(control, choices, self.tokens)
+        node = self.made("generic", first, [] if chosen is None else [chosen])
+        node.type = None if chosen is None else chosen.type
         return node
 
     def parenthesis(self) -> Expression:

@@ -31,7 +31,8 @@ class Expression:
 
     name, number, character, string, function name (`__func__`), call (function, arguments), index,
     member (`text` is . or ->), postfix and prefix (++ and --), unary, cast, literal (`(T){..}`),
-    sizeof, sizeof type, binary, assign, conditional, comma, parenthesis, block (`({ .. })`).
+    sizeof, sizeof type, binary, assign, conditional, comma, parenthesis, block (`({ .. })`),
+    generic (`_Generic`, whose part is the expression that is chosen, where that is known).
     """
 
     __slots__ = (
@@ -183,15 +184,17 @@ class Specifiers:
 
 
 class Declaration:
-    """A declaration, a parameter, or the declaration of members."""
+    """A declaration, a parameter, the declaration of members, or a static assertion."""
 
-    __slots__ = ("first", "last", "specifiers", "declarators")
+    __slots__ = ("first", "last", "specifiers", "declarators", "assertion")
 
     def __init__(self, specifiers: Specifiers) -> None:
         self.first = specifiers.first
         self.last = specifiers.last
         self.specifiers = specifiers
         self.declarators: list[Declarator] = []
+        # What `_Static_assert` wants to be true.
+        self.assertion: Optional[Expression] = None
 
 
 class Statement:

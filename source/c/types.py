@@ -114,6 +114,8 @@ ENUM = Integer("int", 4, True)
 UNSIGNED = Integer("unsigned int", 4, False)
 LONG = Integer("long", 8, True)
 UNSIGNED_LONG = Integer("unsigned long", 8, False)
+# `_Bool` (C99 6.2.5): it holds 0 or 1, and what becomes one is 1 unless it is 0.
+BOOL = Integer("unsigned char", 1, False)
 FLOAT = Floating("float", 4)
 DOUBLE = Floating("double", 8)
 LONG_DOUBLE = Floating("long double", 16)
@@ -127,6 +129,7 @@ BY_WORDS: dict[tuple[str, ...], Type] = {
     ("short",): SHORT,
     ("short", "unsigned"): UNSIGNED_SHORT,
     (): INT,
+    ("_Bool",): BOOL,
     ("unsigned",): UNSIGNED,
     ("long",): LONG,
     ("long", "unsigned"): UNSIGNED_LONG,

@@ -5,9 +5,10 @@ from __future__ import annotations
 from typing import Union
 
 from .statements import Statements
-from .tokens import END, Unreadable
+from .tokens import END, NAME, Unreadable
 from .trees import Declaration, Declarator, External, FunctionDefinition, Unread
 from .types import INT, Array, Function, MaybeType, Pointer
+from .words import ASSERTION, RESERVED
 
 
 class Units(Statements):
@@ -19,16 +20,28 @@ class Units(Statements):
         while self.kinds[self.at] != END:
             if self.accept(";"):
                 continue
-            first = self.at
+            first, known = self.at, len(self.scopes.names[0])
             try:
                 parts.append(self.external())
             except (Unreadable, RecursionError) as error:
                 token = error.token if isinstance(error, Unreadable) else first
                 text = error.text if isinstance(error, Unreadable) else "too deep"
+                if self.is_undeclared_type(first, token - 1, known):
+                    self.note_undeclared(token - 1)
+                self.is_whole = False
                 self.scopes.leave_to(1)
                 self.at = self.behind_external(first)
                 parts.append(Unread(first, self.at - 1, token, text))
         return parts
+
+    def is_undeclared_type(self, first: int, token: int, known: int) -> bool:
+        """Whether a name stands where a type or nothing should be, and so many names that were
+        declared before the part from `first` on don't have it."""
+        if token < first or self.kinds[token] != NAME or self.values[token] in RESERVED:
+            return False
+        if self.kinds[token + 1] != NAME and self.values[token + 1] != "*":
+            return False
+        return self.values[token] not in list(self.scopes.names[0])[:known]
 
     def behind_external(self, token: int) -> int:
         """The token behind a part at file scope that begins at a token."""
@@ -51,6 +64,8 @@ class Units(Statements):
 
     def external(self) -> External:
         """A declaration or a function."""
+        if self.values[self.at] == ASSERTION:
+            return self.assertion()
         specifiers = self.specifiers()
         if self.values[self.at] == ";":
             declaration = Declaration(specifiers)

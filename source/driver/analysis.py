@@ -43,7 +43,24 @@ def has_words(text: str) -> bool:
 
 
 def analysed(room: Room, request: Request) -> tuple[int, bytes]:
-    """Status and answer over the texts as they are now."""
+    """Status and answer over the texts as they are now, or with copies where these are accepted."""
+    if request.copied is None or request.is_strict:
+        return run_program(room, request)
+    from .copying import Copying
+
+    with Progress("copying"):
+        copying = Copying(room, request.copied)
+    answer = run_program(room, request)
+    if copying.is_done and answer[0] == REFUSED:
+        copying.take_back()
+        return run_program(room, request)
+    if answer[0] != REFUSED:
+        copying.tell()
+    return answer
+
+
+def run_program(room: Room, request: Request) -> tuple[int, bytes]:
+    """Status and answer over the texts."""
     report = room.path("report")
     program = os.environ["SPARROW_PROGRAM"]
     with Progress("analysing"):

@@ -19,6 +19,7 @@ from .words import Request, Source, read_words
 def main(words: list[str]) -> int:
     """Runs the command, and gives its status."""
     hear_signals()
+    request = None
     try:
         request = read_words(words)
         if request is None:
@@ -27,15 +28,16 @@ def main(words: list[str]) -> int:
         else:
             status = analyse(request)
     except Failure as failure:
-        say(failure.text)
-        return failure.status
+        failure.say()
+        return failed(request, failure.status, failure.text)
     except Stopped as stopped:
         return stopped.status
     except MemoryError:
         status = NO_MEMORY
     except OSError as error:
-        say(f"{error.filename or 'a temporary file'}: {error.strerror}")
-        return NOT_RUN
+        said = f"{error.filename or 'a temporary file'}: {error.strerror}"
+        say(said)
+        return failed(request, NOT_RUN, said)
     if status in SAID_OF_STATUS:
         say(SAID_OF_STATUS[status])
     return status
@@ -45,6 +47,13 @@ def analyse(request: Request) -> int:
     """Preprocesses the files, analyses what comes of them, and writes the report."""
     preprocessor = Preprocessor()
     sources = sources_of(request)
+    files = [source.file for source in sources]
+    writer = None
+    if not request.report.is_plain:
+        # What writes reports is read only where it is needed.
+        from report.writer import Writer
+
+        writer = Writer(request.report)
     for source in sources:
         if not is_readable(source.file):
             raise Failure(UNREADABLE, f"{source.file} can't be read")
@@ -52,10 +61,27 @@ def analyse(request: Request) -> int:
         for number, source in enumerate(sources, 1):
             with Progress(f"preprocessing {number} of {len(sources)}"):
                 preprocessor.write(source.file, source.options, room.place_for(source.file))
-        answer = answer_over(room, [source.file for source in sources], request)
+        if writer is not None:
+            writer.remember(files, room.texts)
+        answer = answer_over(room, files, request)
         if request.keep is not None:
             room.keep(request.keep)
+        if writer is not None:
+            answer = writer.told(answer)
         return answer.status if is_written(answer) else UNWRITTEN
+
+
+def failed(request: Request | None, status: int, text: str) -> int:
+    """Writes that the run has failed, where the form of its report has room for it."""
+    if request is not None and not request.report.is_plain:
+        from report import writer
+
+        try:
+            is_written(writer.failed(request.report, status, text))
+        except Failure:
+            # The file of the report was what failed, or fails now too.
+            pass
+    return status
 
 
 def sources_of(request: Request) -> list[Source]:

@@ -12,6 +12,8 @@ from .words import WITH_ARGUMENT, Request, Source
 
 # Options whose argument is the name of a folder or file.
 WITH_PATH = WITH_ARGUMENT - {"-D", "-U"}
+# What a folder of a target's outputs has behind the name: CMake's, and Meson's.
+TARGET_ENDINGS = ("dir", "p")
 
 
 def sources_in(database: str, request: Request) -> list[Source]:
@@ -28,15 +30,32 @@ def sources_in(database: str, request: Request) -> list[Source]:
             seen.add(told)
             found.append(source)
     missing = wanted - {os.path.realpath(source.file) for source in found}
+    if not found and not missing and request.target is not None:
+        raise Failure(
+            USAGE, f"{database} has no target {request.target}: {choices_in(database)}"
+        )
     if missing or not found:
-        what = min(missing) if missing else "a file of that target"
+        what = min(missing) if missing else "a file of C"
         raise Failure(USAGE, f"{database} has no entry for {what}")
     names: set[str] = set()
     for source in found:
         if source.file in names:
-            raise Failure(USAGE, f"{source.file} is compiled more than once; --target NAME chooses")
+            raise Failure(
+                USAGE, f"{source.file} is compiled more than once: {choices_in(database)}"
+            )
         names.add(source.file)
     return found
+
+
+def choices_in(database: str) -> str:
+    """What `--target` may be for a database."""
+    targets: set[str] = set()
+    for entry in read_entries(database):
+        if isinstance(entry, dict):
+            targets |= targets_of(output_of(entry.get("output"), words_of(entry, database)))
+    if not targets:
+        return "give the files of one program, since no output tells a target"
+    return f"--target NAME takes one of {', '.join(sorted(targets))}"
 
 
 def read_entries(path: str) -> list[object]:
@@ -58,32 +77,55 @@ def source_of(entry: object, request: Request) -> Optional[Source]:
     if not isinstance(entry, dict):
         raise Failure(USAGE, f"{request.database} has an entry that is no command")
     folder, file = entry.get("directory"), entry.get("file")
-    words = entry.get("arguments")
-    if words is None and isinstance(entry.get("command"), str):
-        try:
-            words = shlex.split(entry["command"])
-        except ValueError as error:
-            raise Failure(USAGE, f"{request.database} has a command that isn't closed") from error
+    words = words_of(entry, request.database or "")
     if (
         not isinstance(folder, str)
         or not isinstance(file, str)
-        or not isinstance(words, list)
-        or not all(isinstance(word, str) for word in words)
+        or words is None
     ):
         raise Failure(USAGE, f"{request.database} has an entry without directory, file or command")
-    if not file.endswith(".c") or not is_of_target(entry.get("output"), words, request.target):
+    is_wanted = is_of_target(output_of(entry.get("output"), words), request.target)
+    if not file.endswith(".c") or not is_wanted:
         return None
     return Source(from_folder(folder, file), options_of(folder, words) + request.options)
 
 
-def is_of_target(output: object, words: list[str], target: Optional[str]) -> bool:
+def words_of(entry: dict[object, object], database: str) -> Optional[list[str]]:
+    """The words of an entry's command, where it has one."""
+    words, command = entry.get("arguments"), entry.get("command")
+    if words is None and isinstance(command, str):
+        try:
+            return shlex.split(command)
+        except ValueError as error:
+            raise Failure(USAGE, f"{database} has a command that isn't closed") from error
+    if not isinstance(words, list) or not all(isinstance(word, str) for word in words):
+        return None
+    return words
+
+
+def output_of(output: object, words: Optional[list[str]]) -> str:
+    """Where a command writes to."""
+    if isinstance(output, str):
+        return output
+    return words[words.index("-o") + 1] if words and "-o" in words[:-1] else ""
+
+
+def targets_of(output: str) -> set[str]:
+    """The target that an output tells: a folder NAME.dir or NAME.p, or else the last one."""
+    folders = [folder for folder in output.split("/")[:-1] if folder not in ("", ".", "..")]
+    for folder in folders:
+        stem, dot, ending = folder.rpartition(".")
+        if stem and dot and ending in TARGET_ENDINGS:
+            return {stem}
+    return set(folders[-1:])
+
+
+def is_of_target(output: str, target: Optional[str]) -> bool:
     """Whether what is compiled belongs to a target: a folder of its output has its name."""
     if target is None:
         return True
-    if not isinstance(output, str):
-        output = words[words.index("-o") + 1] if "-o" in words[:-1] else ""
-    folders = output.split("/")
-    return any(name in folders for name in (target, f"{target}.dir", f"{target}.p"))
+    names = (target, *(f"{target}.{ending}" for ending in TARGET_ENDINGS))
+    return any(name in output.split("/") for name in names)
 
 
 def options_of(folder: str, words: list[str]) -> list[str]:

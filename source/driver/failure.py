@@ -17,12 +17,19 @@ SAID_OF_STATUS = {
 
 
 class Failure(Exception):
-    """Ends the run with a status; the text goes to standard error."""
+    """Ends the run with a status; the text goes to standard error, and then what may help."""
 
-    def __init__(self, status: int, text: str) -> None:
+    def __init__(self, status: int, text: str, hint: str | None = None) -> None:
         super().__init__(text)
         self.status = status
         self.text = text
+        self.hint = hint
+
+    def say(self) -> None:
+        """Writes both."""
+        say(self.text)
+        if self.hint is not None:
+            say(f"hint: {self.hint}")
 
 
 class Stopped(BaseException):

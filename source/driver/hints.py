@@ -10,7 +10,7 @@ SPLIT = "split the program, or give fewer files"
 REWRITTEN = "--strict leaves it as it is; without --strict it is rewritten"
 HINTS = {
     "": "it has to go from the source; -D'__attribute__(x)=' takes all out, and sizes differ then",
-    "F8": "-DNAME=VALUE gives a constant that no header here has",
+    "F8": "-DNAME=VALUE gives a constant, and -DNAME=TYPE a type, that no header here has",
     "F9": "-D_ANSI_SOURCE hides the names of POSIX in the headers of C90",
     "F19": "a length must be constant: give the greatest",
     "F23": "a header says extern, and one file defines the object",
@@ -26,8 +26,8 @@ HINTS = {
     "M7": SPLIT,
     "M9": SPLIT,
 }
-# What is rewritten.
-OF_STRICT = frozenset(["F7", "F13", "U1", "U4", "U5", "U6", "U7", "U9", "U10"])
+# The codes of what is rewritten.
+OF_STRICT = frozenset(["F7", "F13", "U1", "U4", "U5", "U6", "U7", "U9", "U10", "U11"])
 
 
 def hint_for(refusal: Refusal, is_strict: bool) -> Optional[str]:

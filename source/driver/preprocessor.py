@@ -24,6 +24,10 @@ NAMES = (
 ).split()
 
 
+# Where headers of other libraries are.
+SYSTEM = ("/usr/include", "/usr/include/x86_64-linux-gnu")
+
+
 class Preprocessor:
     """The preprocessor that the variable CPP names; it may be several words."""
 
@@ -41,5 +45,25 @@ class Preprocessor:
         """Writes the file, preprocessed, to the place `text`."""
         # A name that begins with - would be an option.
         name = f"./{file}" if file.startswith("-") else file
-        if run(self.words + options + [name], output=text) != 0:
-            raise Failure(USAGE, f"{file} was not preprocessed by {self.name}")
+        words = self.words + options + [name]
+        if run(words, output=text) != 0:
+            # Once more, since what the preprocessor says is read only where it fails.
+            run(words, output=text, errors=f"{text}.said")
+            hint = hint_for_header(f"{text}.said")
+            raise Failure(USAGE, f"{file} was not preprocessed by {self.name}", hint)
+
+
+def hint_for_header(said: str) -> str | None:
+    """What helps where the preprocessor has said that a header is missing."""
+    import re
+
+    with open(said, encoding="utf-8", errors="replace") as file:
+        text = file.read()
+    match = re.search(r'#[ \t]*include[ \t]*[<"]([^>"\n]+)[>"]', text)
+    if match is None or f": {match.group(1)}: " not in text:
+        return None
+    name = match.group(1)
+    for folder in SYSTEM:
+        if os.path.exists(os.path.join(folder, name)):
+            return f"-idirafter {folder} gives {name}"
+    return f"-I tells in which folder {name} is"

@@ -2,8 +2,9 @@
 
 from __future__ import annotations
 
+# The built-in module: `signal` makes enumerations of it, for longer than all else takes here.
+import _signal as signal  # type: ignore[import]
 import os
-import signal
 from types import FrameType
 
 from .failure import Stopped

@@ -2,7 +2,6 @@
 
 from __future__ import annotations
 
-import signal
 import sys
 import time
 from types import FrameType, TracebackType
@@ -23,6 +22,8 @@ class Progress:
 
     def __enter__(self) -> Progress:
         if self.is_seen:
+            import signal
+
             signal.signal(signal.SIGALRM, self.tell)
             signal.setitimer(signal.ITIMER_REAL, PATIENCE, STEP)
         return self
@@ -34,6 +35,8 @@ class Progress:
         trace: TracebackType | None,
     ) -> None:
         if self.is_seen:
+            import signal
+
             signal.setitimer(signal.ITIMER_REAL, 0)
             if time.monotonic() - self.start >= PATIENCE:
                 self.write(CLEAR)

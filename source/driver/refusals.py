@@ -45,25 +45,25 @@ def read_refusal(answer: bytes) -> Optional[Refusal]:
     return Refusal(file, int(line), int(column), code.decode(), text)
 
 
-def first_faults(program: str, room: Room, known: dict[int, Refusal]) -> list[Refusal]:
-    """The first fault of each file that has one; of some files it is known by their numbers."""
+def first_faults(program: str, room: Room, known: dict[int, Refusal]) -> dict[int, Refusal]:
+    """The first fault of each file that has one, by its number; of some files it is known."""
     probe, answer = room.path("probe"), room.path("answer")
     with open(probe, "wb") as file:
         file.write(PROBE)
-    faults = []
+    faults = {}
     for number, text in enumerate(room.texts):
         fault = known.get(number)
         if fault is None and run([program, "analyse", "--", text, probe], output=answer) == REFUSED:
             with open(answer, "rb") as file:
                 fault = read_refusal(file.read())
         if fault is not None and fault.file != os.fsencode(probe):
-            faults.append(fault)
+            faults[number] = fault
     return faults
 
 
 def with_name(refusal: Refusal, texts: list[str]) -> Refusal:
     """A refusal of an undeclared name with the name, where the place in the texts tells it."""
-    if refusal.code != "F8":
+    if refusal.code != "F8" or b":" in refusal.text:
         return refusal
     from c.places import Place, Places
 

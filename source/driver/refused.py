@@ -7,11 +7,15 @@ import os
 from .analysis import Answer, analysed
 from .failure import REFUSED
 from .hints import hint_for
+from .programs import hint_of_programs
 from .progress import Progress
 from .refusals import OF_THE_WHOLE, Refusal, first_faults, read_refusal, with_name
-from .rewriter import clear_texts, rewrite_texts
+from .rewriter import Changes, clear_texts, rewrite_texts
 from .room import Room
 from .words import Request
+
+# What two files may have that don't belong together.
+OF_TWO_FILES = frozenset(["F23", "F24"])
 
 
 class RefusedTexts:
@@ -29,25 +33,30 @@ class RefusedTexts:
         if not refused:
             status, answer = first or analysed(self.room, self.request)
         fault = read_refusal(answer)
+        changes = Changes()
         if status == REFUSED and not self.request.is_strict and not is_of_the_whole(fault):
             with Progress("rewriting"):
-                is_changed = rewrite_texts(self.room, self.files, refused)
-            if is_changed and not refused:
+                changes = rewrite_texts(self.room, self.files, refused)
+            if changes.is_changed and not refused:
                 status, answer = analysed(self.room, self.request)
                 fault = read_refusal(answer)
         if status != REFUSED:
             return Answer(status, [(answer, None)])
-        faults = list(refused.values())
+        faults = refused
         if len(self.room.texts) > 1 and not is_of_the_whole(fault):
             faults = first_faults(os.environ["SPARROW_PROGRAM"], self.room, refused)
         if not faults and fault is not None:
-            faults = [fault]
-        return Answer(status, [self.told(refusal) for refusal in faults] or [(answer, None)])
+            faults = {0: fault}
+        told = [self.told(changes.instead_of(*fault)) for fault in faults.items()]
+        return Answer(status, told or [(answer, None)])
 
     def told(self, refusal: Refusal) -> tuple[bytes, str | None]:
         """The line of a refusal, and what may help."""
         line = with_name(refusal, self.room.texts).bytes()
-        return self.with_source(line), hint_for(refusal, self.request.is_strict)
+        hint = hint_for(refusal, self.request.is_strict)
+        if refusal.code in OF_TWO_FILES:
+            hint = hint_of_programs(self.room.texts, self.files, self.request) or hint
+        return self.with_source(line), hint
 
     def with_source(self, line: bytes) -> bytes:
         """A line of refusal with the word of a source, where it begins with that of its text."""

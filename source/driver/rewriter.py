@@ -7,6 +7,7 @@ import os
 from c.attributes import clear_attributes
 
 from .failure import say
+from .hints import OF_STRICT
 from .refusals import Refusal
 from .room import Room
 
@@ -38,8 +39,26 @@ def write_text(path: str, text: str) -> None:
         file.write(text)
 
 
-def rewrite_texts(room: Room, files: list[str], refused: dict[int, Refusal]) -> bool:
-    """Whether something was rewritten. Texts that are refused already stay as they are."""
+class Changes:
+    """Whether something was rewritten; and of texts, by their numbers, an undeclared name."""
+
+    def __init__(self) -> None:
+        self.is_changed = False
+        self.undeclared: dict[int, Refusal] = {}
+        # Texts that keep a form.
+        self.left: set[int] = set()
+
+    def instead_of(self, number: int, fault: Refusal) -> Refusal:
+        """The fault that is told of a text: for a form that is kept, the undeclared name."""
+        undeclared = self.undeclared.get(number)
+        if undeclared is None:
+            return fault
+        is_kept = number in self.left and fault.code in OF_STRICT
+        return undeclared if is_kept or fault[:4] == undeclared[:4] else fault
+
+
+def rewrite_texts(room: Room, files: list[str], refused: dict[int, Refusal]) -> Changes:
+    """Rewrites the texts. Those that are refused already stay as they are."""
     # What rewrites is read only where it is needed.
     from rewriting.forms import told
     from rewriting.program import rewrite
@@ -47,18 +66,23 @@ def rewrite_texts(room: Room, files: list[str], refused: dict[int, Refusal]) -> 
     numbers = [number for number in range(len(files)) if number not in refused]
     texts = [(latin(files[number]), read_text(room.texts[number])) for number in numbers]
     counts: dict[str, int] = {}
-    is_changed = False
+    changes = Changes()
     for number, (_, before), after in zip(numbers, texts, rewrite(texts)):
         if after.left:
+            changes.left.add(number)
             say(f"left as it is: {after.left[0]}")
+        if after.undeclared is not None:
+            (name, line, column), word = after.undeclared
+            said = f"undeclared name: {word}".encode()
+            changes.undeclared[number] = Refusal(name.encode("latin-1"), line, column, "F8", said)
         if after.text != before:
-            is_changed = True
+            changes.is_changed = True
             write_text(room.texts[number], after.text)
         for form, count in after.counts.items():
             counts[form] = counts.get(form, 0) + count
-    if is_changed:
+    if changes.is_changed:
         say(f"rewritten: {told(counts)}")
-    return is_changed
+    return changes
 
 
 def latin(file: str) -> str:

@@ -16,10 +16,10 @@ from c.placing import Unplaced, place
 from c.rules import called_function, operand_type
 from c.trees import Declarator, Expression, FunctionDefinition, Initialiser, Specifiers, Statement
 from c.types import (
-    DOUBLE, FLOAT, LONG_DOUBLE, Array, Floating, Function, Integer, MaybeType, Record, Void,
+    BOOL, DOUBLE, FLOAT, LONG_DOUBLE, Array, Floating, Function, Integer, MaybeType, Record, Void,
 )
 
-from .unit import Program, Unit
+from .unit import Program, Unit, Untyped
 from .walk import Context, Rewriting, Walk
 
 WORDS = {"double": "long", "float": "int"}
@@ -27,25 +27,17 @@ LOGICAL = frozenset(["&&", "||"])
 COMPARING = frozenset(["<", ">", "<=", ">=", "==", "!="])
 # As what starts a static object; converted to a signed type of its size it is any number.
 CONSTANTS = {8: "18446744073709551615u", 4: "4294967295u"}
-
-
-class Untyped(Exception):
-    """A unit whose floating numbers can't be rewritten, and why."""
-
-    def __init__(self, token: int, text: str) -> None:
-        super().__init__(text)
-        self.token = token
-        self.text = text
+# A condition that goes both ways.
+EITHER = f"((long){CONSTANTS[8]}) != 0"
 
 
 def any_of(kind: MaybeType) -> str:
     """An expression that is any number of a type."""
+    if kind is BOOL:
+        return f"({EITHER})"
     if isinstance(kind, Integer):
         return f"(({kind.spelling})(long){CONSTANTS[8]})"
     return f"((int){CONSTANTS[4]})" if kind is FLOAT else f"((long){CONSTANTS[8]})"
-
-
-EITHER = f"{any_of(DOUBLE)} != 0"
 
 
 class Floats(Rewriting):

@@ -28,6 +28,10 @@ FORMS = {
     "builtin function": "builtin functions",
     "step of a void pointer": "steps of void pointers",
     "empty asm": "empty asm",
+    "static assertion": "static assertions",
+    "_Generic": "_Generic",
+    "wide literal": "wide literals",
+    "file with _Bool": "files with _Bool",
     "file with floating numbers": "files with floating numbers",
 }
 

@@ -41,6 +41,7 @@ class InnerBlocks(Rewriting):
             return (
                 not specifiers.storage - {"register", "auto"}
                 and specifiers.body is None
+                and node.declaration.assertion is None
                 and not specifiers.is_tag_local
                 and all(has_form_as_assignment(each) for each in node.declaration.declarators)
             )

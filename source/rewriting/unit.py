@@ -12,6 +12,15 @@ from c.trees import External, FunctionDefinition, Unread
 from c.units import Units
 
 
+class Untyped(Exception):
+    """A unit whose floating numbers and _Bool can't be rewritten, and why."""
+
+    def __init__(self, token: int, text: str) -> None:
+        super().__init__(text)
+        self.token = token
+        self.text = text
+
+
 class Unit:
     """A preprocessed text with its trees and edits, and what was rewritten in it."""
 
@@ -23,6 +32,8 @@ class Unit:
         self.parts: list[Union[External, Unread]] = reader.unit()
         # The first call of each function that isn't declared there.
         self.implicit = reader.implicit
+        # The first name that isn't declared.
+        self.undeclared = reader.undeclared
         self.edits = Edits(self.tokens, self.places)
         # How often each form was rewritten, by its name in FORMS.
         self.counts: dict[str, int] = {}

@@ -1,0 +1,1 @@
+"""Copies of functions for each call, so that what they do is told apart by the caller."""

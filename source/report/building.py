@@ -1,0 +1,95 @@
+"""From the program's answer to a report: findings with their places, less what is ignored."""
+
+from __future__ import annotations
+
+import os
+import re
+from typing import Optional
+
+from c.places import Place
+from driver.analysis import Answer
+from driver.failure import ALARMS, CLEAN, REFUSED, SAID_OF_STATUS, say
+
+from . import kinds
+from .folding import Finding, fold
+from .ignore import Reasons
+from .items import NEW, UNCHANGED, Item, Refused, Report
+from .sentences import sentence
+from .shown import shown
+from .sources import Sources, unescaped
+from .spots import Spots
+
+REFUSAL = re.compile(
+    r"(.*):([0-9]+):([0-9]+): refused(?: ([A-Z]+[0-9]+))?: ([^\n]*)\n", re.DOTALL
+)
+
+# The texts that were analysed, before they were rewritten, each with the name of its file.
+Texts = list[tuple[str, str]]
+
+
+def built(answer: Answer, sources: Sources, texts: Texts) -> Report:
+    """The report of an answer."""
+    report = Report(answer.status)
+    parts = [(part.decode("latin-1"), hint) for part, hint in answer.parts]
+    if answer.status in (CLEAN, ALARMS):
+        folded = fold("".join(part for part, _ in parts))
+        report.values = folded.values
+        take_findings(report, folded.findings, sources, texts)
+    elif answer.status == REFUSED:
+        take_refusals(report, parts, sources, texts)
+    else:
+        report.failure = SAID_OF_STATUS.get(answer.status, "the analysis was ended")
+    return report
+
+
+def take_findings(
+    report: Report, findings: list[Finding], sources: Sources, texts: Texts
+) -> None:
+    """Takes findings into the report; a comment in its line takes one out."""
+    spots = Spots(sources, texts, findings)
+    reasons = Reasons()
+    unreasoned: dict[tuple[str, int], None] = {}
+    for finding in findings:
+        spot = spots.of(finding)
+        said = sentence(finding, None if spot is None else spot.expression)
+        item = Item(finding, unescaped(finding.place.file), spot, said)
+        reason = None if spot is None else reasons.of(spot.text)
+        if reason:
+            item.justification = shown(reason)
+            report.ignored.append(item)
+            continue
+        if reason is not None:
+            unreasoned[item.file, item.line] = None
+        report.warnings.append(item)
+    for file, line in unreasoned:
+        say(f"{file}:{line}: 'sparrow: ignore' wants a reason")
+
+
+def take_refusals(
+    report: Report, parts: list[tuple[str, Optional[str]]], sources: Sources, texts: Texts
+) -> None:
+    """Takes lines of refusal into the report."""
+    read: list[tuple[Finding, str, str, Optional[str]]] = []
+    for part, hint in parts:
+        match = REFUSAL.fullmatch(part)
+        if match is not None:
+            file, line, column, code, text = match.groups()
+            finding = Finding(Place(file, int(line), int(column)), kinds.REFUSED)
+            read.append((finding, code or "", text, hint))
+    spots = Spots(sources, texts, [finding for finding, *_ in read])
+    for finding, code, text, hint in read:
+        item = Item(finding, unescaped(finding.place.file), spots.of(finding), shown(text))
+        report.refusals.append(Refused(item, code, hint))
+
+
+def compare(report: Report, known: set[str]) -> None:
+    """Tells of each warning whether it is known, and how many that are known are gone."""
+    for item in report.warnings:
+        item.state = UNCHANGED if item.fingerprint in known else NEW
+    found = {item.fingerprint for item in report.warnings + report.ignored}
+    report.gone = len(known - found)
+
+
+def latin(name: str) -> str:
+    """The word of a file with a character for each byte, as markers spell it."""
+    return os.fsencode(name).decode("latin-1").replace("\\", "\\\\").replace('"', '\\"')

@@ -1,0 +1,127 @@
+"""What a finding says, in words."""
+
+from __future__ import annotations
+
+from typing import Optional
+
+from .expressions import ACCESS, CALL, CHAIN
+from .folding import Finding, Interval
+from .kinds import NO_FUNCTION, NULL, OVERRUN, PUNNED, ZERO
+from .spots import Expression
+
+# The program's greatest and least numbers: a bound there is none, and sizes end at the greatest.
+LEAST, GREATEST = -(2**63), 2**63 - 1
+
+
+def sentence(finding: Finding, expression: Optional[Expression]) -> str:
+    """The sentence of a finding, without an end."""
+    said = about(finding, expression)
+    return said if finding.alarms == 1 else f"{said} ({finding.alarms} alarms)"
+
+
+def about(finding: Finding, expression: Optional[Expression]) -> str:
+    """What is said of a finding's kind."""
+    if finding.kind == OVERRUN:
+        return overrun(finding, expression)
+    if finding.kind == ZERO:
+        return divisor(finding.intervals["value"], expression)
+    if finding.kind == PUNNED:
+        return punned(finding, expression)
+    if finding.kind == NO_FUNCTION:
+        is_told = expression is not None and expression.role == CALL
+        what = f"'{expression.followed}'" if expression and is_told else "what is called"
+        return f"{what} may be no function of as many parameters"
+    if finding.kind == NULL:
+        return f"{following(expression)} the null pointer"
+    return f"{following(expression)} {number(finding.intervals['value'])}, which is no pointer"
+
+
+def following(expression: Optional[Expression]) -> str:
+    """What is followed as a pointer, and that it may be something else."""
+    if expression is None:
+        return "what is followed here may be"
+    if expression.role == CALL:
+        return f"the call of '{expression.followed}' may follow"
+    if expression.role == CHAIN:
+        return f"what is followed in '{expression.whole}' may be"
+    return f"'{expression.followed}' may be"
+
+
+def overrun(finding: Finding, expression: Optional[Expression]) -> str:
+    """Where an access may be, and what the object has."""
+    offset, count, size = (finding.intervals[name] for name in ("offset", "count", "size"))
+    if count != (1, 1):
+        taken = f"{range_of(count)} elements from offset {range_of(offset)}"
+        return f"{access(expression)} may take {taken}, but {has(size)}"
+    verb = "be"
+    if expression is not None:
+        verb = {ACCESS: "be accessed", CALL: "access an element", CHAIN: "be"}[expression.role]
+    where = at_offset(outside(offset, size[0]))
+    return f"{access(expression)} may {verb} {where}, but {has(size)}"
+
+
+def access(expression: Optional[Expression]) -> str:
+    """What accesses: an expression, one within it, or the call of a function of the library."""
+    if expression is None:
+        return "an access"
+    before = {ACCESS: "", CALL: "the call of ", CHAIN: "an access in "}[expression.role]
+    return f"{before}'{expression.whole}'"
+
+
+def outside(offset: Interval, size: int) -> Interval:
+    """The offsets among these that are outside an object of that size; all where both sides are."""
+    low, high = offset
+    if low >= 0 and high >= size:
+        return max(low, size), high
+    if low < 0 and high < size:
+        return low, min(high, -1)
+    return offset
+
+
+def at_offset(offset: Interval) -> str:
+    """Where an access may be."""
+    if offset == (LEAST, GREATEST):
+        return "at any offset"
+    return f"at offset {range_of(offset)}"
+
+
+def range_of(interval: Interval) -> str:
+    """The numbers of an interval. A bound at an end of all numbers is none."""
+    low, high = interval
+    if low == high:
+        return str(low)
+    if high >= GREATEST:
+        return f"{low} or more"
+    return f"{high} or less" if low <= LEAST else f"{low} to {high}"
+
+
+def has(size: Interval) -> str:
+    """What an object has."""
+    low, high = size
+    if low <= 1 and high >= GREATEST:
+        return "the object's size isn't known"
+    return f"the object has {range_of(size)} element{'' if size == (1, 1) else 's'}"
+
+
+def number(value: Interval) -> str:
+    """A number of an interval."""
+    low, high = value
+    if low <= LEAST and high >= GREATEST:
+        return "any number"
+    return str(low) if low == high else f"a number between {low} and {high}"
+
+
+def divisor(value: Interval, expression: Optional[Expression]) -> str:
+    """What a divisor may be."""
+    what = "the divisor" if expression is None else f"the divisor '{expression.whole}'"
+    if value == (0, 0):
+        return f"{what} is 0 here"
+    return f"{what} may be 0: it is {number(value)}"
+
+
+def punned(finding: Finding, expression: Optional[Expression]) -> str:
+    """Which type doesn't match which elements."""
+    elements, types = (
+        " or ".join(map(str, sorted(finding.sizes[name]))) for name in ("element", "access")
+    )
+    return f"{access(expression)} may take elements of {elements} bytes as a type of {types} bytes"

@@ -1,0 +1,77 @@
+"""The report for people."""
+
+from __future__ import annotations
+
+from .excerpt import Excerpt
+from .folding import places_of
+from .items import Item, Report
+from .shown import CONTROL, REPLACEMENT
+
+BOLD, WARNING, ERROR, MARK, PLAIN = "\x1b[1m", "\x1b[1;35m", "\x1b[1;31m", "\x1b[1;32m", "\x1b[0m"
+
+
+class Text:
+    """Writes a report, with colours or without."""
+
+    def __init__(self, has_colors: bool) -> None:
+        self.has_colors = has_colors
+
+    def document(self, report: Report) -> bytes:
+        """The report. Names of files keep bytes that are no text, so that they can be opened."""
+        if report.failure is not None:
+            return b""
+        lines = [self.told(item, f"{item.message} [{item.kind}]") for item in report.shown]
+        for refusal in report.refusals:
+            code = f" [{refusal.code}]" if refusal.code else ""
+            lines.append(self.told(refusal.item, f"{refusal.item.message}{code}", "error"))
+        lines.append(last_line(report))
+        lines += [raw(line) for line in report.values]
+        return "".join(f"{line}\n" for line in lines).encode("utf-8", "surrogateescape")
+
+    def told(self, item: Item, said: str, word: str = "warning") -> str:
+        """The line of an item, and that of its source with a mark."""
+        color = WARNING if word == "warning" else ERROR
+        place = self.colored(BOLD, f"{raw(item.name)}:{item.line}:{item.column}:")
+        lines = [f"{place} {self.colored(color, f'{word}:')} {said}"]
+        spot = item.spot
+        if spot is not None:
+            excerpt = Excerpt(spot.text, spot.start, spot.end)
+            lines.append(f"{spot.line:5} | {excerpt.line}")
+            lines.append(f"      | {excerpt.indent}{self.colored(MARK, excerpt.mark)}")
+        return "\n".join(lines)
+
+    def colored(self, color: str, text: str) -> str:
+        """A text in a colour."""
+        return f"{color}{text}{PLAIN}" if self.has_colors else text
+
+
+def raw(name: str) -> str:
+    """A name whose characters are bytes, without controls; what is no text stays as it is."""
+    told = name.encode("latin-1").decode("utf-8", "surrogateescape")
+    return CONTROL.sub(REPLACEMENT, told)
+
+
+def last_line(report: Report) -> str:
+    """How many warnings there are, and how many aren't told."""
+    if report.refusals:
+        return f"nothing is analysed: {counted(len(report.refusals), 'error')}"
+    findings = [item.finding for item in report.shown]
+    alarms = sum(finding.alarms for finding in findings)
+    new = "" if report.baseline is None else "new "
+    said = counted(len(findings), f"{new}warning")
+    if findings:
+        said += f" at {counted(places_of(findings), 'place')}"
+    if alarms > len(findings):
+        said += f", folded from {alarms} alarms"
+    if report.ignored:
+        said += f"; {len(report.ignored)} ignored"
+    if report.baseline is not None:
+        known = len(report.warnings) - len(findings)
+        said += f"; {known} in the baseline"
+        said += f", which has {report.gone} more" if report.gone else ""
+    return said
+
+
+def counted(count: int, what: str) -> str:
+    """A number with a noun."""
+    return f"{count} {what}" if count == 1 else f"{count} {what}s"

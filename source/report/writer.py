@@ -1,0 +1,134 @@
+"""The answer of a run in the form that its words ask for."""
+
+from __future__ import annotations
+
+import os
+import sys
+
+from driver.analysis import Answer
+from driver.failure import ALARMS, CLEAN, UNWRITTEN, Failure
+
+from .baseline import Fingerprints, baseline_of, read_baseline
+from .building import Texts, built, compare, latin
+from .items import NEW, Report
+from .shown import shown
+from .sources import Sources
+from .wanted import Wanted
+
+
+# The characters of a line that a baseline keeps for its readers.
+MOST_KEPT = 200
+
+
+class Writer:
+    """Writes the report of a run. What was preprocessed is remembered before it is rewritten."""
+
+    def __init__(self, wanted: Wanted) -> None:
+        self.wanted = wanted
+        self.known: set[str] = set()
+        if wanted.baseline is not None and not wanted.is_updating:
+            self.known = read_baseline(wanted.baseline)
+        self.texts: Texts = []
+
+    def remember(self, files: list[str], paths: list[str]) -> None:
+        """Reads the texts of files."""
+        for file, path in zip(files, paths):
+            with open(path, encoding="latin-1", newline="") as text:
+                self.texts.append((latin(file), text.read()))
+
+    def told(self, answer: Answer) -> Answer:
+        """The answer in its form; with --output nothing of it goes to standard output."""
+        if self.wanted.format == "plain":
+            return written(self.wanted, answer, b"".join(part for part, _ in answer.parts))
+        sources = Sources()
+        report = built(answer, sources, self.texts)
+        if report.status in (CLEAN, ALARMS):
+            self.compare(report)
+        content = document(self.wanted, report, sources)
+        return written(self.wanted, Answer(report.status, answer.parts), content)
+
+    def compare(self, report: Report) -> None:
+        """Compares with the baseline, and finds the status."""
+        fingerprints = Fingerprints()
+        items = report.warnings + report.ignored
+        for item in sorted(items, key=lambda item: item.finding.place):
+            text = "" if item.spot is None else item.spot.text
+            item.fingerprint = fingerprints.next(item.kind, os.path.normpath(item.name), text)
+        if self.wanted.baseline is not None:
+            if self.wanted.is_updating:
+                self.known = {item.fingerprint for item in report.warnings}
+                write_file(self.wanted.baseline, baseline_for(report).encode("ascii"))
+            report.baseline = self.wanted.baseline
+            compare(report, self.known)
+        counted = report.warnings
+        if self.wanted.chosen["--fail-on"] == "new":
+            counted = [item for item in counted if item.state == NEW]
+        report.status = ALARMS if counted else CLEAN
+
+
+def baseline_for(report: Report) -> str:
+    """The baseline of a report's warnings."""
+    return baseline_of(
+        (
+            item.fingerprint,
+            item.kind,
+            item.file,
+            "" if item.spot is None else shown(item.spot.text[:MOST_KEPT]).strip(),
+        )
+        for item in report.warnings
+    )
+
+
+def failed(wanted: Wanted, status: int, text: str) -> Answer:
+    """The answer of a run that has failed."""
+    report = Report(status)
+    report.failure = text
+    content = b"" if wanted.format == "plain" else document(wanted, report, Sources())
+    return written(wanted, Answer(status, []), content)
+
+
+def document(wanted: Wanted, report: Report, sources: Sources) -> bytes:
+    """The report in its form. Only what makes that form is read."""
+    if wanted.format == "json":
+        from . import json_document
+
+        return json_document.document(report)
+    if wanted.format == "sarif":
+        from . import sarif
+
+        return sarif.document(report)
+    if wanted.format == "html":
+        from . import html_page
+
+        return html_page.document(report, sources)
+    from .text import Text
+
+    return Text(has_colors(wanted)).document(report)
+
+
+def has_colors(wanted: Wanted) -> bool:
+    """Whether the report has colours: by itself on a terminal alone (no-color.org)."""
+    color = wanted.chosen["--color"]
+    if color != "auto":
+        return color == "always"
+    is_terminal = wanted.output is None and sys.stdout is not None and sys.stdout.isatty()
+    is_plain = bool(os.environ.get("NO_COLOR")) or os.environ.get("TERM") == "dumb"
+    return is_terminal and not is_plain
+
+
+def written(wanted: Wanted, answer: Answer, content: bytes) -> Answer:
+    """The answer with that content, unless a file takes it. Hints stay."""
+    hints: list[tuple[bytes, str | None]] = [(b"", hint) for _, hint in answer.parts]
+    if wanted.output is None:
+        return Answer(answer.status, [(content, None), *hints])
+    write_file(wanted.output, content)
+    return Answer(answer.status, hints)
+
+
+def write_file(path: str, content: bytes) -> None:
+    """Writes a file."""
+    try:
+        with open(path, "wb") as file:
+            file.write(content)
+    except (OSError, ValueError) as error:
+        raise Failure(UNWRITTEN, f"{path} can't be written") from error

@@ -1,0 +1,57 @@
+"""The examples of the documents are true: each block of a command with what it writes is run in the
+top folder, and its standard output compared. A line `...` in a document stands for any lines."""
+
+from __future__ import annotations
+
+import os
+import re
+import subprocess
+import sys
+
+TOP = os.path.dirname(os.path.dirname(os.path.abspath(__file__)))
+DOCUMENTS = ("README.md", "docs/REPORT.md", "docs/LANGUAGE.md")
+INDENT, PROMPT = "    ", "    $ "
+GAP = "..."
+
+
+def examples_in(text: str) -> list[tuple[str, list[str]]]:
+    """The commands of a document, each with the lines that it writes."""
+    found: list[tuple[str, list[str]]] = []
+    is_open = False
+    for line in text.split("\n"):
+        if line.startswith(PROMPT):
+            found.append((line[len(PROMPT) :], []))
+            is_open = True
+        elif is_open and line.startswith(INDENT):
+            found[-1][1].append(line[len(INDENT) :])
+        else:
+            is_open = False
+    return found
+
+
+def is_written(lines: list[str], said: str) -> bool:
+    """Whether a command has written these lines."""
+    parts = ["(?:.*\n)*?" if line == GAP else re.escape(line) + "\n" for line in lines]
+    return re.fullmatch("".join(parts), said) is not None
+
+
+def main() -> int:
+    """Runs all examples."""
+    count = failed = 0
+    for document in DOCUMENTS:
+        with open(os.path.join(TOP, document), encoding="utf-8") as file:
+            examples = examples_in(file.read())
+        for command, lines in examples:
+            count += 1
+            done = subprocess.run(
+                ["bash", "-c", command], cwd=TOP, capture_output=True, text=True, check=False
+            )
+            if not is_written(lines, done.stdout):
+                failed += 1
+                print(f"FAILED {document}: {command}\n{done.stdout}")
+    print(f"{count - failed} passed, {failed} failed")
+    return failed != 0
+
+
+if __name__ == "__main__":
+    sys.exit(main())

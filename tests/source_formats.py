@@ -1,0 +1,289 @@
+"""The forms of the report of ./sparrow source: what is said of programs with one warning each, a
+file full of odd bytes in each form, refusals and failures. JSON is checked by its schema."""
+
+from __future__ import annotations
+
+import json
+import os
+import re
+import subprocess
+import sys
+import tempfile
+from html.parser import HTMLParser
+from typing import Any
+
+from report_schema import schema, schema_faults
+
+HERE = os.path.dirname(os.path.abspath(__file__))
+SPARROW = os.path.join(os.path.dirname(HERE), "sparrow")
+HEAD = re.compile(
+    rb"a\.c:([0-9]+:[0-9]+): warning: ([^\n]*)\n *[0-9]+ \| ([^\n]*)\n *\| ( *)(\^~*)\n"
+)
+ODD = 'o"d <x>é.c'
+# Elements of HTML that have no end.
+EMPTY = frozenset(["meta"])
+
+faults: dict[str, str] = {}
+
+
+def expect(name: str, got: object, want: object) -> None:
+    """Notes whether something is as it must be."""
+    faults[name] = "" if got == want else f"{got!r}\nand not\n{want!r}"
+
+
+def run(room: str, *words: str) -> tuple[int, bytes, bytes]:
+    """Status, standard output and standard error of ./sparrow source."""
+    done = subprocess.run([SPARROW, "source", *words], cwd=room, capture_output=True, check=False)
+    return done.returncode, done.stdout, done.stderr
+
+
+def checked(name: str, form: str, content: bytes) -> Any:
+    """What a document of JSON has, which meets its schema."""
+    value = json.loads(content.decode("ascii"))
+    rule = schema({"json": "report", "sarif": "sarif"}[form])
+    expect(f"{name}: schema of {form}", schema_faults(value, rule, rule), [])
+    return value
+
+
+class Page(HTMLParser):
+    """The text of a page in its elements; each must be closed in its order."""
+
+    def __init__(self, content: bytes) -> None:
+        super().__init__()
+        self.opened: list[str] = []
+        self.wrong: list[str] = []
+        self.texts: dict[str, list[str]] = {}
+        self.feed(content.decode("utf-8"))
+        self.close()
+        self.wrong += self.opened
+
+    def handle_starttag(self, tag: str, attrs: list[tuple[str, str | None]]) -> None:
+        if tag not in EMPTY:
+            self.opened.append(tag)
+        self.texts.setdefault(tag, []).append("")
+
+    def handle_endtag(self, tag: str) -> None:
+        if not self.opened or self.opened.pop() != tag:
+            self.wrong.append(tag)
+
+    def handle_data(self, data: str) -> None:
+        for tag in set(self.opened):
+            self.texts[tag][-1] += data
+
+
+def try_programs(room: str) -> None:
+    """The programs of the table."""
+    with open(os.path.join(HERE, "report", "warnings.tsv"), encoding="ascii") as rows:
+        lines = [line.rstrip("\n").split("\t") for line in rows if not line.startswith("#")]
+    for name, text, *want in lines:
+        with open(os.path.join(room, "a.c"), "w", encoding="ascii") as file:
+            file.write(text.encode("ascii").decode("unicode_escape"))
+        status, said, _ = run(room, "a.c")
+        got = [
+            [place.decode(), line[len(blanks) :][: len(mark)].decode(), message.decode()]
+            for place, message, line, blanks, mark in HEAD.findall(said)
+        ]
+        expect(f"a program: {name}", (status, got), (1, [want]))
+
+
+def write_odd(room: str) -> None:
+    """A file with a name, bytes and lines as they are seldom, whose each statement alarms."""
+    lines = [
+        b"int a[3]; static int n = 3;",
+        b"int main(void) {",
+        b"\ta[n] = 1; /* \xc3\xa9 \xff \x1b[1m <b>&amp; \" */ a[n] = 2;\r",
+        b"/* \xc3\xa9 */ a[n] = 3;",
+        b"/*" + b"x" * 50000 + b"*/ a[n] = 4; /*" + b"y" * 50000 + b"*/",
+        b'#include "<h>.h"',
+        b'#line 70 "gone.c"',
+        b"a[n] = 6;",
+        b'#line 71 "short.c"',
+        b"a[n] = 7;",
+        b"return 0; }",
+        b"",
+    ]
+    with open(os.path.join(room, ODD), "wb") as file:
+        file.write(b"\n".join(lines))
+    for name, text in (("<h>.h", "\n  a[n] = 5;\n"), ("short.c", "int a;\n")):
+        with open(os.path.join(room, name), "w", encoding="ascii") as file:
+            file.write(text)
+
+
+# File, line, column in bytes, and column in characters. The third line is no UTF-8.
+PLACES = [
+    ("<h>.h", 2, 3, 3),
+    ("gone.c", 70, 1, 1),
+    (ODD, 3, 2, 2),
+    (ODD, 3, 39, 39),
+    (ODD, 4, 10, 9),
+    (ODD, 5, 50006, 50006),
+    ("short.c", 71, 1, 1),
+]
+
+
+def try_odd(room: str) -> None:
+    """The odd file in each form."""
+    write_odd(room)
+    status, said, errors = run(room, ODD)
+    lines = said.decode("utf-8").split("\n")
+    places = [line.split(": warning:")[0] for line in lines if "warning: " in line]
+    expect("odd: places of text", places, [f"{name}:{line}:{at}" for name, line, at, _ in PLACES])
+    expect("odd: status of text", (status, errors), (1, b""))
+    expect("odd: last line", lines[-2:], ["7 warnings at 7 places", ""])
+    shown = '    3 | \ta[n] = 1; /* é \ufffd \ufffd[1m <b>&amp; " */ a[n] = 2;'
+    expect("odd: a line", lines.count(shown), 2)
+    expect("odd: its mark", "      | \t" + " " * 36 + "^~~~" in lines, True)
+    cut = "    5 | ..." + "x" * 57 + "*/ a[n] = 4; /*" + "y" * 68 + "..."
+    expect("odd: a long line is cut", cut in lines, True)
+    expect("odd: its mark", "      | " + " " * 63 + "^~~~" in lines, True)
+
+    value = checked("odd", "json", run(room, "--format=json", ODD)[1])
+    told = [(each["file"], each["line"], each["column"]) for each in value["warnings"]]
+    expect("odd: places of json", told, [place[:3] for place in PLACES])
+    expect("odd: json", value["warnings"][4], {
+        "file": ODD, "line": 4, "column": 10, "analysed": {"line": 4, "column": 10},
+        "kind": "buffer-overrun", "expression": "a[n]",
+        "message": "'a[n]' may be accessed at offset 3, but the object has 3 elements",
+        "offset": [3, 3], "count": [1, 1], "size": [3, 3], "alarms": 1,
+        "fingerprint": value["warnings"][4]["fingerprint"],
+    })
+    try_odd_sarif(room)
+    page = Page(run(room, "--format=html", ODD)[1])
+    expect("odd: html is closed", page.wrong, [])
+    expect("odd: html has no script", page.texts.get("script"), None)
+    expect("odd: files of html", page.texts["h2"], ["<h>.h", "gone.c", ODD, "short.c"])
+    expect("odd: marks of html", page.texts["mark"], ["a[n]"] * 5)
+
+
+def try_odd_sarif(room: str) -> None:
+    """The odd file as SARIF."""
+    value = checked("odd", "sarif", run(room, "--format=sarif", ODD)[1])
+    places = []
+    for each in value["runs"][0]["results"]:
+        place = each["locations"][0]["physicalLocation"]
+        region = place["region"]
+        uri = place["artifactLocation"]["uri"]
+        places.append((uri, region["startLine"], region["startColumn"]))
+    uris = {ODD: "o%22d%20%3Cx%3E%C3%A9.c", "<h>.h": "%3Ch%3E.h"}
+    want = [(uris.get(file, file), line, column) for file, line, _, column in PLACES]
+    expect("odd: places of sarif", places, want)
+    region = value["runs"][0]["results"][4]["locations"][0]["physicalLocation"]["region"]
+    expect("odd: a region", region, {"startLine": 4, "startColumn": 9, "endColumn": 13})
+    rules = value["runs"][0]["tool"]["driver"]["rules"]
+    result = value["runs"][0]["results"][0]
+    expect("odd: its rule", rules[result["ruleIndex"]]["id"], "buffer-overrun")
+
+
+def try_refusals(room: str) -> None:
+    """A refusal in each form."""
+    with open(os.path.join(room, "r.c"), "w", encoding="ascii") as file:
+        file.write("int main(void)\n{\n  return /* it */ missing;\n}\n")
+    status, said, errors = run(room, "r.c")
+    want = (
+        b"r.c:3:19: error: undeclared name: missing [F8]\n"
+        b"    3 |   return /* it */ missing;\n"
+        b"      |                   ^~~~~~~\n"
+        b"nothing is analysed: 1 error\n"
+    )
+    expect("a refusal: text", (status, said), (2, want))
+    hint = "-DNAME=VALUE gives a constant, and -DNAME=TYPE a type, that no header here has"
+    expect("a refusal: its hint", errors.decode(), f"sparrow: hint: {hint}\n")
+    status, said, _ = run(room, "--format=json", "r.c")
+    value = checked("a refusal", "json", said)
+    expect("a refusal: json", (status, value["status"], value["refusals"]), (2, 2, [{
+        "file": "r.c", "line": 3, "column": 19, "analysed": {"line": 3, "column": 10},
+        "message": "undeclared name: missing", "code": "F8", "hint": hint,
+    }]))
+    value = checked("a refusal", "sarif", run(room, "--format=sarif", "r.c")[1])
+    call = value["runs"][0]["invocations"][0]
+    note = call["toolExecutionNotifications"][0]
+    expect("a refusal: sarif", (call["executionSuccessful"], call["exitCode"]), (False, 2))
+    expect("a refusal: its code in sarif", note["descriptor"]["id"], "F8")
+    page = Page(run(room, "--format=html", "r.c")[1])
+    expect("a refusal: html", (page.wrong, page.texts["mark"]), ([], ["missing"]))
+
+
+def try_failures(room: str) -> None:
+    """A failure in each form."""
+    gone = "none.c can't be read"
+    for form in ("text", "plain", "json", "sarif", "html"):
+        status, said, errors = run(room, f"--format={form}", "none.c")
+        expect(f"a failure: {form}", (status, errors.decode()), (4, f"sparrow: {gone}\n"))
+        if form in ("text", "plain"):
+            expect(f"a failure: nothing in {form}", said, b"")
+        elif form == "html":
+            expect("a failure: html", Page(said).texts["p"], [gone])
+        else:
+            value = checked("a failure", form, said)
+            if form == "sarif":
+                value = value["runs"][0]["invocations"][0]["toolExecutionNotifications"][0]
+            told = value["failure"] if form == "json" else value["message"]["text"]
+            expect(f"a failure: {form} tells it", told, gone)
+
+
+def try_words(room: str) -> None:
+    """The words that choose a form, and where it goes."""
+    one = os.path.join(room, "one.c")
+    with open(one, "w", encoding="ascii") as file:
+        file.write("int a[3];\nint main(void) { a[3] = 1; return 0; }\n")
+    plain = (1, b"one.c:2:18: overrun: offset [3,3], size [3,3]\n1 alarm\n", b"")
+    expect("plain", run(room, "--format=plain", "one.c"), plain)
+    expect("a form in the next word", run(room, "--format", "plain", "one.c"), plain)
+    text = run(room, "one.c")[1]
+    for form in ("text", "plain", "json", "sarif", "html"):
+        out = run(room, f"--format={form}", "one.c")[1]
+        written = run(room, f"--format={form}", "--output", f"out.{form}", "one.c")
+        with open(os.path.join(room, f"out.{form}"), "rb") as file:
+            expect(f"--output of {form}", (written, file.read()), ((1, b"", b""), out))
+    expect("a file that can't be written", run(room, "--output=none/out", "one.c"),
+           (5, b"", b"sparrow: none/out can't be written\n"))
+    forms = b"text, plain, json, sarif, html"
+    expect("no such form", run(room, "--format=xml", "one.c"),
+           (3, b"", b"sparrow: --format is one of " + forms + b", and not xml\n"))
+    expect("a form is missing", run(room, "one.c", "--format")[:2],
+           (3, b"usage: sparrow COMMAND [OPTION] WORD..\n"))
+    colored = run(room, "--color=always", "one.c")[1]
+    expect("colours", b"\x1b[1;35mwarning:\x1b[0m" in colored, True)
+    expect("nothing but colours", re.sub(rb"\x1b\[[0-9;]*m", b"", colored), text)
+    expect("values", run(room, "--values", "one.c")[1].startswith(text), True)
+    value = checked("values", "json", run(room, "--values", "--format=json", "one.c")[1])
+    expect("values: json", all(each.startswith("node ") for each in value["values"]), True)
+    expect("values: sarif", run(room, "--values", "--format=sarif", "one.c")[0], 3)
+
+
+def try_terminal(room: str) -> None:
+    """Colours by themselves on a terminal, and not where NO_COLOR says so."""
+    code = "import pty, sys; pty.spawn(sys.argv[1:])"
+    for name, variables, has_colors in (
+        ("a terminal", {"TERM": "xterm"}, True),
+        ("NO_COLOR", {"TERM": "xterm", "NO_COLOR": "1"}, False),
+        ("a dumb terminal", {"TERM": "dumb"}, False),
+    ):
+        words = [sys.executable, "-I", "-c", code, SPARROW, "source", "one.c"]
+        environment = {key: value for key, value in os.environ.items() if key != "NO_COLOR"}
+        done = subprocess.run(
+            words, cwd=room, env={**environment, **variables}, stdin=subprocess.DEVNULL,
+            capture_output=True, check=False,
+        )
+        got = (b"1 warning" in done.stdout, b"\x1b[1;35m" in done.stdout)
+        expect(f"colours: {name}", got, (True, has_colors))
+
+
+def main() -> int:
+    """Tries all."""
+    with tempfile.TemporaryDirectory() as room:
+        try_programs(room)
+        try_odd(room)
+        try_refusals(room)
+        try_failures(room)
+        try_words(room)
+        try_terminal(room)
+    wrong = {name: fault for name, fault in faults.items() if fault}
+    for name, fault in wrong.items():
+        print(f"FAILED {name}\n{fault}")
+    print(f"{len(faults) - len(wrong)} passed, {len(wrong)} failed")
+    return bool(wrong)
+
+
+if __name__ == "__main__":
+    sys.exit(main())
