@@ -3,17 +3,24 @@
 
 # The targets of the compile_commands.json among the words: folders NAME.dir or NAME.p of outputs.
 _sparrow_targets() {
-    local at
+    local at file
     for ((at = 2; at < COMP_CWORD; at++)); do
-        [ "${COMP_WORDS[at]}" != --compile-commands ] ||
-            grep -oE '[^/" ]+\.(dir|p)/' "${COMP_WORDS[at + 1]}" 2>/dev/null |
-            sed 's,\.[a-z]*/$,,' | sort -u
+        [ "${COMP_WORDS[at]}" = --compile-commands ] || continue
+        file=${COMP_WORDS[at + 1]}
+        [ "$file" != = ] || file=${COMP_WORDS[at + 2]}
+        grep -oE '[^/" ]+\.(dir|p)/' "$file" 2>/dev/null | sed 's,\.[a-z]*/$,,' | sort -u
     done
 }
 
 _sparrow() {
-    local word=${COMP_WORDS[COMP_CWORD]} options=--values
+    local word=${COMP_WORDS[COMP_CWORD]} before=${COMP_WORDS[COMP_CWORD - 1]} options=--values
     COMPREPLY=()
+    # A = is a word of its own.
+    if [ "$word" = = ]; then
+        word=''
+    elif [ "$before" = = ] && [ "$COMP_CWORD" -gt 2 ]; then
+        before=${COMP_WORDS[COMP_CWORD - 2]}
+    fi
     if [ "$COMP_CWORD" -eq 1 ]; then
         mapfile -t COMPREPLY < <(
             compgen -W 'source analyse dense help --help --version --program' -- "$word")
@@ -24,7 +31,7 @@ _sparrow() {
         analyse | dense) ;;
         *) return ;;
     esac
-    case ${COMP_WORDS[1]}:${COMP_WORDS[COMP_CWORD - 1]} in
+    case ${COMP_WORDS[1]}:$before in
         source:--compile-commands)
             compopt -o filenames 2>/dev/null
             mapfile -t COMPREPLY < <(compgen -d -- "$word"; compgen -f -X '!*.json' -- "$word")
@@ -38,6 +45,8 @@ _sparrow() {
     esac && mapfile -t COMPREPLY < <(compgen -W "$options" -- "$word") && return
     if [[ $word == -* ]]; then
         mapfile -t COMPREPLY < <(compgen -W "$options" -- "$word")
+        # A number goes right behind.
+        [[ ${COMPREPLY[*]} != *= ]] || compopt -o nospace 2>/dev/null
     else
         # Names with blanks are quoted; outside of a completion there is nothing to set.
         compopt -o filenames 2>/dev/null

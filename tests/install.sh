@@ -83,6 +83,12 @@ options=$'--values\n--strict\n--keep\n--compile-commands\n--target\n'
 options+=$'--contexts=\n--no-contexts\n--format\n--output\n--color\n--baseline\n--update-baseline\n--fail-on\n'
 check 'the options of source' 0 "$options" complete_words sparrow source --
 check 'the forms of a report' 0 $'sarif\n' complete_words sparrow source --format s
+check 'a form behind a =' 0 $'sarif\n' complete_words sparrow source --format = sa
+check 'what may be behind a =' 0 $'any\nnew\n' complete_words sparrow source --fail-on =
+check 'no blank behind a =' 0 $'compopt -o nospace\n--contexts=\n' eval '
+    compopt() { echo "compopt $*"; }
+    complete_words sparrow source --cont
+    unset -f compopt'
 names() { complete_words sparrow source --keep '' | LC_ALL=C sort; }
 printf '{"command": "cc -o CMakeFiles/tool.dir/a.o"} {"output": "b.p/a.o"} {"output": "b.p/c.o"}' \
     >"$room/sources/commands.json"
@@ -90,6 +96,8 @@ check 'the targets' 0 $'b\ntool\n' \
     complete_words sparrow source --compile-commands commands.json --target ''
 check 'a target' 0 $'tool\n' \
     complete_words sparrow source --compile-commands commands.json --target t
+check 'a target behind a =' 0 $'tool\n' \
+    complete_words sparrow source --compile-commands = commands.json --target = t
 check 'a database' 0 $'part\ncommands.json\n' complete_words sparrow source --compile-commands ''
 check 'folders and files of C' 0 $'cut.c\noverrun.c\npart\n' names
 finish

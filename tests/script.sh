@@ -51,7 +51,7 @@ check 'by a link' 1 '' "$room/link" 1
 check 'where the program is' 0 "$out/sparrow"$'\n' run --program
 commands='sparrow: the commands are: analyse [--values] FILE.., dense [--values] FILE..,'
 commands+=' source [--values] [--strict] [--keep DIR] [CPP-OPTION..] FILE.c..,'
-commands+=' source --compile-commands FILE [--target NAME] ..'
+commands+=' source --compile-commands FILE [--target NAME] ..; sparrow --help tells more'
 check_said 'status 3' "$commands" run 3
 for command in source analyse dense; do
     for word in --help -h; do

@@ -113,8 +113,18 @@ check 'no file behind the end of options' 3 "$usage" ./sparrow source --
 check 'an option without its argument' 3 "$usage" ./sparrow source "$room/main.c" -I
 check 'a place for what is kept is missing' 3 "$usage" ./sparrow source "$room/main.c" --keep
 check 'a missing file' 4 '' ./sparrow source "$room/main.c" "$room/none.c"
-check_said 'a missing file' "sparrow: $room/none.c can't be read" \
+check_said 'a missing file' "sparrow: $room/none.c can't be read: no such file" \
     ./sparrow source "$room/none.c"
+check_said 'a folder' "sparrow: $room/tmp can't be read: it is a folder" \
+    ./sparrow source "$room/tmp"
+check_said 'below a file' "sparrow: $room/main.c/a.c can't be read: not a directory" \
+    ./sparrow source "$room/main.c/a.c"
+if [ "$(id -u)" -ne 0 ]; then
+    printf 'int a;\n' >"$room/secret.c"
+    chmod 000 "$room/secret.c"
+    check_said 'a file of another' "sparrow: $room/secret.c can't be read: permission denied" \
+        ./sparrow source "$room/secret.c"
+fi
 printf '#include "none.h"\n' >"$room/fails.c"
 last_said() { ./sparrow source "$room/main.c" "$room/fails.c" 2>&1 >/dev/null | tail -n 2; }
 check 'a preprocessor that fails' 3 '' ./sparrow source "$room/main.c" "$room/fails.c"

@@ -164,9 +164,9 @@ def try_analysis(room: str) -> None:
     expect("what is kept is what was analysed", analysed.stdout, f"{one}\n1 alarm\n")
     values = source("--values")[1]
     expect("values tell the copy", any("xmalloc__1.p = " in line for line in values), True)
-    expect("no number", source("--contexts=x"), (
-        3, [], "sparrow: --contexts takes a number of tokens\n"
-    ))
+    said = "sparrow: --contexts takes a number, as --contexts=50\n"
+    for word in ("--contexts=x", "--contexts=", "--contexts"):
+        expect(f"no number: {word}", source(word), (3, [], said))
 
 
 def main() -> int:

@@ -84,6 +84,41 @@ def try_programs(room: str) -> None:
             for place, message, line, blanks, mark in HEAD.findall(said)
         ]
         expect(f"a program: {name}", (status, got), (1, [want]))
+        is_counted = b"\n1 warning at 1 place" in said
+        expect(f"a program: {name}: its count", is_counted, True)
+
+
+def try_order(room: str) -> None:
+    """Warnings of a macro that turns its arguments round: they are sorted by their places, and what
+    it stands for has one warning of each kind."""
+    with open(os.path.join(room, "order.c"), "w", encoding="ascii") as file:
+        file.write(
+            "#define SWAP(a, b) b + a\n#define BOTH(p) p[3] + *(p - 1) + 5 / n + p[2] / n\n"
+            "int x[3], y[3], n;\n"
+            "int f(void);\n"
+            "int main(void) { n = SWAP(x[3], y[4]) + f(); return 0; }\n"
+            "int f(void) { return BOTH(x); }\n"
+        )
+    want = [(5, 27, 1), (5, 33, 1), (6, 22, 2), (6, 22, 2)]
+    said = run(room, "order.c")[1].decode()
+    places = [tuple(map(int, each)) for each in re.findall(r"(\d+):(\d+): warning", said)]
+    expect("order: text", places, [place[:2] for place in want])
+    count = "4 warnings at 3 places, folded from 6 alarms"
+    expect("order: its count", said.splitlines()[-1], count)
+    warnings = checked("order", "json", run(room, "--format=json", "order.c")[1])["warnings"]
+    got = [(each["line"], each["column"], each["alarms"]) for each in warnings]
+    expect("order: json", got, want)
+    hull = (warnings[2]["kind"], warnings[2]["offset"])
+    expect("order: a hull", hull, ("buffer-overrun", [-1, 3]))
+    value = checked("order", "sarif", run(room, "--format=sarif", "order.c")[1])
+    regions = [
+        each["locations"][0]["physicalLocation"]["region"] for each in value["runs"][0]["results"]
+    ]
+    got = [(each["startLine"], each["startColumn"]) for each in regions]
+    expect("order: sarif", got, [place[:2] for place in want])
+    page = Page(run(room, "--format=html", "order.c")[1])
+    told = [each.split(":")[0] for each in page.texts["td"] if re.match(r"\d+: ", each)]
+    expect("order: html", told, [str(column) for _, column, _ in want])
 
 
 def write_odd(room: str) -> None:
@@ -186,7 +221,8 @@ def try_refusals(room: str) -> None:
         b"nothing is analysed: 1 error\n"
     )
     expect("a refusal: text", (status, said), (2, want))
-    hint = "-DNAME=VALUE gives a constant, and -DNAME=TYPE a type, that no header here has"
+    hint = "is it misspelt, or does no header here have it?"
+    hint += " -DNAME=VALUE gives a constant, and -DNAME=TYPE a type"
     expect("a refusal: its hint", errors.decode(), f"sparrow: hint: {hint}\n")
     status, said, _ = run(room, "--format=json", "r.c")
     value = checked("a refusal", "json", said)
@@ -205,7 +241,7 @@ def try_refusals(room: str) -> None:
 
 def try_failures(room: str) -> None:
     """A failure in each form."""
-    gone = "none.c can't be read"
+    gone = "none.c can't be read: no such file"
     for form in ("text", "plain", "json", "sarif", "html"):
         status, said, errors = run(room, f"--format={form}", "none.c")
         expect(f"a failure: {form}", (status, errors.decode()), (4, f"sparrow: {gone}\n"))
@@ -273,6 +309,7 @@ def main() -> int:
     """Tries all."""
     with tempfile.TemporaryDirectory() as room:
         try_programs(room)
+        try_order(room)
         try_odd(room)
         try_refusals(room)
         try_failures(room)

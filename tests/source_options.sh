@@ -61,6 +61,30 @@ check_said 'a quote that is open' "sparrow: $room/bad.json has a command that is
     bad '[{"directory": "/", "file": "a.c", "command": "cc \"a"}]'
 check 'a target without a database' 3 $'usage: sparrow COMMAND [OPTION] WORD..\n' \
     ./sparrow source --target tool "$room/tree/src/main.c"
+# What is missing is told by its name. Each row: what is said, and the words.
+while IFS=';' read -r said words; do
+    # shellcheck disable=SC2086
+    check_said "source $words" "sparrow: $said; sparrow --help tells more" ./sparrow source $words
+done <<'ROWS'
+no file is given;
+no file is given;-DA --
+no file is given;--values
+--keep needs a DIR;a.c --keep
+--keep needs a DIR;--keep= a.c
+--compile-commands needs a FILE;--compile-commands
+--target needs a NAME;a.c --target
+--target needs --compile-commands;--target=tool a.c
+--output needs a FILE;a.c --output
+--baseline needs a FILE;--baseline= a.c
+--fail-on needs one of any, new;a.c --fail-on
+-I needs an argument;a.c -I
+-o needs an argument;a.c -o
+ROWS
+check 'the options with a =' 1 "$room/tree/src/main.c:2:28: $tool" \
+    ./sparrow source --format=plain "--compile-commands=$database" --target=tool
+check 'a folder with a =' 0 $'1-main.i\n2-twice.i\n' eval '
+    source_of "$database" --target=tool "--keep=$room/kept" >/dev/null; ls "$room/kept"'
+
 # Two programs in one database, with their own mains of one type or of two.
 two=$room/two.json
 printf 'int main(void) { return 0; }\n' >"$room/tree/src/one.c"
@@ -79,6 +103,8 @@ check_said 'two mains without a database' \
     ./sparrow source "$room/tree/src/one.c" "$room/tree/src/three.c"
 printf '[{"directory": "%s", "file": "one.c", "arguments": ["cc", "one.c"]}]' \
     "$room/tree/src" >"$two"
+check_said 'a file that is given twice' "sparrow: hint: $room/tree/src/one.c is given twice" \
+    ./sparrow source "$room/tree/src/one.c" "$room/tree/src/one.c"
 check_said 'no output tells a target' "sparrow: $two has no target a: give the files of one \
 program, since no output tells a target" source_of "$two" --target a
 printf '[{"directory": "%s", "file": "one.c", "output": "../b/c.p/one.o", "command": "cc one.c"},

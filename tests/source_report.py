@@ -58,6 +58,7 @@ def expression_faults() -> dict[str, str]:
     faults = {}
     for row in rows_of("expressions.tsv"):
         name, line, text, column, *want = (field.replace("\\t", "\t") for field in row)
+        text = text.replace("\\n", "\n")
         kind = ZERO if name.startswith("divisor") else OVERRUN
         finding = Finding(Place("a.c", 1, int(column)), kind)
         spot = Spots(OneLine(line), [("a.c", text or line)], [finding]).of(finding)

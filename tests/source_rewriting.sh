@@ -46,6 +46,12 @@ check 'a place behind a declaration that was moved' 1 \
     ./sparrow source --format=plain "$room/c99.c"
 check_said 'what was rewritten' "sparrow: rewritten: 1 variadic definition, 1 declaration behind a \
 statement, 1 declaration in a for" ./sparrow source "$room/c99.c"
+printf '#include <stdlib.h>\nint h(void) { return abs(1); }\n' >"$room/none.c"
+printf 'double f(void);\nint g(void) { return f() > 0; }\n' >"$room/own.c"
+printf '#include <stdlib.h>\nint main(void) { return atof("1") > 0; }\n' >"$room/call.c"
+check_said 'files with floating numbers of their own' \
+    'sparrow: rewritten: 2 files with floating numbers' \
+    ./sparrow source "$room/none.c" "$room/own.c" "$room/call.c"
 check 'nothing is rewritten' 2 "$room/c99.c:3:1: refused U6: variadic definition"$'\n' \
     ./sparrow source --format=plain --strict "$room/c99.c"
 check_said 'a hint' 'sparrow: hint: --strict leaves it as it is; without --strict it is rewritten' \
@@ -91,6 +97,31 @@ check 'the name that a macro writes' 2 "$room/macro.c:2:22: refused F8: undeclar
     ./sparrow source --format=plain "$room/macro.c"
 check 'a fault of the whole' 2 "$room/c90.c:1:5: refused F23: second definition"$'\n' \
     ./sparrow source --format=plain "$room/c90.c" "$room/c90.c"
+# check_hint NAME HINT FILE TEXT [FILE TEXT]: a hint is the last line on standard error.
+check_hint() {
+    local name=$1 want=$2 files=()
+    shift 2
+    while [ $# -gt 0 ]; do
+        printf '%s\n' "$2" >"$room/$1"
+        files+=("$room/$1")
+        shift 2
+    done
+    check "$name" 0 "${want:+$want
+}" eval './sparrow source "${files[@]}" 2>&1 >/dev/null |
+        sed "s/^sparrow: hint: //"'
+}
+length='a length must be constant: give the greatest'
+check_hint 'a length' "$length" l.c 'int n; int main(void) { int a[2 * n]; return 0; }'
+check_hint 'a start value is no length' '' l.c 'int n, a[2] = { n }; int main(void) { return 0; }'
+check_hint 'nor is a label' '' l.c 'int main(int n, char **v) { switch (n) { case n: return 0; } }'
+check_hint 'an escape of GNU C' '\033 is standard in place of \e' e.c 'char *a = "x\e[0m";'
+check_hint 'a backslash before an e' '' e.c 'char *a = "\\e \q";'
+main='#include <string.h>
+int main(void) { return strlen("a") > 1; }'
+call='int f(char *a) { return strlen(a); }'
+include='#include <string.h> declares strlen'
+check_hint 'a call without its header' "$include" m.c "$main" f.c "$call"
+check_hint 'a call before the header' "$include" f.c "$call" m.c "$main"
 printf 'struct __attribute__((packed)) s { char c; int i; };\n' >"$room/packed.c"
 check 'a word that lays out data' 2 "$room/missing.c:1:22: refused F8: undeclared name: missing
 $room/packed.c:1:23: refused: packed changes the layout

@@ -8,7 +8,7 @@ trap 'rm -rf "$room"' EXIT
 usage=$'usage: sparrow COMMAND [OPTION] WORD..\n'
 commands='sparrow: the commands are: analyse [--values] FILE.., dense [--values] FILE..,'
 commands+=' source [--values] [--strict] [--keep DIR] [CPP-OPTION..] FILE.c..,'
-commands+=' source --compile-commands FILE [--target NAME] ..'
+commands+=' source --compile-commands FILE [--target NAME] ..; sparrow --help tells more'
 file=examples/overrun.c
 check 'no words' 3 "$usage" ./sparrow
 check 'a command alone' 3 "$usage" ./sparrow analyse

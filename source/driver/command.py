@@ -7,7 +7,7 @@ import sys
 
 from .analysis import Answer, answer_over
 from .failure import (
-    NO_MEMORY, NOT_RUN, SAID_OF_STATUS, UNREADABLE, UNWRITTEN, Failure, Stopped, say,
+    NO_MEMORY, NOT_RUN, SAID_OF_STATUS, UNWRITTEN, Failure, Misused, Stopped, say, unreadable,
 )
 from .preprocessor import Preprocessor
 from .processes import hear_signals, run
@@ -22,11 +22,12 @@ def main(words: list[str]) -> int:
     request = None
     try:
         request = read_words(words)
-        if request is None:
-            # The program says how it is used.
-            status = run([os.environ["SPARROW_PROGRAM"]])
-        else:
-            status = analyse(request)
+        status = analyse(request)
+    except Misused as misused:
+        # The program says how it is used.
+        run([os.environ["SPARROW_PROGRAM"]])
+        misused.say()
+        return misused.status
     except Failure as failure:
         failure.say()
         return failed(request, failure.status, failure.text)
@@ -55,8 +56,7 @@ def analyse(request: Request) -> int:
 
         writer = Writer(request.report)
     for source in sources:
-        if not is_readable(source.file):
-            raise Failure(UNREADABLE, f"{source.file} can't be read")
+        check_readable(source.file)
     with Room() as room:
         for number, source in enumerate(sources, 1):
             with Progress(f"preprocessing {number} of {len(sources)}"):
@@ -93,14 +93,13 @@ def sources_of(request: Request) -> list[Source]:
     return sources_in(request.database, request)
 
 
-def is_readable(file: str) -> bool:
-    """Whether a file can be read."""
+def check_readable(file: str) -> None:
+    """Ends where a file can't be read."""
     try:
         with open(file, "rb") as opened:
             opened.read(1)
-    except (OSError, ValueError):
-        return False
-    return True
+    except (OSError, ValueError) as error:
+        raise unreadable(file, error) from error
 
 
 def is_written(answer: Answer) -> bool:

@@ -7,7 +7,7 @@ import os
 import shlex
 from typing import Optional
 
-from .failure import UNREADABLE, USAGE, Failure
+from .failure import USAGE, Failure, unreadable
 from .words import WITH_ARGUMENT, Request, Source
 
 # Options whose argument is the name of a folder or file.
@@ -64,7 +64,7 @@ def read_entries(path: str) -> list[object]:
         with open(path, encoding="utf-8") as file:
             entries = json.load(file)
     except OSError as error:
-        raise Failure(UNREADABLE, f"{path} can't be read") from error
+        raise unreadable(path, error) from error
     except (ValueError, RecursionError) as error:
         raise Failure(USAGE, f"{path} is no JSON") from error
     if not isinstance(entries, list):

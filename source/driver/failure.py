@@ -6,13 +6,19 @@ import sys
 
 CLEAN, ALARMS, REFUSED, USAGE, UNREADABLE, UNWRITTEN, NO_MEMORY, NOT_RUN = range(8)
 
+HELP = "sparrow --help tells more"
 SAID_OF_STATUS = {
-    USAGE: "the command is: source [--values] [--strict] [--keep DIR] [CPP-OPTION..] FILE.c.., or"
-    " source --compile-commands FILE [--target NAME] ..",
+    USAGE: f"the command is: source [OPTION..] FILE.c..; {HELP}",
     UNREADABLE: "a file can't be read",
     UNWRITTEN: "standard output can't be written",
     NO_MEMORY: "out of memory",
     NOT_RUN: "the words of the command line can't be read",
+}
+
+# Why a file can't be read, where the system says it in other words.
+REASONS: dict[type[Exception], str] = {
+    FileNotFoundError: "no such file",
+    IsADirectoryError: "it is a folder",
 }
 
 
@@ -32,12 +38,27 @@ class Failure(Exception):
             say(f"hint: {self.hint}")
 
 
+class Misused(Failure):
+    """Words that are no command; the program's line of usage goes to standard output."""
+
+    def __init__(self, text: str) -> None:
+        super().__init__(USAGE, f"{text}; {HELP}")
+
+
 class Stopped(BaseException):
     """A signal that ends the run."""
 
     def __init__(self, number: int) -> None:
         super().__init__(number)
         self.status = 128 + number
+
+
+def unreadable(file: str, error: Exception) -> Failure:
+    """The failure of a file that can't be read."""
+    why = "it has no name of a file"
+    if isinstance(error, OSError):
+        why = REASONS.get(type(error), str(error.strerror).lower())
+    return Failure(UNREADABLE, f"{file} can't be read: {why}")
 
 
 def say(text: str) -> None:

@@ -2,17 +2,19 @@
 
 from __future__ import annotations
 
+import os
+import re
 from typing import Optional
 
-from .refusals import Refusal
+from .refusals import Refusal, names_at, places_in
 
 SPLIT = "split the program, or give fewer files"
 REWRITTEN = "--strict leaves it as it is; without --strict it is rewritten"
 HINTS = {
     "": "it has to go from the source; -D'__attribute__(x)=' takes all out, and sizes differ then",
-    "F8": "-DNAME=VALUE gives a constant, and -DNAME=TYPE a type, that no header here has",
+    "F8": "is it misspelt, or does no header here have it?"
+    " -DNAME=VALUE gives a constant, and -DNAME=TYPE a type",
     "F9": "-D_ANSI_SOURCE hides the names of POSIX in the headers of C90",
-    "F19": "a length must be constant: give the greatest",
     "F23": "a header says extern, and one file defines the object",
     "F24": "-D_ANSI_SOURCE hides the names of POSIX in the headers of C90",
     "F25": "give all files of one program; a library needs a main that calls it",
@@ -30,8 +32,73 @@ HINTS = {
 OF_STRICT = frozenset(["F7", "F13", "U1", "U4", "U5", "U6", "U7", "U9", "U10", "U11"])
 
 
-def hint_for(refusal: Refusal, is_strict: bool) -> Optional[str]:
-    """What may help against a refusal."""
+# So many characters before an expression tell what it stands in.
+MOST_BEFORE = 2000
+ESCAPE = "\\033 is standard in place of \\e"
+LENGTH = "a length must be constant: give the greatest"
+
+# A literal, and a character behind a backslash.
+LITERAL = re.compile(r"""L?(["'])(?:\\.|(?!\1)[^\\\n])*""")
+ESCAPED = re.compile(r"\\(.)")
+# What an expression stands in begins with the last of these before it.
+BEGINNING = re.compile(r"[\[;{}=]")
+
+
+def hint_for(refusal: Refusal, texts: list[str], is_strict: bool) -> Optional[str]:
+    """What may help against a refusal in one of these texts."""
     if is_strict and refusal.code in OF_STRICT:
         return REWRITTEN
+    places = places_in(refusal, texts) if refusal.code in ("F4", "F19") else ()
+    for text, offset in places:
+        if refusal.code == "F4" and has_escape(text, offset):
+            return ESCAPE
+        if refusal.code == "F19" and is_length(text, offset):
+            return LENGTH
+    if refusal.code == "F24":
+        return hint_for_call(refusal, texts) or HINTS["F24"]
     return HINTS.get(refusal.code)
+
+
+def has_escape(text: str, offset: int) -> bool:
+    """Whether the literal there has an escape of GNU C."""
+    match = LITERAL.match(text, offset)
+    return match is not None and "e" in ESCAPED.findall(match.group())
+
+
+def is_length(text: str, offset: int) -> bool:
+    """Whether an expression stands behind a `[`."""
+    found = BEGINNING.findall(text, max(0, offset - MOST_BEFORE), offset)
+    return bool(found) and found[-1] == "["
+
+
+def hint_for_call(refusal: Refusal, texts: list[str]) -> Optional[str]:
+    """The header of a function that some text calls without a declaration."""
+    from c.tokens import Tokens
+    from c.units import Units
+
+    names = names_at(refusal, texts)
+    for path in texts if names else ():
+        with open(path, encoding="latin-1", newline="") as file:
+            reader = Units(Tokens(file.read()))
+        try:
+            reader.unit()
+        except RecursionError:
+            continue
+        for name in names.intersection(reader.implicit):
+            header = header_of(name)
+            if header is not None:
+                return f"#include <{header}> declares {name}"
+    return None
+
+
+def header_of(name: str) -> Optional[str]:
+    """The header of C90 that declares a function."""
+    folder = os.path.join(os.environ["SPARROW_INCLUDE"], "c90")
+    declaration = re.compile(rf"^extern\b[^;]*\b{name}\(", re.MULTILINE)
+    for header in sorted(os.listdir(folder)):
+        path = os.path.join(folder, header)
+        if header.endswith(".h"):
+            with open(path, encoding="latin-1") as file:
+                if declaration.search(file.read()):
+                    return header
+    return None

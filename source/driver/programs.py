@@ -11,7 +11,10 @@ from .words import Request
 
 
 def hint_of_programs(texts: list[str], files: list[str], request: Request) -> Optional[str]:
-    """What is said where more than one of the files has a `main`."""
+    """What is said where a file is given twice, or more than one has a `main`."""
+    for number, file in enumerate(files):
+        if file in files[:number]:
+            return f"{file} is given twice"
     found = [file for text, file in zip(texts, files) if defines_main(read_text(text))]
     if len(found) < 2:
         return None

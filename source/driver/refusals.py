@@ -4,7 +4,7 @@ from __future__ import annotations
 
 import os
 import re
-from typing import NamedTuple, Optional
+from typing import Iterator, NamedTuple, Optional
 
 from .failure import REFUSED
 from .processes import run
@@ -65,17 +65,25 @@ def with_name(refusal: Refusal, texts: list[str]) -> Refusal:
     """A refusal of an undeclared name with the name, where the place in the texts tells it."""
     if refusal.code != "F8" or b":" in refusal.text:
         return refusal
+    names = names_at(refusal, texts)
+    if len(names) != 1:
+        return refusal
+    return refusal._replace(text=refusal.text + b": " + names.pop().encode())
+
+
+def names_at(refusal: Refusal, texts: list[str]) -> set[str]:
+    """The names that begin at the place of a refusal."""
+    matches = [NAME.match(text, offset) for text, offset in places_in(refusal, texts)]
+    return {match.group() for match in matches if match is not None}
+
+
+def places_in(refusal: Refusal, texts: list[str]) -> Iterator[tuple[str, int]]:
+    """The texts that have the place of a refusal, with its offsets."""
     from c.places import Place, Places
 
     place = Place(refusal.file.decode("latin-1"), refusal.line, refusal.column)
-    names = set()
     for path in texts:
         with open(path, encoding="latin-1", newline="") as file:
             text = file.read()
         for offset in Places(text, path).offsets_of(place):
-            match = NAME.match(text, offset)
-            if match is not None:
-                names.add(match.group())
-    if len(names) != 1:
-        return refusal
-    return refusal._replace(text=refusal.text + b": " + names.pop().encode())
+            yield text, offset

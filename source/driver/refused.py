@@ -53,7 +53,7 @@ class RefusedTexts:
     def told(self, refusal: Refusal) -> tuple[bytes, str | None]:
         """The line of a refusal, and what may help."""
         line = with_name(refusal, self.room.texts).bytes()
-        hint = hint_for(refusal, self.request.is_strict)
+        hint = hint_for(refusal, self.room.texts, self.request.is_strict)
         if refusal.code in OF_TWO_FILES:
             hint = hint_of_programs(self.room.texts, self.files, self.request) or hint
         return self.with_source(line), hint

@@ -80,7 +80,7 @@ def rewrite_texts(room: Room, files: list[str], refused: dict[int, Refusal]) -> 
             write_text(room.texts[number], after.text)
         for form, count in after.counts.items():
             counts[form] = counts.get(form, 0) + count
-    if changes.is_changed:
+    if counts:
         say(f"rewritten: {told(counts)}")
     return changes
 

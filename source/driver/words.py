@@ -4,15 +4,15 @@ from __future__ import annotations
 
 from report.wanted import Wanted
 
-from .failure import USAGE, Failure
+from .failure import USAGE, Failure, Misused
 from .outputs import words_of_output
 
 # Options of the preprocessor that may have their argument in the next word.
 WITH_ARGUMENT = frozenset(
     ["-D", "-I", "-U", "-idirafter", "-imacros", "-include", "-iquote", "-isystem"]
 )
-# Options of the command with an argument.
-OWN = frozenset(["--keep", "--compile-commands", "--target"])
+# Options of the command with an argument, and what that is.
+OWN = {"--keep": "a DIR", "--compile-commands": "a FILE", "--target": "a NAME"}
 
 
 class Source:
@@ -39,53 +39,54 @@ class Request:
         self.report = Wanted()
 
 
-def read_words(words: list[str]) -> Request | None:
-    """The request of the words, or nothing where they are none."""
+def read_words(words: list[str]) -> Request:
+    """The request of the words."""
     request = Request()
     at = 0
     while at < len(words) and words[at] != "--":
-        taken = request.report.take(words, at)
-        if taken is None:
-            return None
-        if taken > 0:
-            at += taken
-            continue
-        word = words[at]
-        at += 1
-        falling = words_of_output(word)
-        if falling:
-            at += falling - 1
-            if at > len(words):
-                return None
-        elif word == "--values":
-            request.flags.append(word)
-        elif word == "--strict":
-            request.is_strict = True
-        elif word == "--no-contexts":
-            request.copied = None
-        elif word.startswith("--contexts="):
-            request.copied = number_of(word)
-        elif word in OWN or word in WITH_ARGUMENT:
-            if at == len(words):
-                return None
-            take_argument(request, word, words[at])
-            at += 1
-        elif len(word) > 1 and word.startswith("-"):
-            request.options.append(word)
-        else:
-            request.files.append(word)
+        at += request.report.take(words, at) or take(request, words, at)
     request.files += words[at + 1 :]
-    is_whole = request.database is not None or (request.files and request.target is None)
+    if request.database is None and request.target is not None:
+        raise Misused("--target needs --compile-commands")
+    if request.database is None and not request.files:
+        raise Misused("no file is given")
     request.report.check(bool(request.flags))
-    return request if is_whole else None
+    return request
 
 
-def number_of(word: str) -> int:
-    """The number behind the `=` of an option."""
-    option, _, number = word.partition("=")
-    if not number.isascii() or not number.isdigit() or len(number) > 6:
-        raise Failure(USAGE, f"{option} takes a number of tokens")
-    return int(number)
+def take(request: Request, words: list[str], at: int) -> int:
+    """Takes an option or a file, and tells how many words that are."""
+    word = words[at]
+    option, equals, argument = word.partition("=")
+    count = words_of_output(word) or 1 + int(word in OWN or word in WITH_ARGUMENT)
+    if at + count > len(words) or (option in OWN and equals and not argument):
+        raise Misused(f"{option} needs {OWN.get(option, 'an argument')}")
+    if words_of_output(word):
+        return count
+    if word == "--values":
+        request.flags.append(word)
+    elif word == "--strict":
+        request.is_strict = True
+    elif word == "--no-contexts":
+        request.copied = None
+    elif option == "--contexts":
+        request.copied = number_of(argument)
+    elif count == 2:
+        take_argument(request, word, words[at + 1])
+    elif option in OWN:
+        take_argument(request, option, argument)
+    elif len(word) > 1 and word.startswith("-"):
+        request.options.append(word)
+    else:
+        request.files.append(word)
+    return count
+
+
+def number_of(argument: str) -> int:
+    """The number of tokens that functions which are copied may have."""
+    if not argument.isascii() or not argument.isdigit() or len(argument) > 6:
+        raise Failure(USAGE, "--contexts takes a number, as --contexts=50")
+    return int(argument)
 
 
 def take_argument(request: Request, word: str, argument: str) -> None:

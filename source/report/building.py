@@ -4,7 +4,7 @@ from __future__ import annotations
 
 import os
 import re
-from typing import Optional
+from typing import Iterable, Optional
 
 from c.places import Place
 from driver.analysis import Answer
@@ -17,11 +17,13 @@ from .items import NEW, UNCHANGED, Item, Refused, Report
 from .sentences import sentence
 from .shown import shown
 from .sources import Sources, unescaped
-from .spots import Spots
+from .spots import Spot, Spots, joined
 
 REFUSAL = re.compile(
     r"(.*):([0-9]+):([0-9]+): refused(?: ([A-Z]+[0-9]+))?: ([^\n]*)\n", re.DOTALL
 )
+
+ORDER = {kind: number for number, kind in enumerate(kinds.KINDS)}
 
 # The texts that were analysed, before they were rewritten, each with the name of its file.
 Texts = list[tuple[str, str]]
@@ -46,11 +48,9 @@ def take_findings(
     report: Report, findings: list[Finding], sources: Sources, texts: Texts
 ) -> None:
     """Takes findings into the report; a comment in its line takes one out."""
-    spots = Spots(sources, texts, findings)
     reasons = Reasons()
     unreasoned: dict[tuple[str, int], None] = {}
-    for finding in findings:
-        spot = spots.of(finding)
+    for finding, spot in of_places(findings, Spots(sources, texts, findings)):
         said = sentence(finding, None if spot is None else spot.expression)
         item = Item(finding, unescaped(finding.place.file), spot, said)
         reason = None if spot is None else reasons.of(spot.text)
@@ -61,8 +61,34 @@ def take_findings(
         if reason is not None:
             unreasoned[item.file, item.line] = None
         report.warnings.append(item)
+    report.warnings.sort(key=order)
+    report.ignored.sort(key=order)
     for file, line in unreasoned:
         say(f"{file}:{line}: 'sparrow: ignore' wants a reason")
+
+
+def of_places(
+    findings: list[Finding], spots: Spots
+) -> Iterable[tuple[Finding, Optional[Spot]]]:
+    """The findings with their spots: those of one kind at one spot, as of a macro, are one."""
+    found: dict[tuple[str, int, int, str], tuple[Finding, Optional[Spot]]] = {}
+    for finding in findings:
+        spot = spots.of(finding)
+        place = finding.place
+        line, column = (place.line, place.column) if spot is None else (spot.line, spot.start + 1)
+        key = (place.file, line, column, finding.kind)
+        if key in found:
+            first, known = found[key]
+            first.join(finding)
+            found[key] = first, joined(known, spot)
+        else:
+            found[key] = finding, spot
+    return found.values()
+
+
+def order(item: Item) -> tuple[tuple[str, int, int], int]:
+    """What items are sorted by."""
+    return item.place, ORDER[item.kind]
 
 
 def take_refusals(

@@ -3,7 +3,6 @@
 from __future__ import annotations
 
 import re
-from typing import Iterable
 
 from c.places import Place
 from driver.failure import NOT_RUN, Failure
@@ -52,6 +51,15 @@ class Finding:
             self.widen("value", told[0])
 
 
+    def join(self, other: Finding) -> None:
+        """Takes what another of the same kind tells."""
+        self.alarms += other.alarms
+        for name, interval in other.intervals.items():
+            self.widen(name, interval)
+        for name, sizes in other.sizes.items():
+            self.sizes.setdefault(name, set()).update(sizes)
+
+
 class Folded:
     """The findings of a report in its order, and the lines behind its count."""
 
@@ -85,8 +93,3 @@ def kind_of(word: str, rest: str) -> str:
     if word == "pointer":
         return {"no function": NO_FUNCTION, "value [0,0]": NULL}.get(rest, UNKNOWN)
     return {"overrun": OVERRUN, "zero": ZERO, "punned": PUNNED}[word]
-
-
-def places_of(findings: Iterable[Finding]) -> int:
-    """How many places findings have."""
-    return len({finding.place for finding in findings})

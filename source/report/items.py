@@ -28,6 +28,11 @@ class Item:
         self.justification: Optional[str] = None
 
     @property
+    def place(self) -> tuple[str, int, int]:
+        """The place that is told."""
+        return self.name, self.line, self.column
+
+    @property
     def kind(self) -> str:
         """The kind of the warning."""
         return self.finding.kind

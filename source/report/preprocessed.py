@@ -56,11 +56,14 @@ def parts_of(text: str, name: str, wanted: dict[str, list[int]]) -> Iterator[Par
     """The parts of a text that lie in rows that are wanted."""
     start, first, file, stretch = 0, 1, name, 0
     for match in MARKER.finditer(text):
-        # The line break before a marker ends a line, and begins none.
-        if file in wanted and start < match.start():
-            lines = text[start : match.start() - 1].split("\n")
-            yield from parts_between(lines, (file, first), wanted[file], stretch)
-        start, first, stretch = match.end(), int(match.group(1)), stretch + 1
+        # Nothing stands between two markers where a macro of a header of the system stands for it.
+        if start < match.start():
+            if file in wanted:
+                # The line break before a marker ends a line, and begins none.
+                lines = text[start : match.start() - 1].split("\n")
+                yield from parts_between(lines, (file, first), wanted[file], stretch)
+            stretch += 1
+        start, first = match.end(), int(match.group(1))
         file = file if match.group(2) is None else match.group(2)
     if file in wanted:
         yield from parts_between(text[start:].split("\n"), (file, first), wanted[file], stretch)

@@ -9,8 +9,8 @@ from .folding import Finding, Interval
 from .kinds import NO_FUNCTION, NULL, OVERRUN, PUNNED, ZERO
 from .spots import Expression
 
-# The program's greatest and least numbers: a bound there is none, and sizes end at the greatest.
-LEAST, GREATEST = -(2**63), 2**63 - 1
+# A bound this far from 0 tells nothing: it comes of a type's greatest or least number.
+FAR = 2**62
 
 
 def sentence(finding: Finding, expression: Optional[Expression]) -> str:
@@ -51,13 +51,23 @@ def overrun(finding: Finding, expression: Optional[Expression]) -> str:
     """Where an access may be, and what the object has."""
     offset, count, size = (finding.intervals[name] for name in ("offset", "count", "size"))
     if count != (1, 1):
-        taken = f"{range_of(count)} elements from offset {range_of(offset)}"
-        return f"{access(expression)} may take {taken}, but {has(size)}"
+        unit = "byte" if is_of_bytes(count, expression) else "element"
+        taken = f"{range_of(count)} {unit}s from offset {range_of(offset)}"
+        return f"{access(expression)} may take {taken}, but {has(size, unit)}"
     verb = "be"
     if expression is not None:
         verb = {ACCESS: "be accessed", CALL: "access an element", CHAIN: "be"}[expression.role]
     where = at_offset(outside(offset, size[0]))
     return f"{access(expression)} may {verb} {where}, but {has(size)}"
+
+
+def is_of_bytes(count: Interval, expression: Optional[Expression]) -> bool:
+    """Whether a count is one of bytes for sure: only functions of the library take more elements
+    than one. The call of one may begin a chain."""
+    if expression is None or count[0] < 2:
+        return False
+    is_chain = expression.role == CHAIN and "(" not in expression.whole
+    return expression.role == ACCESS or is_chain
 
 
 def access(expression: Optional[Expression]) -> str:
@@ -80,34 +90,36 @@ def outside(offset: Interval, size: int) -> Interval:
 
 def at_offset(offset: Interval) -> str:
     """Where an access may be."""
-    if offset == (LEAST, GREATEST):
+    if offset[0] <= -FAR and offset[1] >= FAR:
         return "at any offset"
     return f"at offset {range_of(offset)}"
 
 
 def range_of(interval: Interval) -> str:
-    """The numbers of an interval. A bound at an end of all numbers is none."""
+    """The numbers of an interval. A bound that is far away is none."""
     low, high = interval
     if low == high:
         return str(low)
-    if high >= GREATEST:
+    if high >= FAR:
         return f"{low} or more"
-    return f"{high} or less" if low <= LEAST else f"{low} to {high}"
+    return f"{high} or less" if low <= -FAR else f"{low} to {high}"
 
 
-def has(size: Interval) -> str:
+def has(size: Interval, unit: str = "element") -> str:
     """What an object has."""
     low, high = size
-    if low <= 1 and high >= GREATEST:
+    if low <= 1 and high >= FAR:
         return "the object's size isn't known"
-    return f"the object has {range_of(size)} element{'' if size == (1, 1) else 's'}"
+    return f"the object has {range_of(size)} {unit}{'' if size == (1, 1) else 's'}"
 
 
 def number(value: Interval) -> str:
     """A number of an interval."""
     low, high = value
-    if low <= LEAST and high >= GREATEST:
+    if low <= -FAR and high >= FAR:
         return "any number"
+    if low != high and high >= FAR:
+        return f"a number of {low} or more"
     return str(low) if low == high else f"a number between {low} and {high}"
 
 
@@ -121,7 +133,11 @@ def divisor(value: Interval, expression: Optional[Expression]) -> str:
 
 def punned(finding: Finding, expression: Optional[Expression]) -> str:
     """Which type doesn't match which elements."""
-    elements, types = (
-        " or ".join(map(str, sorted(finding.sizes[name]))) for name in ("element", "access")
-    )
-    return f"{access(expression)} may take elements of {elements} bytes as a type of {types} bytes"
+    elements, types = (bytes_of(finding.sizes[name]) for name in ("element", "access"))
+    return f"{access(expression)} may take elements of {elements} as a type of {types}"
+
+
+def bytes_of(sizes: set[int]) -> str:
+    """Sizes in bytes."""
+    told = " or ".join(map(str, sorted(sizes)))
+    return f"{told} byte{'' if sizes == {1} else 's'}"

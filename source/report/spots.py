@@ -37,6 +37,14 @@ class Spot(NamedTuple):
     expression: Optional[Expression]
 
 
+def joined(one: Optional[Spot], other: Optional[Spot]) -> Optional[Spot]:
+    """The spot of two that begin in one place: what both tell of the expression."""
+    if one is None or other is None:
+        return one
+    expression = one.expression if one.expression == other.expression else None
+    return one._replace(end=max(one.end, other.end), expression=expression)
+
+
 class SourceRow:
     """A source line with those that backslashes join to it, and its preprocessed forms."""
 
@@ -70,10 +78,14 @@ class SourceRow:
         self, alignment: Alignment, finding: Finding
     ) -> Optional[tuple[Span, Optional[Form]]]:
         """The tokens that one form of the line tells, and the expression's, if it is sure."""
-        token = alignment.text.number_at(finding.place.column - 1)
-        span = None if token is None else alignment.span_of(token)
-        if token is None or span is None:
+        tokens = self.tokens_for(alignment.text, finding)
+        spans = [span for span in map(alignment.span_of, tokens) if span is not None]
+        if not spans:
             return None
+        if len(tokens) > 1:
+            first, last = min(span.first for span in spans), max(span.last for span in spans)
+            return Span(first, last, False), None
+        token, span = tokens[0], spans[0]
         if not span.is_exact:
             return span, None
         form = form_at(self.tokens, span.first, finding.kind)
@@ -83,6 +95,17 @@ class SourceRow:
         other = form_at(alignment.text, token, finding.kind)
         is_sure = other is not None and form.outline == other.outline
         return span, form if is_sure else None
+
+    def tokens_for(self, text: Line, finding: Finding) -> list[int]:
+        """The tokens of a preprocessed line that a finding may mean.
+
+        More than one may begin in a column, since a macro of a header of the system is put between
+        markers, and what stands behind it begins in the column that it has in the source.
+        """
+        tokens = text.numbers_at(finding.place.column - 1)
+        if len(tokens) == 1:
+            return tokens
+        return [each for each in tokens if form_at(text, each, finding.kind)] or tokens
 
     def placed(self, start: int, end: int, form: Optional[Form]) -> Spot:
         """The spot of offsets in the joined lines: it is cut at the end of its first line."""

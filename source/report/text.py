@@ -3,7 +3,6 @@
 from __future__ import annotations
 
 from .excerpt import Excerpt
-from .folding import places_of
 from .items import Item, Report
 from .shown import CONTROL, REPLACEMENT
 
@@ -55,18 +54,18 @@ def last_line(report: Report) -> str:
     """How many warnings there are, and how many aren't told."""
     if report.refusals:
         return f"nothing is analysed: {counted(len(report.refusals), 'error')}"
-    findings = [item.finding for item in report.shown]
-    alarms = sum(finding.alarms for finding in findings)
+    items = report.shown
+    alarms = sum(item.finding.alarms for item in items)
     new = "" if report.baseline is None else "new "
-    said = counted(len(findings), f"{new}warning")
-    if findings:
-        said += f" at {counted(places_of(findings), 'place')}"
-    if alarms > len(findings):
+    said = counted(len(items), f"{new}warning")
+    if items:
+        said += f" at {counted(len({item.place for item in items}), 'place')}"
+    if alarms > len(items):
         said += f", folded from {alarms} alarms"
     if report.ignored:
         said += f"; {len(report.ignored)} ignored"
     if report.baseline is not None:
-        known = len(report.warnings) - len(findings)
+        known = len(report.warnings) - len(items)
         said += f"; {known} in the baseline"
         said += f", which has {report.gone} more" if report.gone else ""
     return said

@@ -23,7 +23,7 @@ class Line:
         self.texts: list[str] = []
         self.starts: list[int] = []
         self.known_partners: dict[int, int] | None = None
-        self.known_numbers: dict[int, int] | None = None
+        self.known_numbers: dict[int, list[int]] | None = None
 
     def add(self, text: str) -> None:
         """Adds the tokens of a text. Their offsets count from its start."""
@@ -49,11 +49,10 @@ class Line:
                     self.known_partners[opened.pop()] = at
         return self.known_partners
 
-    def number_at(self, start: int) -> int | None:
-        """The token that begins at an offset, where just one does."""
+    def numbers_at(self, start: int) -> list[int]:
+        """The tokens that begin at an offset: more than one where a line is made of pieces."""
         if self.known_numbers is None:
             self.known_numbers = {}
             for token, offset in enumerate(self.starts):
-                self.known_numbers[offset] = -1 if offset in self.known_numbers else token
-        token = self.known_numbers.get(start, -1)
-        return None if token < 0 else token
+                self.known_numbers.setdefault(offset, []).append(token)
+        return self.known_numbers.get(start, [])

@@ -2,7 +2,7 @@
 
 from __future__ import annotations
 
-from driver.failure import USAGE, Failure
+from driver.failure import USAGE, Failure, Misused
 
 FORMATS = ("text", "plain", "json", "sarif", "html")
 CHOICES = {
@@ -14,6 +14,11 @@ FILES = ("--output", "--baseline")
 UPDATE = "--update-baseline"
 # What is known at each place is told where there is room for it.
 WITH_VALUES = ("text", "plain", "json")
+
+
+def needed(option: str) -> str:
+    """What an option wants as its argument."""
+    return "a FILE" if option in FILES else f"one of {', '.join(CHOICES[option])}"
 
 
 class Wanted:
@@ -44,18 +49,18 @@ class Wanted:
         """Whether the program's own lines go to standard output."""
         return self.format == "plain" and self.output is None
 
-    def take(self, words: list[str], at: int) -> int | None:
-        """How many words an option takes there, 0 for others; None without its argument."""
+    def take(self, words: list[str], at: int) -> int:
+        """How many words an option takes there, and 0 for others."""
         option, equals, argument = words[at].partition("=")
         if words[at] == UPDATE:
             self.is_updating = True
             return 1
         if option not in CHOICES and option not in FILES:
             return 0
-        if not equals:
-            if at + 1 == len(words):
-                return None
+        if not equals and at + 1 < len(words):
             argument = words[at + 1]
+        elif not argument:
+            raise Misused(f"{option} needs {needed(option)}")
         self.keep(option, argument)
         return 1 if equals else 2
 

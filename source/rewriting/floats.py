@@ -9,6 +9,7 @@ of what is written here, on any machine. Operands stay, for their effects and ac
 
 from __future__ import annotations
 
+import os
 from typing import Optional
 
 from c.constants import floating_literal, is_pure, value_of
@@ -22,6 +23,7 @@ from c.types import (
 from .unit import Program, Unit, Untyped
 from .walk import Context, Rewriting, Walk
 
+FORM = "file with floating numbers"
 WORDS = {"double": "long", "float": "int"}
 LOGICAL = frozenset(["&&", "||"])
 COMPARING = frozenset(["<", ">", "<=", ">=", "==", "!="])
@@ -52,7 +54,15 @@ class Floats(Rewriting):
             if values[token] in WORDS and "long" not in (values[token - 1], values[token + 1]):
                 self.edits.replace(token, token, WORDS[values[token]])
         self.unit.has_floats = True
-        self.unit.count("file with floating numbers")
+        # A prototype of Sparrow's headers makes no file one with floating numbers.
+        if any(map(self.is_own, self.unit.floating_tokens())):
+            self.unit.counts[FORM] = 1
+
+    def is_own(self, token: int) -> bool:
+        """Whether a token stands in a file of the program."""
+        folder = os.environ.get("SPARROW_INCLUDE")
+        place = self.unit.places.of(self.tokens.starts[token])
+        return not folder or not place.file.startswith(f"{folder}/")
 
     def is_floating(self, node: Expression) -> bool:
         """Whether an operand is floating."""
@@ -65,6 +75,8 @@ class Floats(Rewriting):
 
     def expression(self, node: Expression) -> None:
         """An expression: each kind has its rule."""
+        if isinstance(node.type, Floating):
+            self.unit.counts[FORM] = 1
         rule = RULES.get(node.kind)
         if rule is not None:
             rule(self, node)

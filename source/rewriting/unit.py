@@ -2,7 +2,7 @@
 
 from __future__ import annotations
 
-from typing import Union
+from typing import Iterator, Union
 
 from c.edits import Edits
 from c.places import Places
@@ -71,10 +71,14 @@ class Unit:
 
     def may_have_floats(self) -> bool:
         """Whether a word or number is there that floating numbers begin with."""
-        return not self.names.isdisjoint(("float", "double")) or any(
-            kind == NUMBER and FLOATING.fullmatch(value)
-            for kind, value in zip(self.tokens.kinds, self.tokens.values)
-        )
+        return next(self.floating_tokens(), None) is not None
+
+    def floating_tokens(self) -> Iterator[int]:
+        """The words and numbers that floating numbers begin with."""
+        for token, (kind, value) in enumerate(zip(self.tokens.kinds, self.tokens.values)):
+            is_number = kind == NUMBER and FLOATING.fullmatch(value) is not None
+            if is_number or value in ("float", "double"):
+                yield token
 
     def unread(self) -> list[Unread]:
         """The parts that can't be read."""
