@@ -11,6 +11,7 @@ import sys
 import tempfile
 
 from report_schema import schema, schema_faults
+from told import tell
 
 HERE = os.path.dirname(os.path.abspath(__file__))
 TOP = os.path.dirname(HERE)
@@ -198,11 +199,7 @@ def main() -> int:
         try_bad_baselines(room)
         try_ignoring(room)
         try_time(room)
-    wrong = {name: fault for name, fault in faults.items() if fault}
-    for name, fault in wrong.items():
-        print(f"FAILED {name}\n{fault}")
-    print(f"{len(faults) - len(wrong)} passed, {len(wrong)} failed")
-    return bool(wrong)
+    return tell(faults)
 
 
 if __name__ == "__main__":

@@ -13,6 +13,8 @@ import sys
 import tempfile
 from collections import Counter
 
+from told import tell
+
 HERE = os.path.dirname(os.path.abspath(__file__))
 TOP = os.path.dirname(HERE)
 sys.path.insert(0, os.path.join(TOP, "source"))
@@ -178,11 +180,7 @@ def main() -> int:
         try_alike(room, "small functions", ["table.c", "blocks.c"], 120)
         try_limits()
         try_analysis(room)
-    wrong = {name: fault for name, fault in faults.items() if fault}
-    for name, fault in wrong.items():
-        print(f"FAILED {name}\n{fault}")
-    print(f"{len(faults) - len(wrong)} passed, {len(wrong)} failed")
-    return bool(wrong)
+    return tell(faults)
 
 
 if __name__ == "__main__":

@@ -8,6 +8,8 @@ import re
 import subprocess
 import sys
 
+from told import tell
+
 TOP = os.path.dirname(os.path.dirname(os.path.abspath(__file__)))
 DOCUMENTS = ("README.md", "docs/REPORT.md", "docs/LANGUAGE.md")
 INDENT, PROMPT = "    ", "    $ "
@@ -37,20 +39,18 @@ def is_written(lines: list[str], said: str) -> bool:
 
 def main() -> int:
     """Runs all examples."""
-    count = failed = 0
+    faults: dict[str, str] = {}
     for document in DOCUMENTS:
         with open(os.path.join(TOP, document), encoding="utf-8") as file:
             examples = examples_in(file.read())
         for command, lines in examples:
-            count += 1
             done = subprocess.run(
                 ["bash", "-c", command], cwd=TOP, capture_output=True, text=True, check=False
             )
-            if not is_written(lines, done.stdout):
-                failed += 1
-                print(f"FAILED {document}: {command}\n{done.stdout}")
-    print(f"{count - failed} passed, {failed} failed")
-    return failed != 0
+            # A command stands in more than one document, or twice in one.
+            name = f"{document}, example {len(faults) + 1}: {command}"
+            faults[name] = "" if is_written(lines, done.stdout) else f"it writes\n{done.stdout}"
+    return tell(faults)
 
 
 if __name__ == "__main__":

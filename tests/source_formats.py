@@ -13,6 +13,7 @@ from html.parser import HTMLParser
 from typing import Any
 
 from report_schema import schema, schema_faults
+from told import tell
 
 HERE = os.path.dirname(os.path.abspath(__file__))
 SPARROW = os.path.join(os.path.dirname(HERE), "sparrow")
@@ -315,11 +316,7 @@ def main() -> int:
         try_failures(room)
         try_words(room)
         try_terminal(room)
-    wrong = {name: fault for name, fault in faults.items() if fault}
-    for name, fault in wrong.items():
-        print(f"FAILED {name}\n{fault}")
-    print(f"{len(faults) - len(wrong)} passed, {len(wrong)} failed")
-    return bool(wrong)
+    return tell(faults)
 
 
 if __name__ == "__main__":

@@ -6,6 +6,8 @@ from __future__ import annotations
 import os
 import sys
 
+from told import tell
+
 HERE = os.path.dirname(os.path.abspath(__file__))
 sys.path.insert(0, os.path.join(os.path.dirname(HERE), "source"))
 
@@ -174,15 +176,11 @@ def main() -> int:
         "a fingerprint": fingerprint_faults(),
         "a report": other_faults(),
     }
-    failed = count = 0
-    for table, faults in tables.items():
-        for name, fault in faults.items():
-            count += 1
-            if fault:
-                failed += 1
-                print(f"FAILED {table}: {name}\n{fault}")
-    print(f"{count - failed} passed, {failed} failed")
-    return failed != 0
+    return tell({
+        f"{table}: {name}": fault
+        for table, faults in tables.items()
+        for name, fault in faults.items()
+    })
 
 
 if __name__ == "__main__":

@@ -10,6 +10,7 @@ from typing import Optional
 
 from c.constants import value_of, wrapped
 from c.edits import MAX_COLUMN
+from c.fresh import FreshNames
 from c.trees import Symbol
 from c.types import Integer
 
@@ -41,13 +42,12 @@ class Copier:
 
     def __init__(self, calls: Calls, size: int) -> None:
         self.calls = calls
-        self.names = {name for unit in calls.units for name in unit.names}
+        self.fresh = FreshNames({name for unit in calls.units for name in unit.names})
         bodies = sum(each.size for each in calls.candidates)
         tokens = sum(unit.tokens.count for unit in calls.units)
         # The functions of a program grow at most to twice their tokens.
         self.room = max(0, min(max(bodies, LEAST_ROOM), MOST_TOKENS - tokens))
         self.counts: dict[Candidate, int] = {}
-        self.numbers: dict[str, int] = {}
         # The calls that stay for want of room, by name.
         self.left: dict[str, int] = {}
         self.copied = self.chosen(size)
@@ -122,18 +122,10 @@ class Copier:
             return None
         self.counts[callee] = self.counts.get(callee, 0) + 1
         self.room -= callee.size
-        name = self.new_name(callee.name)
+        name = self.fresh.make(callee.name)
         where = (site, level, cast if is_wrapper else None)
         site.texts.append(self.copy(callee, call, name, where))
         return name
-
-    def new_name(self, stem: str) -> str:
-        """A name that the program doesn't have."""
-        number = self.numbers.get(stem, 0) + 1
-        while f"{stem}__{number}" in self.names:
-            number += 1
-        self.numbers[stem] = number
-        return f"{stem}__{number}"
 
     def copy(
         self, callee: Candidate, call: Call, name: str, where: tuple[Site, int, Optional[str]]

@@ -9,7 +9,7 @@ from __future__ import annotations
 from c.constants import is_pure, value_of
 from c.placing import Unplaced, place
 from c.rules import COMPARING, called_function, stripped
-from c.trees import Declarator, Expression, FunctionDefinition, Initialiser, Specifiers, Statement
+from c.trees import Expression, FunctionDefinition, Initialiser, Statement
 from c.types import BOOL, Array, Function, MaybeType, Record
 
 from .bit_fields import bits_of
@@ -92,11 +92,6 @@ class Booleans(Rewriting):
             kind = function.declarator.type
             if isinstance(kind, Function):
                 self.convert(node.expressions[0], kind.result)
-
-    def declarator(self, node: Declarator, specifiers: Specifiers) -> None:
-        """An initialiser."""
-        if node.values is not None:
-            self.values(node.type, node.values)
 
     def values(self, kind: MaybeType, values: Initialiser) -> None:
         """The values of an initialiser."""

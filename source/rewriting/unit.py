@@ -5,6 +5,7 @@ from __future__ import annotations
 from typing import Iterator, Union
 
 from c.edits import Edits
+from c.fresh import FreshNames
 from c.places import Places
 from c.rules import FLOATING
 from c.tokens import NAME, NUMBER, Tokens
@@ -44,8 +45,7 @@ class Unit:
         self.names = {
             value for kind, value in zip(self.tokens.kinds, self.tokens.values) if kind == NAME
         }
-        # The last number that was put behind a name.
-        self.numbers: dict[str, int] = {}
+        self.fresh = FreshNames(self.names)
         # What stays as it is although it was meant to be rewritten: token and reason.
         self.left = [(part.token, part.text) for part in self.unread()]
 
@@ -59,11 +59,7 @@ class Unit:
 
     def new_name(self, stem: str) -> str:
         """A name that the unit doesn't have."""
-        number = self.numbers.get(stem, 0) + 1
-        while f"{stem}__{number}" in self.names:
-            number += 1
-        self.numbers[stem] = number
-        return f"{stem}__{number}"
+        return self.fresh.make(stem)
 
     def functions(self) -> list[FunctionDefinition]:
         """The functions that are defined here."""

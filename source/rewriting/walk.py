@@ -13,6 +13,7 @@ from c.trees import (
     Declaration, Declarator, EnumBody, Expression, FunctionDefinition, Initialiser, RecordBody,
     Specifiers, Statement, TypeName,
 )
+from c.types import MaybeType
 
 from .unit import Program, Unit
 
@@ -73,6 +74,11 @@ class Rewriting:
 
     def declarator(self, node: Declarator, specifiers: Specifiers) -> None:
         """A declarator of a declaration, with its initialiser."""
+        if node.values is not None:
+            self.values(node.type, node.values)
+
+    def values(self, kind: MaybeType, values: Initialiser) -> None:
+        """The initialiser of something of a type."""
 
     def record(self, node: RecordBody) -> None:
         """The members of a struct or union."""

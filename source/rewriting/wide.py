@@ -4,7 +4,7 @@ from __future__ import annotations
 
 from c.constants import character_value
 from c.placing import Unplaced, place, string_of
-from c.trees import Declarator, Expression, Initialiser, Specifiers
+from c.trees import Expression, Initialiser
 from c.types import Array, MaybeType
 from c.wide import wide_values
 
@@ -47,11 +47,6 @@ class WideLiterals(Rewriting):
         if node.kind not in ("string", "character"):
             return []
         return self.tokens.values[node.first : node.last + 1]
-
-    def declarator(self, node: Declarator, specifiers: Specifiers) -> None:
-        """An object with its initialiser."""
-        if node.values is not None:
-            self.values(node.type, node.values)
 
     def values(self, kind: MaybeType, values: Initialiser) -> None:
         """The arrays that wide strings start."""
