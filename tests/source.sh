@@ -173,7 +173,8 @@ printf '#!/bin/sh\necho $$ >"%s/started"\nexec sleep 300\n' "$room" >"$stand_in"
 chmod +x "$stand_in"
 for signal in TERM HUP; do
     rm -f "$room/started"
-    "$room/copy/bin/sparrow" source "$room/main.c" >/dev/null 2>&1 &
+    # Where the tests run under nohup the signal is ignored, and what is ignored doesn't end the script.
+    env --default-signal=$signal "$room/copy/bin/sparrow" source "$room/main.c" >/dev/null 2>&1 &
     script=$!
     for _ in $(seq 600); do [ -s "$room/started" ] && break; sleep 0.1; done
     kill -s $signal $script
