@@ -15,3 +15,4 @@ mod Windows
 mod CellLaws
 mod Turns
 pub mod Told
+mod Numbering

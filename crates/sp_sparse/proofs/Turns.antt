@@ -48,7 +48,7 @@ shown_low waiting i low = below most_shown waiting low
 
 pub shown_some : (waiting : List ℕ) → 0 < length waiting → 0 < length (take most_shown waiting)
 shown_some [] some = absurd (omega arith)
-shown_some (x ∷ waiting) some = begins 1023
+shown_some (x ∷ waiting) some = begins 127
   where
     begins : (k : ℕ) → 0 < length (take (suc k) (x ∷ waiting))
     begins k = omega arith

@@ -1,2 +1,3 @@
 pub mod Solution
+pub mod Order
 pub mod inner

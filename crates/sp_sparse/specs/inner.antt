@@ -4,3 +4,4 @@ pub mod Grid
 pub mod Queue
 pub mod Links
 pub mod Engine
+pub mod Order

@@ -27,13 +27,15 @@
 
 mod evaluation;
 mod links;
+mod order;
 mod pickers;
 mod places;
 mod solver;
 mod tables;
 mod waiting;
 
-pub use pickers::{First, Last, Picker};
+pub use order::order_of;
+pub use pickers::{ByOrder, First, Last, Picker};
 pub use solver::solve_sparse;
 pub use tables::SparseTable;
 pub use waiting::MOST_SHOWN;

@@ -1,5 +1,6 @@
 //! Which of the nodes that wait is served next.
 ghost use Rattle.std.specs.Prelude.{◌≡◌, ◌+◌, ◌<◌, length};
+ghost use Rattle.sp_sparse.specs.Order.{AreDifferent, IsFirst, number_of};
 
 /// An order of service.
 ///
@@ -38,5 +39,50 @@ impl Picker for Last {
         ensures last { result + 1 ≡ length waiting.now }
     {
         waiting.len() - 1
+    }
+}
+
+/// Serves the node of least number in an order, among those that are shown. A node without a number
+/// comes after all others; of two such the one that stands first comes first.
+#[derive(Debug, Drop)]
+pub struct ByOrder {
+    order: Vec<u32>,
+}
+
+impl ByOrder {
+    /// Serves in this order: a number for each node, all different.
+    pub fn new(order: Vec<u32>) -> ByOrder
+        requires { AreDifferent order.items }
+        ensures { result.order.items ≡ order.items }
+    {
+        ByOrder { order }
+    }
+
+    fn number_of(&self, node: u32) -> u64
+        ensures { result ≡ number_of self.now.order.items node }
+    {
+        match self.order.get(node as usize) {
+            Some(number) => u64::from(*number),
+            None => 1 << 32,
+        }
+    }
+}
+
+impl Picker for ByOrder {
+    fn pick(&mut self, waiting: &[u32]) -> usize
+        requires { 0 < length waiting.now }
+        ensures below { result < length waiting.now }
+        ensures first { IsFirst self.old.order.items waiting.now result }
+    {
+        let mut place = 0;
+        let mut least = self.number_of(waiting[0]);
+        for (at, node) in waiting.iter().enumerate() {
+            let number = self.number_of(*node);
+            if number < least {
+                place = at;
+                least = number;
+            }
+        }
+        place
     }
 }

@@ -7,7 +7,7 @@ use std::alloc::{AllocError, Global};
 use std::marker::Model;
 
 /// How many of the nodes that wait a picker is shown: so one that goes over them all stays cheap.
-pub const MOST_SHOWN: usize = 1024;
+pub const MOST_SHOWN: usize = 128;
 
 /// The nodes that wait, none of them twice.
 ///

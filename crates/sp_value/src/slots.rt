@@ -145,7 +145,9 @@ impl Lattice for Slot {
     }
 
     fn join_into(&mut self, alloc: Global, other: &Slot) -> Result<bool, AllocError> {
-        let grew = !other.leq(self);
+        if other.leq(self) {
+            return Ok(false);
+        }
         match (&*self, other) {
             (_, Slot::Nothing) => {}
             (Slot::Nothing, Slot::Plain(value)) => *self = Slot::Plain(value.copy(alloc)?),
@@ -154,7 +156,7 @@ impl Lattice for Slot {
                 *self = Slot::Plain(sum);
             }
         }
-        Ok(grew)
+        Ok(true)
     }
 
     fn copy(&self, alloc: Global) -> Result<Slot, AllocError> {

@@ -20,4 +20,4 @@ pub record Removes (before after : List ℕ) (n : ℕ) : Type 0 where
 
 -- how many of the nodes that wait a picker is shown
 abbrev pub most_shown : ℕ
-most_shown = 1024
+most_shown = 128

@@ -1,0 +1,13 @@
+use Rattle.std.proofs.Common.{◌≡◌, ◌<◌, ◌≤◌, ℕ, length, slice_index_or}
+use Rattle.sp_sparse.specs.Order.{number_of}
+use Rattle.sp_sparse.proofs.pickers.ByOrderPicker.pick.Given as goal
+
+abbrev pub invariant-loop-at : goal.invariant-loop-at
+invariant-loop-at l = record {
+  order : l.self.order.items ≡ l.initial.self.order.items;
+  low : l.place < length l.waiting;
+  least : l.least ≡ number_of l.self.order.items (slice_index_or l.waiting l.place 0);
+  behind : l.place ≤ l.at;
+  none : (k : ℕ) → k < l.at → l.least ≤ number_of l.self.order.items (slice_index_or l.waiting k 0);
+  before : (k : ℕ) → k < l.place → l.least < number_of l.self.order.items (slice_index_or l.waiting k 0);
+}
