@@ -53,3 +53,8 @@ replace() {
     OLD=$2 NEW=$3 awk '$0 == ENVIRON["OLD"] { print ENVIRON["NEW"]; next } { print }' "$1" > "$1.new"
     mv "$1.new" "$1"
 }
+
+# without_in FOLDER..: takes the `.in` away behind the names of files.
+without_in() {
+    find "$@" -name '*.in' | while read -r file; do mv "$file" "${file%.in}"; done
+}

@@ -6,17 +6,15 @@ top=$(cd "$(dirname "$0")/.." && pwd)
 . "$top/bench/room.sh"
 make_room sparse sp_lattice sp_interval sp_dense sp_deps sp_sparse
 
-# The program takes the systems over intervals from engine_rows, with their definitions and proofs.
-rows=$top/crates/engine_rows
+# The program's systems over intervals stand beside it, with their definitions and proofs.
+systems=$top/bench/sparse/systems
 folder=$room/crates/sparse_bench
-cp "$rows/src/systems.rt" "$folder/src/systems.rt"
+cp "$systems/systems.rt.in" "$folder/src/systems.rt"
 rm -rf "$folder/proofs" "$folder/specs"
-mkdir -p "$folder/proofs/main" "$folder/specs"
+cp -R "$systems/proofs" "$systems/specs" "$folder/"
+without_in "$folder/proofs" "$folder/specs"
+mkdir -p "$folder/proofs/main"
 cp "$top/bench/sparse/main.antt.in" "$folder/proofs/main/Invariants.antt"
-cp -R "$rows/proofs/systems" "$rows/proofs/SystemLaws.antt" "$rows/proofs/Listed.antt" "$rows/proofs/Lib.antt" "$folder/proofs/"
-cp "$rows"/specs/*.antt "$folder/specs/"
-find "$folder" -name out -prune -o \( -name '*.antt' -o -name '*.rt' \) -exec sed -i 's/Rattle\.engine_rows\./Rattle.sparse_bench./' {} +
-grep -rqF 'Rattle.sparse_bench.' "$folder" || { echo "no file of engine_rows names its own definitions" >&2; exit 1; }
 (cd "$folder" && rt run -- blocks 1000) >"$room/built.txt"
 
 line='%-7s %8s %13s %12s %12s %8s %12s %7s\n'

@@ -6,6 +6,8 @@ program=$(./sparrow --program) || exit 1
 room=$(mktemp -d)
 trap 'rm -rf "$room"' EXIT
 
+names=(a.c b.c c.c)
+
 in_room() { (cd "$room" && "$program" "$@"); }
 
 for file in tests/cases/*.tsv; do
@@ -22,15 +24,17 @@ done
 for file in tests/programs/*.tsv; do
     flags=()
     [ "$file" != tests/programs/values.tsv ] || flags=(--values)
-    while IFS=$'\t' read -r name status first second answer || [ -n "$name" ]; do
-        files=(a.c)
-        printf '%b' "$first" >"$room/a.c"
-        if [ "$second" != '(none)' ]; then
-            printf '%b' "$second" >"$room/b.c"
-            files+=(b.c)
-        fi
+    while IFS=$'\t' read -r -a fields || [ ${#fields[@]} -gt 0 ]; do
+        texts=("${fields[@]:2:${#fields[@]}-3}")
+        files=()
+        for place in "${!texts[@]}"; do
+            [ "${texts[place]}" != '(none)' ] || continue
+            written=${names[place]}
+            printf '%b' "${texts[place]}" >"$room/$written"
+            files+=("$written")
+        done
         for command in analyse dense; do
-            check "$file, $name, $command" "$status" "${answer//|/$'\n'}"$'\n' \
+            check "$file, ${fields[0]}, $command" "${fields[1]}" "${fields[-1]//|/$'\n'}"$'\n' \
                 in_room "$command" "${flags[@]}" "${files[@]}"
         done
     done <"$file"

@@ -74,6 +74,50 @@ check '65 files' 2 $'x.c:1:1: refused M9: files past 64\n' in_room analyse main.
 check 'slots past the limit' 2 $'slots.c:1:1: refused M8: 2006004 dense slots\n' in_room dense slots.c
 check 'few dependencies' 0 $'0 alarms\n' in_room analyse slots.c
 
+# times N TEXT: the text so many times.
+times() { printf "$2%.0s" $(seq "$1"); }
+in_main() { printf 'int main(void){%sreturn 0;}' "$1"; }
+
+# 61,681 locations and 17 nodes are 1,048,577 slots, one past the limit; 65,536 and 16 are as many as
+# it is. Beside the assignments there are start, entry, result and exit.
+{ printf 'int x%d;' $(seq 61680); in_main "$(times 13 'x1=1;')"; } >"$room/slot.c"
+check 'one slot past the limit' 2 $'slot.c:1:1: refused M8: 1048577 dense slots\n' in_room dense slot.c
+{ printf 'int x%d;' $(seq 65535); in_main "$(times 12 'x1=1;')"; } >"$room/slot.c"
+check 'as many slots as the limit' 0 $'0 alarms\n' in_room dense slot.c
+
+# A program may have 500,000 nodes: with three locations the dense engine tells three times as many.
+in_main "int x;int y;$(times 499996 'x++;')" >"$room/nodes.c"
+check '500,000 nodes' 2 $'nodes.c:1:1: refused M8: 1500000 dense slots\n' in_room dense nodes.c
+in_main "int x;int y;$(times 499997 'x++;')" >"$room/nodes.c"
+check '500,001 nodes' 2 $'nodes.c:1:1: refused M4: nodes past 500000\n' in_room dense nodes.c
+
+# It may have 200,000 regions: 796 structs of 251 each, 202 ints, main and its result.
+regions() { # structs, ints
+    printf 'struct s{'
+    printf 'int m%d;' $(seq 250)
+    printf '};'
+    printf 'struct s o%d;' $(seq "$1")
+    [ "$2" = 0 ] || printf 'int i%d;' $(seq "$2")
+    in_main ''
+}
+past=$'regions.c:1:1: refused M5: regions past 200000\n'
+regions 796 202 >"$room/regions.c"
+check '200,000 regions' 0 $'0 alarms\n' in_room analyse regions.c
+regions 796 203 >"$room/regions.c"
+check '200,001 regions' 2 "$past" in_room analyse regions.c
+regions 800 0 >"$room/regions.c"
+check 'a struct past the last region' 2 "$past" in_room analyse regions.c
+
+# Each of so many assignments reaches each of so many uses: 7,072 of both are 50,013,184 dependencies.
+reached() {
+    printf 'int g(void);'
+    in_main "int x;switch(g()){$(printf 'case %d:x=1;break;' $(seq "$1"))}$(times "$1" 'x;')"
+}
+reached 7072 >"$room/reached.c"
+check 'dependencies past the limit' 2 $'reached.c:1:1: refused M6: dependencies past 50000000\n' in_room analyse reached.c
+reached 1000 >"$room/reached.c"
+check '1,000,000 dependencies' 0 $'0 alarms\n' in_room analyse reached.c
+
 # A text may have 2,000,000 tokens beside its end. These declare nothing, and no `main`.
 head -c 2000000 /dev/zero | tr '\0' ';' >"$room/tokens.c"
 check '2,000,000 tokens' 2 "$room/tokens.c"$':1:1: refused F25: no main\n' ./sparrow analyse "$room/tokens.c"

@@ -1,14 +1,14 @@
 //! Rows on the parsers of expressions, type names, specifiers and declarators.
 //!
 //! `AT`, `DEPTH`, `TEXT`: the answer from the token of the number AT on, where trees may be so deep
-//! and names that begin with a `T` are type names: the tree and the number of the next token; or the
-//! fault and the number of the token at its place.
-use crate::print::{self, MAX_DEPTH};
+//! and names that begin with a `T` are type names: the number of the next token; or the fault and
+//! the number of the token at its place. `mark` tells the number of the token that an expression's
+//! place is, too.
 use sp_expr_parser::{
     ParseError, TypeNames, is_ended, parse_declarator, parse_expression, parse_specifiers,
     parse_type_name,
 };
-use sp_lexer::scan;
+use sp_lexer::{ScanError, scan};
 use sp_tree::{Fault, Kind, Names, Place, Token};
 use std::alloc::{AllocError, Global};
 
@@ -42,7 +42,6 @@ fn refused(alloc: Global, tokens: &[Token], error: ParseError) -> Result<String,
 
 fn expression_read(
     alloc: Global,
-    names: &Names,
     tokens: &[Token],
     types: &TypeNames,
     asked: &Asked<'_>,
@@ -55,10 +54,7 @@ fn expression_read(
         Ok((tree, next)) if asked.call == "mark" => {
             write!(out, "{} next {next}", number_at(tokens, tree.mark))?;
         }
-        Ok((tree, next)) => {
-            print::expression(names, &tree, MAX_DEPTH, &mut out)?;
-            write!(out, " next {next}")?;
-        }
+        Ok((_tree, next)) => write!(out, "next {next}")?,
         Err(error) => return refused(alloc, tokens, error),
     }
     Ok(out)
@@ -66,7 +62,6 @@ fn expression_read(
 
 fn type_name_read(
     alloc: Global,
-    names: &Names,
     tokens: &[Token],
     types: &TypeNames,
     asked: &Asked<'_>,
@@ -76,10 +71,7 @@ fn type_name_read(
         return String::from_str(alloc, "no such token");
     }
     match parse_type_name(alloc, tokens, asked.at, types, asked.depth.min(200)) {
-        Ok((tree, next)) => {
-            print::type_name(names, &tree, MAX_DEPTH, &mut out)?;
-            write!(out, " next {next}")?;
-        }
+        Ok((_tree, next)) => write!(out, "next {next}")?,
         Err(error) => return refused(alloc, tokens, error),
     }
     Ok(out)
@@ -87,7 +79,6 @@ fn type_name_read(
 
 fn specifiers_read(
     alloc: Global,
-    names: &Names,
     tokens: &[Token],
     types: &TypeNames,
     asked: &Asked<'_>,
@@ -97,10 +88,7 @@ fn specifiers_read(
         return String::from_str(alloc, "no such token");
     }
     match parse_specifiers(alloc, tokens, asked.at, types, asked.depth.min(200)) {
-        Ok((all, next)) => {
-            print::specifiers(names, &all, MAX_DEPTH, &mut out)?;
-            write!(out, " next {next}")?;
-        }
+        Ok((_all, next)) => write!(out, "next {next}")?,
         Err(error) => return refused(alloc, tokens, error),
     }
     Ok(out)
@@ -108,7 +96,6 @@ fn specifiers_read(
 
 fn declarator_read(
     alloc: Global,
-    names: &Names,
     tokens: &[Token],
     types: &TypeNames,
     asked: &Asked<'_>,
@@ -118,10 +105,7 @@ fn declarator_read(
         return String::from_str(alloc, "no such token");
     }
     match parse_declarator(alloc, tokens, asked.at, types, asked.depth.min(200)) {
-        Ok((tree, next)) => {
-            print::declarator(names, &tree, MAX_DEPTH, &mut out)?;
-            write!(out, " next {next}")?;
-        }
+        Ok((_tree, next)) => write!(out, "next {next}")?,
         Err(error) => return refused(alloc, tokens, error),
     }
     Ok(out)
@@ -161,10 +145,29 @@ pub fn parsed(alloc: Global, call: &str, given: &str) -> Result<String, AllocErr
         depth: depth.parse::<u32>().unwrap_or(0),
     };
     match call {
-        "type name" => type_name_read(alloc, &names, &tokens, &types, &asked),
-        "specifiers" => specifiers_read(alloc, &names, &tokens, &types, &asked),
-        "declarator" => declarator_read(alloc, &names, &tokens, &types, &asked),
-        _ => expression_read(alloc, &names, &tokens, &types, &asked),
+        "type name" => type_name_read(alloc, &tokens, &types, &asked),
+        "specifiers" => specifiers_read(alloc, &tokens, &types, &asked),
+        "declarator" => declarator_read(alloc, &tokens, &types, &asked),
+        _ => expression_read(alloc, &tokens, &types, &asked),
+    }
+}
+
+/// `ROOM`, `TEXT`: how many tokens the text has where there is room for so many and its end, or its
+/// first fault.
+pub fn scanned(alloc: Global, given: &str) -> Result<String, AllocError> {
+    let (room, text) = given.split_once('\t').unwrap_or(("", ""));
+    let mut names = Names::new(alloc);
+    let name = names.add(b"a.c".as_slice())?;
+    if text.len() > MAX_TEXT || names.len() > MAX_TEXT {
+        return String::from_str(alloc, "the row is too long");
+    }
+    let room = room.parse::<u64>().unwrap_or(0);
+    match scan(alloc, text.as_bytes(), name, room, &mut names) {
+        Ok(tokens) => format!(in alloc; "{} tokens", tokens.len()),
+        Err(ScanError::Fault(Fault { kind, place })) => {
+            format!(in alloc; "{} {}:{}", kind.code(), place.line, place.column)
+        }
+        Err(ScanError::NoMemory) => String::from_str(alloc, "out of memory"),
     }
 }
 

@@ -1,5 +1,5 @@
 //! The top call on files and a sink in memory.
-use row_texts::unescaped;
+use crate::fields::unescaped;
 use sp_lattice::Steps;
 use sp_outside::{MemoryFiles, MemorySink};
 use sp_run::{Status, run};

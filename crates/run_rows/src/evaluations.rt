@@ -1,10 +1,10 @@
 //! What the sparse engine does with the nodes of a program.
 ghost use Rattle.sp_deps.specs.Answer.{AreDependencies};
 
-use row_lowerings::lowered_of;
-use row_texts::refused;
-use sp_defuse::{CProgram, open_nodes};
-use sp_deps::{DepError, Deps, dependencies_with};
+use crate::faults::refused;
+use crate::lowerings::lowered_of;
+use sp_defuse::CProgram;
+use sp_deps::{DepError, Deps, dependencies};
 use sp_lattice::{Lattice, Steps, System};
 use sp_scenes::Analysis;
 use sp_sparse::{First, Last, SparseTable, solve_sparse};
@@ -81,8 +81,7 @@ fn answer_on<L: Ledger>(
     program: &CProgram,
     steps: &mut Steps<L>,
 ) -> Result<String, AllocError> {
-    let open = open_nodes(alloc, program)?;
-    let deps = match dependencies_with(alloc, program, &open) {
+    let deps = match dependencies(alloc, program) {
         Ok(deps) => deps,
         Err(DepError::TooMany { count }) => return format!(in alloc; "too many: {count}"),
         Err(DepError::NoMemory) => return Err(AllocError),

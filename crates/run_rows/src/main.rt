@@ -20,10 +20,13 @@ ghost use Rattle.std.specs.Prelude.{◌≡◌, ◌<◌};
 
 mod calls;
 mod evaluations;
+mod faults;
+mod fields;
+mod lowerings;
 
 use calls::run_on;
 use evaluations::{Question, answer_to};
-use row_texts::unescaped;
+use fields::unescaped;
 use sp_lattice::Steps;
 use std::alloc::{AllocError, Global};
 use std::io::{self, BufRead, BufReader};
