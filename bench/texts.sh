@@ -15,7 +15,7 @@ for crate in "$top"/crates/sp_* "$top"/bench/texts/*/; do
     done
 done
 without_in "$room"/crates/*_rows "$room"/crates/row_*
-{ grep '^sp_' "$top/crates.txt"; cat "$top/bench/texts/crates.txt"; } >"$room/crates.txt"
+{ grep '^sp_' "$top/crates.txt"; cat "$top/bench/texts/crates.in"; } >"$room/crates.txt"
 [ -d "$room/.git" ] || git init -q "$room"
 (cd "$room/crates/text_rows" && rt run </dev/null >/dev/null)
 # shellcheck disable=SC2034
