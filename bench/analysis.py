@@ -13,6 +13,8 @@ MODULE = 40  # functions
 HELPERS = 8  # functions that all modules call
 SITES = 50  # calls of malloc in a function of `allocations`
 ALLOCATING = 206  # nodes of such a function
+OBJECTS = 64  # to which the pointers of `targets` may point
+HANDING = 19  # nodes of a function of `targets`
 
 
 def blocks(chance, cells, count):
@@ -85,6 +87,18 @@ def allocations(functions):
     return "\n".join(lines) + "\n"
 
 
+def targets(functions):
+    """A program of so many functions that hand on a pointer, which may point to each of 64 objects: so all
+    of them keep long lists of targets, and the last one calls the first."""
+    lines = [f"int o{k};" for k in range(OBJECTS)] + ["int mode;int *g;int *h;"]
+    lines += [f"int *f{k}(int *p);" for k in range(functions)]
+    for k in range(functions):
+        lines.append(f"int *f{k}(int *p){{int *q;q=p;if(mode=={k})q=&o{k % OBJECTS};if(mode>{k})g=q;else q=g;"
+                     f"*q={k};h=q;if(mode<{k})return h;q=f{(k + 1) % functions}(q);*h=*q;return g;}}")
+    lines.append("int main(int c,char **v){mode=c;g=&o0;h=f0(g);return *h;}")
+    return "\n".join(lines) + "\n"
+
+
 def chain(nodes):
     """A straight line of so many assignments to 64 scalars."""
     line = "".join(f"x{(k + 1) % 64}=x{k % 64};" for k in range(nodes))
@@ -141,6 +155,7 @@ def main():
         # of the functions of a deep program eight in ten are reached where there are many
         table("analyse", "deep", deep, sizes, [sparrow, "analyse"], source)
         table("analyse", "allocations", allocations, [10, 100], [sparrow, "analyse"], source, ALLOCATING)
+        table("analyse", "targets", targets, [100, 300], [sparrow, "analyse"], source, HANDING)
         others = {"gcc": ["-O2", "-Wall", "-c", "-o", os.devnull], "frama-c": ["-eva", "-eva-verbose", "0"]}
         for name, flags in others.items():
             if shutil.which(name):

@@ -12,7 +12,7 @@ use sp_ir::Lowered;
 use sp_lattice::{Steps, solution_laws};
 use sp_report::Report;
 use sp_scenes::Analysis;
-use sp_sparse::{ByOrder, order_of, solve_sparse};
+use sp_sparse::{BySweeps, order_of, solve_sparse};
 use sp_tree::Names;
 use std::alloc::{AllocError, Global};
 use std::sync::ledger::Ledger;
@@ -48,7 +48,7 @@ fn solve<L: Ledger>(
         Err(DepError::TooMany { .. }) => return Ok(SparseOutcome::TooMany),
         Err(DepError::NoMemory) => return Err(AllocError),
     };
-    let mut picker = ByOrder::new(order_of(alloc, program)?);
+    let mut picker = BySweeps::new(order_of(alloc, program)?);
     let table = solve_sparse(alloc, program, &deps, &mut picker, steps)?;
     let report = report_on(alloc, names, with_values, program, &table)?;
     Ok(SparseOutcome::Reported(report))

@@ -77,9 +77,9 @@ module _ (nodes : ℕ) (order : List ℕ) (given : List Bool) (next n : ℕ) (ar
   its_different m k h g same = ⊎_elim
       (λ e. ⊎_elim (λ d. e ∙ sym d) (λ other. absurd (apart m k e other g same)) (cases_eq k n))
       (λ other. ⊎_elim
-          (λ d. absurd (apart k m d other h (sym same)))
-          (λ also. are.different m k (older given n m h other) (older given n k g also) (sym (before m other) ∙ same ∙ before k also))
-          (cases_eq k n))
+      (λ d. absurd (apart k m d other h (sym same)))
+      (λ also. are.different m k (older given n m h other) (older given n k g also) (sym (before m other) ∙ same ∙ before k also))
+      (cases_eq k n))
       (cases_eq m n)
 
   pub one-given : AreGiven nodes (slice_set order n next) (slice_set given n true) (next + 1)

@@ -1,5 +1,5 @@
 -- Orders of service: a number for each node.
-use Rattle.std.specs.Prelude.{◌≡◌, ◌≤◌, ◌<◌, ◌^◌, ℕ, List, length, slice_index_or}
+use Rattle.std.specs.Prelude.{◌≡◌, ◌≤◌, ◌<◌, ◌+◌, ◌^◌, ℕ, nat_lt, cond, List, length, slice_index_or}
 
 -- the numbers of a list are all different
 abbrev pub AreDifferent : List ℕ → Type 0
@@ -16,10 +16,17 @@ pub record IsOrder (nodes : ℕ) (order : List ℕ) : Type 0 where
 abbrev pub number_of : List ℕ → ℕ → ℕ
 number_of order n = slice_index_or order n (2 ^ 32)
 
--- the place in a list of the node of least number, of several such the first
-pub record IsFirst (order nodes : List ℕ) (place : ℕ) : Type 0 where
+-- when a number is served by sweeps over the numbers, where the first sweep goes on from one of them: in
+-- that sweep, or in the next
+abbrev pub turn_of : ℕ → ℕ → ℕ
+turn_of next number = cond (nat_lt number next) (number + 2 ^ 33) number
+
+-- the place in a list of the node that is served first, of several such the first
+pub record IsFirst (order : List ℕ) (next : ℕ) (nodes : List ℕ) (place : ℕ) : Type 0 where
   pub low : place < length nodes
   pub least : (k : ℕ) → k < length nodes
-      → number_of order (slice_index_or nodes place 0) ≤ number_of order (slice_index_or nodes k 0)
+      → turn_of next (number_of order (slice_index_or nodes place 0))
+      ≤ turn_of next (number_of order (slice_index_or nodes k 0))
   pub first : (k : ℕ) → k < place
-      → number_of order (slice_index_or nodes place 0) < number_of order (slice_index_or nodes k 0)
+      → turn_of next (number_of order (slice_index_or nodes place 0))
+      < turn_of next (number_of order (slice_index_or nodes k 0))

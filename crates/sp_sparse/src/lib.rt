@@ -35,7 +35,7 @@ mod tables;
 mod waiting;
 
 pub use order::order_of;
-pub use pickers::{ByOrder, First, Last, Picker};
+pub use pickers::{ByOrder, BySweeps, First, Last, Picker};
 pub use solver::solve_sparse;
 pub use tables::SparseTable;
 pub use waiting::MOST_SHOWN;
