@@ -30,7 +30,7 @@ def main(words: list[str]) -> int:
         return misused.status
     except Failure as failure:
         failure.say()
-        return failed(request, failure.status, failure.text)
+        return failed(request, failure)
     except Stopped as stopped:
         return stopped.status
     except MemoryError:
@@ -38,7 +38,7 @@ def main(words: list[str]) -> int:
     except OSError as error:
         said = f"{error.filename or 'a temporary file'}: {error.strerror}"
         say(said)
-        return failed(request, NOT_RUN, said)
+        return failed(request, Failure(NOT_RUN, said))
     if status in SAID_OF_STATUS:
         say(SAID_OF_STATUS[status])
     return status
@@ -71,17 +71,17 @@ def analyse(request: Request) -> int:
         return answer.status if is_written(answer) else UNWRITTEN
 
 
-def failed(request: Request | None, status: int, text: str) -> int:
+def failed(request: Request | None, failure: Failure) -> int:
     """Writes that the run has failed, where the form of its report has room for it."""
     if request is not None and not request.report.is_plain:
         from report import writer
 
         try:
-            is_written(writer.failed(request.report, status, text))
+            is_written(writer.failed(request.report, failure))
         except Failure:
             # The file of the report was what failed, or fails now too.
             pass
-    return status
+    return failure.status
 
 
 def sources_of(request: Request) -> list[Source]:

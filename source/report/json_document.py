@@ -8,8 +8,9 @@ from __future__ import annotations
 import json
 from typing import Any
 
-from .items import Item, Refused, Report
+from .items import Item, Refused
 from .shown import shown
+from .whole import Report
 
 FORMAT, VERSION = "sparrow-report", 1
 

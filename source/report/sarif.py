@@ -7,9 +7,10 @@ import os
 from bisect import bisect_left
 from typing import Any
 
-from .items import Item, Refused, Report
+from .items import Item, Refused
 from .kinds import KINDS
 from .sources import unescaped
+from .whole import Report
 
 SCHEMA = "https://json.schemastore.org/sarif-2.1.0.json"
 NUMBERS = {kind: number for number, kind in enumerate(KINDS)}
