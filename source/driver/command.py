@@ -7,8 +7,10 @@ import sys
 
 from .analysis import Answer, answer_over
 from .failure import (
-    NO_MEMORY, NOT_RUN, SAID_OF_STATUS, UNWRITTEN, Failure, Misused, Stopped, say, unreadable,
+    ALARMS, CLEAN, NO_MEMORY, NOT_RUN, SAID_OF_STATUS, UNWRITTEN, Failure, Misused, Stopped, say,
+    unreadable,
 )
+from .outside import notes_on
 from .preprocessor import Preprocessor
 from .processes import hear_signals, run
 from .progress import Progress
@@ -64,11 +66,17 @@ def analyse(request: Request) -> int:
         if writer is not None:
             writer.remember(files, room.texts)
         answer = answer_over(room, files, request)
+        if answer.status in (CLEAN, ALARMS):
+            answer.notes = notes_on(room)
         if request.keep is not None:
             room.keep(request.keep)
         if writer is not None:
             answer = writer.told(answer)
-        return answer.status if is_written(answer) else UNWRITTEN
+        if not is_written(answer):
+            return UNWRITTEN
+        for note in answer.notes:
+            say(note)
+        return answer.status
 
 
 def failed(request: Request | None, failure: Failure) -> int:

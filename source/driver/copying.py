@@ -16,7 +16,7 @@ class Copying:
 
     def __init__(self, room: Room, size: int) -> None:
         self.room = room
-        self.before = [read_text(path) for path in room.texts]
+        self.before = room.uncopied = [read_text(path) for path in room.texts]
         self.is_done = False
         self.left: dict[str, int] = {}
         if size > 0 or any(map(has_allocation, self.before)):

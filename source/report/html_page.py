@@ -37,6 +37,8 @@ def document(report: Report) -> bytes:
     """The page."""
     said, sources = report.failure or last_line(report), Sources()
     body = [f"<h1>Sparrow</h1>\n<p>{escape(said)}</p>", *kinds(report.shown)]
+    quiet = report.notes if report.hint is None else [f"hint: {report.hint}", *report.notes]
+    body += [f'<p class="quiet">{escape(note)}</p>' for note in quiet]
     items = report.shown + [refusal.item for refusal in report.refusals]
     codes = {refusal.item: refusal.code for refusal in report.refusals}
     files: dict[str, list[Item]] = {}

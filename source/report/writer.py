@@ -53,7 +53,9 @@ class Writer:
         if report.status in (CLEAN, ALARMS):
             self.compare(report)
         content = document(self.wanted, report)
-        return written(self.wanted, Answer(report.status, answer.parts), content)
+        told = written(self.wanted, Answer(report.status, answer.parts), content)
+        told.notes = answer.notes
+        return told
 
     def compare(self, report: Report) -> None:
         """Compares with the baseline, and finds the status."""
