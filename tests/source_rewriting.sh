@@ -46,6 +46,35 @@ check 'a place behind a declaration that was moved' 1 \
     ./sparrow source --format=plain "$room/c99.c"
 check_said 'what was rewritten' "sparrow: rewritten: 1 variadic definition, 1 declaration behind a \
 statement, 1 declaration in a for" ./sparrow source "$room/c99.c"
+# What is written a second time has the places of the first: each alarm is at a token of the file.
+cat >"$room/twice.c" <<'TEXT'
+struct s { _Bool b; };
+int f(int c, struct s *p, void **v, int n) {
+    _Bool b = 0;
+    if (c == 1) p->b ^= 2;
+    if (c == 2) { b /= n; }
+    if (c == 3) return p->b ?: 3;
+    if (c == 4) p->b++;
+    if (c == 5) --p->b;
+    if (c == 6) *v += 4;
+    if (c == 7) (
+       p
+      -> b) ^= 3; if (c == 8) return p->b;
+    return b;
+}
+int main(int c, char **v) { return f(c, 0, 0, c); }
+TEXT
+check 'what is written twice has its place' 1 "$(sed "s,^,$room/twice.c:," <<'TEXT'
+4:17: pointer: value [0,0]
+5:21: zero: divisor [-2147483648,2147483647]
+6:24: pointer: value [0,0]
+7:17: pointer: value [0,0]
+8:19: pointer: value [0,0]
+9:17: pointer: value [0,0]
+11:8: pointer: value [0,0]
+12:38: pointer: value [0,0]
+TEXT
+)"$'\n8 alarms\n' ./sparrow source --format=plain "$room/twice.c"
 printf '#include <stdlib.h>\nint h(void) { return abs(1); }\n' >"$room/none.c"
 printf 'double f(void);\nint g(void) { return f() > 0; }\n' >"$room/own.c"
 printf '#include <stdlib.h>\nint main(void) { return atof("1") > 0; }\n' >"$room/call.c"
