@@ -139,9 +139,8 @@ class Edits:
 
 def marker_to(place: Place) -> str:
     """A marker line, and blanks up to the place's column, where it isn't too far."""
-    if place.column > MAX_COLUMN:
-        return " "
-    return f'\n# {place.line} "{place.file}"\n' + " " * (place.column - 1)
+    blanks = " " * (place.column - 1) if place.column <= MAX_COLUMN else ""
+    return f'\n# {place.line} "{place.file}"\n{blanks}'
 
 
 class Writer:

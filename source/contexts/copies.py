@@ -9,7 +9,7 @@ from __future__ import annotations
 from typing import Optional
 
 from c.constants import value_of, wrapped
-from c.edits import MAX_COLUMN
+from c.edits import marker_to
 from c.fresh import FreshNames
 from c.trees import Symbol
 from c.types import Integer
@@ -190,9 +190,7 @@ def is_visible(callee: Candidate, site: Site) -> bool:
 
 def marker(unit: ContextUnit, token: int) -> str:
     """A marker line, and blanks up to a token's column, where it isn't too far."""
-    place = unit.places.of(unit.tokens.starts[token])
-    blanks = " " * (place.column - 1) if place.column <= MAX_COLUMN else ""
-    return f'\n# {place.line} "{place.file}"\n{blanks}'
+    return marker_to(unit.places.of(unit.tokens.starts[token]))
 
 
 def edited(
