@@ -64,8 +64,9 @@ def try_baseline(room: Room) -> None:
     known = ("--baseline", "known.json")
     new = (*known, "--fail-on=new")
     room.write(HEAD + FIRST + FIRST + TAIL)
-    missing = "sparrow: known.json can't be read; --update-baseline writes it"
-    expect("no baseline yet", room.last(*known), (4, missing))
+    missing = "sparrow: known.json can't be read: no such file\n"
+    missing += "sparrow: hint: --update-baseline writes it\n"
+    expect("no baseline yet", room.run(*known)[::2], (4, missing))
     none = "0 new warnings; 2 in the baseline"
     expect("it is written", room.last(*known, "--update-baseline"), (1, none))
     expect("all are known", room.last(*known), (1, none))

@@ -9,7 +9,7 @@ import os
 import sys
 
 from driver.analysis import Answer
-from driver.failure import ALARMS, CLEAN, UNWRITTEN, Failure
+from driver.failure import ALARMS, CLEAN, UNWRITTEN, Failure, reason_of
 from driver.texts import latin, read_text
 
 from .wanted import Wanted
@@ -164,4 +164,4 @@ def write_file(path: str, content: bytes) -> None:
         with open(path, "wb") as file:
             file.write(content)
     except (OSError, ValueError) as error:
-        raise Failure(UNWRITTEN, f"{path} can't be written") from error
+        raise Failure(UNWRITTEN, f"{path} can't be written: {reason_of(error)}") from error
