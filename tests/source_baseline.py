@@ -158,6 +158,21 @@ def try_ignoring(room: Room) -> None:
     expect("it is said", room.run()[2], "sparrow: a.c:4: 'sparrow: ignore' wants a reason\n")
     room.write("#define SET(x) (x = 1) /* sparrow: ignore it */\n" + HEAD + "  SET(a[3]);\n" + TAIL)
     expect("on the macro's own line", room.last(), (1, "1 warning at 1 place"))
+    nothing = "'sparrow: ignore' ignores nothing\n"
+    expect("it ignores nothing there", room.run()[2], f"sparrow: a.c:1: {nothing}")
+    other = "  a[2] = 1; // sparrow: ignore it fits\n"
+    room.write(HEAD + ignored + other + SECOND + TAIL)
+    expect("one of two", room.run()[2], f"sparrow: a.c:5: {nothing}")
+    room.write(HEAD + "  a[2] = 1; /* sparrow: ignore */\n" + TAIL)
+    expect("a clean program", room.run()[2], f"sparrow: a.c:4: {nothing}")
+    room.write(HEAD + '  char *s = "/* sparrow: ignore it */";\n' + TAIL)
+    expect("a string is no comment", room.run()[2], "")
+    room.write(HEAD + "  a[2] = 1; /* sparrow: a note */\n" + TAIL)
+    expect("another comment", room.run()[2], "")
+    room.write(f'#line 1 "b.y"\n{HEAD}{other}{TAIL}')
+    expect("a file that is made of others", room.run()[2], "")
+    room.write(HEAD + other + TAIL)
+    expect("plain ignores nothing itself", room.run("--format=plain")[2], "")
 
 
 def seconds(room: Room, form: str, count: int, is_wide: bool) -> float:

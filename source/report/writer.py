@@ -17,6 +17,7 @@ from .whole import NEW, UNCHANGED, Report, Texts
 
 # What the program writes where it has no alarm.
 NO_ALARM = b"0 alarms\n"
+IGNORING = b"sparrow:"
 # The forms that tell the fingerprint of each warning.
 WITH_FINGERPRINTS = ("json", "sarif")
 # The characters of a line that a baseline keeps for its readers.
@@ -34,10 +35,13 @@ class Writer:
 
             self.known = read_baseline(wanted.baseline)
         self.texts: Texts = []
+        # The files that may have a comment which ignores warnings.
+        self.commented: list[str] = []
 
     def remember(self, files: list[str], paths: list[str]) -> None:
         """Reads the texts of files."""
         self.texts = [(spelled(file), read_text(path)) for file, path in zip(files, paths)]
+        self.commented = [spelled(file) for file in files if may_ignore(file)]
 
     def told(self, answer: Answer) -> Answer:
         """The answer in its form; with --output nothing of it goes to standard output."""
@@ -52,6 +56,10 @@ class Writer:
         report.notes = answer.notes
         if report.status in (CLEAN, ALARMS):
             self.compare(report)
+            if self.commented:
+                from .unused import tell_unused
+
+                tell_unused(report, self.commented)
         content = document(self.wanted, report)
         told = written(self.wanted, Answer(report.status, answer.parts), content)
         told.notes = answer.notes
@@ -78,6 +86,14 @@ class Writer:
             item.state = UNCHANGED if item.fingerprint in self.known else NEW
         found = {item.fingerprint for item in report.warnings + report.ignored}
         report.gone = len(self.known - found)
+
+
+def may_ignore(file: str) -> bool:
+    """Whether a file has the word with which such a comment begins."""
+    if not os.path.isfile(file):
+        return False
+    with open(file, "rb") as opened:
+        return IGNORING in opened.read()
 
 
 def identify(report: Report) -> None:
