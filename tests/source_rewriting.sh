@@ -46,6 +46,14 @@ check 'a place behind a declaration that was moved' 1 \
     ./sparrow source --format=plain "$room/c99.c"
 check_said 'what was rewritten' "sparrow: rewritten: 1 variadic definition, 1 declaration behind a \
 statement, 1 declaration in a for" ./sparrow source "$room/c99.c"
+# A static function isn't the variadic one of another file that has its name.
+printf 'int say(const char *text, ...) { return text[0]; }\n' >"$room/say.c"
+printf 'static int say(a, b) int a, b; { return a / b; }\nint main(void) { return say(1, 0); }\n' \
+    >"$room/other.c"
+check 'a static function with the name of a variadic one' 1 \
+    "$room/other.c:1:43: zero: divisor [0,0]"$'\n1 alarm\n' \
+    ./sparrow source --format=plain "$room/say.c" "$room/other.c"
+
 # What is written a second time has the places of the first: each alarm is at a token of the file.
 cat >"$room/twice.c" <<'TEXT'
 struct s { _Bool b; };
