@@ -100,6 +100,14 @@ check 'byte for byte' 0 '' eval '
     ./sparrow source --strict --keep "$room/strict" "$room/c90.c" >/dev/null
     cmp "$room/as-is/1-c90.i" "$room/strict/1-c90.i"'
 
+# So stay all texts that are accepted. The files include others, of which two aren't found.
+unchanged() {
+    SPARROW_PROGRAM=$program python3 bench/unchanged.py examples tests/source \
+        tests/programs/library.tsv tests/programs/rules.tsv 2>/dev/null |
+        sed 's/^[0-9]* texts, [0-9]* accepted/many accepted/'
+}
+check 'accepted texts stay as they are' 0 $'many accepted as they are, 0 of these change\n' unchanged
+
 # Each file's first fault; and the program's own, where no file has one.
 printf 'int f(void) { return missing; }\n' >"$room/missing.c"
 printf 'int g(void) { return ({ while (0) ; 1; }); }\n' >"$room/words.c"
