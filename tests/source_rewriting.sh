@@ -167,6 +167,11 @@ call='int f(char *a) { return strlen(a); }'
 include='#include <string.h> declares strlen'
 check_hint 'a call without its header' "$include" m.c "$main" f.c "$call"
 check_hint 'a call before the header' "$include" f.c "$call" m.c "$main"
+gone='it has to go from the source'
+takes='takes all out, and sizes differ then'
+check_hint 'packed' "$gone; -D'__attribute__(x)=' $takes" a.c 'struct __attribute__((packed)) s { int i; };'
+check_hint 'an alignment' "$gone; -D'_Alignas(x)=' $takes" a.c 'struct s { _Alignas(16) char c; };'
+check_hint 'a pragma' "$gone; sizes differ then" a.c $'#pragma pack(1)\nstruct s { int i; };'
 printf 'struct __attribute__((packed)) s { char c; int i; };\n' >"$room/packed.c"
 check 'a word that lays out data' 2 "$room/missing.c:1:22: refused F8: undeclared name: missing
 $room/packed.c:1:23: refused: packed changes the layout
