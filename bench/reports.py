@@ -91,7 +91,7 @@ def row(room: str, program: Chosen) -> str:
     if folder is None:
         return f"| {program.name} | not fetched |"
     words = [*program.options, *program.files]
-    both = [figures([*more, *words], folder) for more in (["--no-contexts"], [])]
+    both = [figures(["--no-contexts", *words], folder), figures(words, folder)]
     cells = ["no report" if each is None else each.cells() for each in both]
     return f"| {program.name} | {lines_of(folder, program.files)} | {' | '.join(cells)} |"
 

@@ -92,7 +92,9 @@ def main() -> int:
     with tempfile.TemporaryDirectory() as room:
         for path in (file for given in paths for file in files_in(given)):
             for name, text in texts_of(path, options, room):
-                if text in seen or seen.add(text) or not is_accepted(text, room):
+                is_new = text not in seen
+                seen.add(text)
+                if not is_new or not is_accepted(text, room):
                     continue
                 accepted += 1
                 if rewrite([(name, text)])[0].text != text:
