@@ -173,7 +173,8 @@ printf '#!/bin/sh\necho $$ >"%s/started"\nexec sleep 300\n' "$room" >"$stand_in"
 chmod +x "$stand_in"
 for signal in TERM HUP; do
     rm -f "$room/started"
-    "$room/copy/bin/sparrow" source "$room/main.c" >/dev/null 2>&1 &
+    # Signals that were ignored where the tests began, as HUP is under nohup, would stay so.
+    env --default-signal=TERM,HUP "$room/copy/bin/sparrow" source "$room/main.c" >/dev/null 2>&1 &
     script=$!
     for _ in $(seq 600); do [ -s "$room/started" ] && break; sleep 0.1; done
     kill -s $signal $script
