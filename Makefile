@@ -10,6 +10,8 @@ documents = $(place)/share/doc/sparrow
 manual = $(place)/share/man/man1
 completions = $(place)/share/bash-completion/completions
 
+for_users = README.md docs/LANGUAGE.md docs/REPORT.md docs/REAL_CODE.md
+
 define remove
 	rm -rf "$(lib)" "$(share)" "$(documents)"
 	rm -f "$(place)/bin/sparrow" "$(manual)/sparrow.1" "$(completions)/sparrow"
@@ -34,7 +36,11 @@ install: all
 	python3 -m compileall -q -s "$(DESTDIR)" "$(share)/source"
 	chmod -R u=rwX,go=rX "$(lib)" "$(share)"
 	install -m 755 sparrow "$(place)/bin/sparrow"
-	install -m 644 LICENSE docs/LANGUAGE.md docs/REPORT.md docs/REAL_CODE.md "$(documents)"
+	for document in $(for_users); do \
+		tools/document "$$document" >"$(documents)/$${document##*/}" || exit 1; \
+	done
+	install -m 644 LICENSE tests/report/report.schema.json "$(documents)"
+	chmod 644 "$(documents)"/*
 	install -m 644 man/sparrow.1 "$(manual)/sparrow.1"
 	install -m 644 completion/sparrow.bash "$(completions)/sparrow"
 

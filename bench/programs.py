@@ -99,7 +99,9 @@ def main() -> int:
                 continue
             name, package, options, files = line.rstrip("\n").split("\t")
             folders = sorted(glob.glob(os.path.join(room, "sources", package, "*", "")))
-            if folders and (len(sys.argv) == 2 or name in sys.argv[2:]):
+            if not folders or (len(sys.argv) > 2 and name not in sys.argv[2:]):
+                continue
+            if all(os.path.exists(os.path.join(folders[0], file)) for file in files.split()):
                 print(row(name, folders[0], options.split(), files.split()), flush=True)
     return 0
 

@@ -47,8 +47,27 @@ check 'its version' 0 "$(./sparrow --version)"$'\n' elsewhere --version
 check 'where its program is' 0 "$room/a place/lib/sparrow/sparrow"$'\n' elsewhere --program
 ln -s "$installed" "$room/link"
 check 'by a link' 3 $'usage: sparrow COMMAND [OPTION] WORD..\n' "$room/link"
-check 'the documents' 0 $'LANGUAGE.md\nLICENSE\nREAL_CODE.md\nREPORT.md\n' \
+check 'the documents' 0 \
+    $'LANGUAGE.md\nLICENSE\nREADME.md\nREAL_CODE.md\nREPORT.md\nreport.schema.json\n' \
     ls "$room/a place/share/doc/sparrow"
+links() { # of the documents: FILE TARGET
+    cd "$room/a place/share/doc/sparrow" || return
+    grep -o ']([^)]*)' ./*.md | sed 's,^\./\([^:]*\):](\([^)]*\))$,\1 \2,'
+}
+dead_links() {
+    links | while read -r file target; do
+        (cd "$room/a place/share/doc/sparrow" && [ -e "${target%%#*}" ]) ||
+            case $target in '#'*) ;; *) echo "$file $target" ;; esac
+        [ "${target%#*}" = "$target" ] || dead_part "${target#*#}" "${target%%#*}" "$file"
+    done
+}
+dead_part() { # PART OF IN: the head of a document that a link tells, in lower case with - for blanks
+    (cd "$room/a place/share/doc/sparrow" && sed -n 's/^##* //p' "${2:-$3}") |
+        tr 'A-Z ' 'a-z-' | tr -d '`,.' | grep -qxF -- "$1" || echo "$3 $2#$1"
+}
+check 'links lead somewhere' 0 '' dead_links
+check 'there are links' 0 '' eval '[ "$(links | wc -l)" -gt 10 ]'
+check 'another reads them' 0 '' eval 'other cat "$room/a place/share/doc/sparrow"/* >/dev/null'
 
 check 'uninstall' 0 '' make_quietly uninstall
 check 'what is left' 0 "$room/a place/share/other"$'\n' find "$room/a place" -type f

@@ -173,8 +173,8 @@ printf '#!/bin/sh\necho $$ >"%s/started"\nexec sleep 300\n' "$room" >"$stand_in"
 chmod +x "$stand_in"
 for signal in TERM HUP; do
     rm -f "$room/started"
-    # Where the tests run under nohup the signal is ignored, and what is ignored doesn't end the script.
-    env --default-signal=$signal "$room/copy/bin/sparrow" source "$room/main.c" >/dev/null 2>&1 &
+    # Signals that were ignored where the tests began, as HUP is under nohup, would stay so.
+    env --default-signal=TERM,HUP "$room/copy/bin/sparrow" source "$room/main.c" >/dev/null 2>&1 &
     script=$!
     for _ in $(seq 600); do [ -s "$room/started" ] && break; sleep 0.1; done
     kill -s $signal $script
@@ -187,7 +187,7 @@ for signal in TERM HUP; do
     check "$signal leaves nothing behind" 0 '' ls "$TMPDIR"
 done
 python3 -I tests/source_headers.py || failed=$((failed + 1))
-for part in report formats baseline contexts documents; do
+for part in report formats baseline contexts outside documents; do
     PYTHONDONTWRITEBYTECODE=1 python3 "tests/source_$part.py" || failed=$((failed + 1))
 done
 bash tests/source_rewriting.sh || failed=$((failed + 1))

@@ -64,8 +64,9 @@ def try_baseline(room: Room) -> None:
     known = ("--baseline", "known.json")
     new = (*known, "--fail-on=new")
     room.write(HEAD + FIRST + FIRST + TAIL)
-    missing = "sparrow: known.json can't be read; --update-baseline writes it"
-    expect("no baseline yet", room.last(*known), (4, missing))
+    missing = "sparrow: known.json can't be read: no such file\n"
+    missing += "sparrow: hint: --update-baseline writes it\n"
+    expect("no baseline yet", room.run(*known)[::2], (4, missing))
     none = "0 new warnings; 2 in the baseline"
     expect("it is written", room.last(*known, "--update-baseline"), (1, none))
     expect("all are known", room.last(*known), (1, none))
@@ -157,6 +158,21 @@ def try_ignoring(room: Room) -> None:
     expect("it is said", room.run()[2], "sparrow: a.c:4: 'sparrow: ignore' wants a reason\n")
     room.write("#define SET(x) (x = 1) /* sparrow: ignore it */\n" + HEAD + "  SET(a[3]);\n" + TAIL)
     expect("on the macro's own line", room.last(), (1, "1 warning at 1 place"))
+    nothing = "'sparrow: ignore' ignores nothing\n"
+    expect("it ignores nothing there", room.run()[2], f"sparrow: a.c:1: {nothing}")
+    other = "  a[2] = 1; // sparrow: ignore it fits\n"
+    room.write(HEAD + ignored + other + SECOND + TAIL)
+    expect("one of two", room.run()[2], f"sparrow: a.c:5: {nothing}")
+    room.write(HEAD + "  a[2] = 1; /* sparrow: ignore */\n" + TAIL)
+    expect("a clean program", room.run()[2], f"sparrow: a.c:4: {nothing}")
+    room.write(HEAD + '  char *s = "/* sparrow: ignore it */";\n' + TAIL)
+    expect("a string is no comment", room.run()[2], "")
+    room.write(HEAD + "  a[2] = 1; /* sparrow: a note */\n" + TAIL)
+    expect("another comment", room.run()[2], "")
+    room.write(f'#line 1 "b.y"\n{HEAD}{other}{TAIL}')
+    expect("a file that is made of others", room.run()[2], "")
+    room.write(HEAD + other + TAIL)
+    expect("plain ignores nothing itself", room.run("--format=plain")[2], "")
 
 
 def seconds(room: Room, form: str, count: int, is_wide: bool) -> float:

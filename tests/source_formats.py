@@ -258,6 +258,28 @@ def try_failures(room: str) -> None:
             expect(f"a failure: {form} tells it", told, gone)
 
 
+def try_hints(room: str) -> None:
+    """What may help against a failure, and against a library's refusal, in each form."""
+    for name, text in (("fails.c", '#include "none.h"\n'), ("library.c", "int f(void);\n")):
+        with open(os.path.join(room, name), "w", encoding="ascii") as file:
+            file.write(text)
+    failure = "fails.c was not preprocessed by gcc -E"
+    hint = "-I tells in which folder none.h is"
+    value = checked("a hint", "json", run(room, "--format=json", "fails.c")[1])
+    expect("a hint: json", (value["failure"], value["hint"]), (failure, hint))
+    value = checked("a hint", "sarif", run(room, "--format=sarif", "fails.c")[1])
+    told = value["runs"][0]["invocations"][0]["toolExecutionNotifications"][0]["message"]["text"]
+    expect("a hint: sarif", told, f"{failure} (hint: {hint})")
+    page = Page(run(room, "--format=html", "fails.c")[1])
+    expect("a hint: html", page.texts["p"], [failure, f"hint: {hint}"])
+    value = checked("no hint", "json", run(room, "--format=json", "none.c")[1])
+    expect("no hint: json", "hint" in value, False)
+    value = checked("a library", "json", run(room, "--format=json", "library.c")[1])
+    hint = "give all files of one program; a library needs a main that calls it"
+    told = [(each["code"], each["hint"]) for each in value["refusals"]]
+    expect("a library's hint: json", told, [("F25", hint)])
+
+
 def try_words(room: str) -> None:
     """The words that choose a form, and where it goes."""
     one = os.path.join(room, "one.c")
@@ -273,7 +295,7 @@ def try_words(room: str) -> None:
         with open(os.path.join(room, f"out.{form}"), "rb") as file:
             expect(f"--output of {form}", (written, file.read()), ((1, b"", b""), out))
     expect("a file that can't be written", run(room, "--output=none/out", "one.c"),
-           (5, b"", b"sparrow: none/out can't be written\n"))
+           (5, b"", b"sparrow: none/out can't be written: no such file\n"))
     forms = b"text, plain, json, sarif, html"
     expect("no such form", run(room, "--format=xml", "one.c"),
            (3, b"", b"sparrow: --format is one of " + forms + b", and not xml\n"))
@@ -314,6 +336,7 @@ def main() -> int:
         try_odd(room)
         try_refusals(room)
         try_failures(room)
+        try_hints(room)
         try_words(room)
         try_terminal(room)
     return tell(faults)

@@ -46,6 +46,43 @@ check 'a place behind a declaration that was moved' 1 \
     ./sparrow source --format=plain "$room/c99.c"
 check_said 'what was rewritten' "sparrow: rewritten: 1 variadic definition, 1 declaration behind a \
 statement, 1 declaration in a for" ./sparrow source "$room/c99.c"
+# A static function isn't the variadic one of another file that has its name.
+printf 'int say(const char *text, ...) { return text[0]; }\n' >"$room/say.c"
+printf 'static int say(a, b) int a, b; { return a / b; }\nint main(void) { return say(1, 0); }\n' \
+    >"$room/other.c"
+check 'a static function with the name of a variadic one' 1 \
+    "$room/other.c:1:43: zero: divisor [0,0]"$'\n1 alarm\n' \
+    ./sparrow source --format=plain "$room/say.c" "$room/other.c"
+
+# What is written a second time has the places of the first: each alarm is at a token of the file.
+cat >"$room/twice.c" <<'TEXT'
+struct s { _Bool b; };
+int f(int c, struct s *p, void **v, int n) {
+    _Bool b = 0;
+    if (c == 1) p->b ^= 2;
+    if (c == 2) { b /= n; }
+    if (c == 3) return p->b ?: 3;
+    if (c == 4) p->b++;
+    if (c == 5) --p->b;
+    if (c == 6) *v += 4;
+    if (c == 7) (
+       p
+      -> b) ^= 3; if (c == 8) return p->b;
+    return b;
+}
+int main(int c, char **v) { return f(c, 0, 0, c); }
+TEXT
+check 'what is written twice has its place' 1 "$(sed "s,^,$room/twice.c:," <<'TEXT'
+4:17: pointer: value [0,0]
+5:21: zero: divisor [-2147483648,2147483647]
+6:24: pointer: value [0,0]
+7:17: pointer: value [0,0]
+8:19: pointer: value [0,0]
+9:17: pointer: value [0,0]
+11:8: pointer: value [0,0]
+12:38: pointer: value [0,0]
+TEXT
+)"$'\n8 alarms\n' ./sparrow source --format=plain "$room/twice.c"
 printf '#include <stdlib.h>\nint h(void) { return abs(1); }\n' >"$room/none.c"
 printf 'double f(void);\nint g(void) { return f() > 0; }\n' >"$room/own.c"
 printf '#include <stdlib.h>\nint main(void) { return atof("1") > 0; }\n' >"$room/call.c"
@@ -62,6 +99,14 @@ check 'byte for byte' 0 '' eval '
     ./sparrow source --keep "$room/as-is" "$room/c90.c" >/dev/null
     ./sparrow source --strict --keep "$room/strict" "$room/c90.c" >/dev/null
     cmp "$room/as-is/1-c90.i" "$room/strict/1-c90.i"'
+
+# So stay all texts that are accepted. The files include others, of which two aren't found.
+unchanged() {
+    SPARROW_PROGRAM=$program python3 bench/unchanged.py examples tests/source \
+        tests/programs/library.tsv tests/programs/rules.tsv 2>/dev/null |
+        sed 's/^[0-9]* texts, [0-9]* accepted/many accepted/'
+}
+check 'accepted texts stay as they are' 0 $'many accepted as they are, 0 of these change\n' unchanged
 
 # Each file's first fault; and the program's own, where no file has one.
 printf 'int f(void) { return missing; }\n' >"$room/missing.c"
@@ -122,6 +167,11 @@ call='int f(char *a) { return strlen(a); }'
 include='#include <string.h> declares strlen'
 check_hint 'a call without its header' "$include" m.c "$main" f.c "$call"
 check_hint 'a call before the header' "$include" f.c "$call" m.c "$main"
+gone='it has to go from the source'
+takes='takes all out, and sizes differ then'
+check_hint 'packed' "$gone; -D'__attribute__(x)=' $takes" a.c 'struct __attribute__((packed)) s { int i; };'
+check_hint 'an alignment' "$gone; -D'_Alignas(x)=' $takes" a.c 'struct s { _Alignas(16) char c; };'
+check_hint 'a pragma' "$gone; sizes differ then" a.c $'#pragma pack(1)\nstruct s { int i; };'
 printf 'struct __attribute__((packed)) s { char c; int i; };\n' >"$room/packed.c"
 check 'a word that lays out data' 2 "$room/missing.c:1:22: refused F8: undeclared name: missing
 $room/packed.c:1:23: refused: packed changes the layout

@@ -30,8 +30,15 @@ check 'the empty word as a file' 4 '' ./sparrow analyse ''
 check 'the flag as a file' 4 '' ./sparrow analyse -- --values
 check 'a second file that is missing' 4 '' ./sparrow analyse "$file" examples/none.c
 check 'a folder' 4 '' ./sparrow dense examples
-check_said 'a missing file' "sparrow: examples/none.c can't be read" ./sparrow analyse examples/none.c
-check_said 'a folder' "sparrow: examples can't be read" ./sparrow dense examples
+check_said 'a missing file' "sparrow: examples/none.c can't be read: no such file" \
+    ./sparrow analyse examples/none.c
+check_said 'a missing file behind another' "sparrow: none can't be read: no such file" \
+    ./sparrow analyse --values -- examples/two.c none
+check_said 'a folder' "sparrow: examples can't be read: it is a folder" ./sparrow dense examples
+check_said 'below a file' "sparrow: README.md/a can't be read: not a directory" \
+    ./sparrow analyse README.md/a
+check_said 'a missing file named as an option' "sparrow: -none can't be read: no such file" \
+    ./sparrow analyse -- -none
 
 full() { ./sparrow analyse "$file" >/dev/full; }
 shut() { ./sparrow analyse "$file" >&-; }

@@ -97,6 +97,26 @@ class Edits:
             item = self.following[item]
         return " ".join(text for text in texts if text)
 
+    def copy_of(self, first: int, last: int) -> str:
+        """A part as it is edited so far, to stand a second time: each token has its place there."""
+        texts: list[str] = []
+        item, end, before = self.head[first], self.following[self.tail[last]], -1
+        while item != end:
+            if item < self.tokens.count:
+                gap = self.tokens.text[self.tokens.end(item - 1) : self.tokens.starts[item]]
+                is_next = item == before + 1 and before >= 0 and not gap.strip(" ")
+                texts += [gap, self.tokens.values[item]] if is_next else [self.placed(item)]
+            else:
+                texts.append(f" {self.inserted[item - self.tokens.count - 1]} ")
+            before = item if item < self.tokens.count else -1
+            item = self.following[item]
+        return "".join(texts)
+
+    def placed(self, token: int, spelling: str | None = None) -> str:
+        """A token, or another spelling of it, that stands at its place wherever it is put."""
+        text = self.tokens.values[token] if spelling is None else spelling
+        return marker_to(self.places.of(self.tokens.starts[token])) + text
+
     def new_item(self, text: str) -> int:
         """A new item that isn't linked yet."""
         self.is_changed = True
@@ -115,6 +135,12 @@ class Edits:
         if not self.is_changed:
             return self.tokens.text
         return Writer(self).write()
+
+
+def marker_to(place: Place) -> str:
+    """A marker line, and blanks up to the place's column, where it isn't too far."""
+    blanks = " " * (place.column - 1) if place.column <= MAX_COLUMN else ""
+    return f'\n# {place.line} "{place.file}"\n{blanks}'
 
 
 class Writer:
@@ -161,6 +187,9 @@ class Writer:
             self.parts.append(f" {text} ")
             self.beside += len(text) + 2
             self.is_exact = False
+        if "\n" in text:
+            # It has markers of its own, and the next token needs one.
+            self.last = -1
 
     def write_token(self, token: int) -> None:
         """A token at its place."""
@@ -185,7 +214,7 @@ class Writer:
                 return gap[newline:]
             if len(gap) >= self.beside:
                 return " " * (len(gap) - self.beside)
-        return self.marker(self.places.of(start))
+        return marker_to(self.places.of(start))
 
     def blanked(self, text: str) -> str:
         """The text with its tokens made blank; lines, and markers, stay."""
@@ -193,12 +222,6 @@ class Writer:
             line if line.lstrip(" \t").startswith("#") else " " * len(line)
             for line in text.split("\n")
         )
-
-    def marker(self, place: Place) -> str:
-        """A marker line, and blanks up to the place's column, where it isn't too far."""
-        if place.column > MAX_COLUMN:
-            return " "
-        return f'\n# {place.line} "{place.file}"\n' + " " * (place.column - 1)
 
     def write_rest(self) -> None:
         """What stands behind the last token."""

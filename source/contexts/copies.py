@@ -9,14 +9,15 @@ from __future__ import annotations
 from typing import Optional
 
 from c.constants import value_of, wrapped
-from c.edits import MAX_COLUMN
+from c.edits import marker_to
 from c.fresh import FreshNames
-from c.trees import Symbol
+from c.trees import Declaration, Symbol
 from c.types import Integer
 
 from .functions import TYPED, Call, Calls, Candidate, ContextUnit
 from .meant import cast_for, tells_elements
 from .scopes import mean_the_same
+from .statics import Lifted
 
 # Copies of one wrapper, and of one other function.
 MOST_OF_WRAPPERS, MOST_OF_OTHERS = 200, 64
@@ -48,6 +49,8 @@ class Copier:
         # The functions of a program grow at most to twice their tokens.
         self.room = max(0, min(max(bodies, LEAST_ROOM), MOST_TOKENS - tokens))
         self.counts: dict[Candidate, int] = {}
+        # The functions whose static objects go before them.
+        self.lifted: dict[Candidate, Lifted] = {}
         # The calls that stay for want of room, by name.
         self.left: dict[str, int] = {}
         self.copied = self.chosen(size)
@@ -83,6 +86,11 @@ class Copier:
             if changed:
                 edits.update(changed)
                 heads[caller.node.first] = "".join(site.texts)
+        for candidate, lifted in self.lifted.items():
+            if candidate.unit is unit:
+                first = candidate.node.first
+                edits.update(lifted.edits())
+                heads[first] = lifted_text(lifted, unit) + heads.get(first, "")
         if not edits:
             return unit.tokens.text
         tokens = unit.tokens
@@ -114,7 +122,7 @@ class Copier:
             cast = cast_for(call.meant, site.unit.scope, site.before)
         if level >= (DEEPEST_TYPED if is_wrapper and cast is not None else DEEPEST):
             return None
-        if not is_visible(callee, site):
+        if not is_visible(callee, site) or (callee.statics and not is_before(callee, site)):
             return None
         most = MOST_OF_WRAPPERS if is_wrapper else MOST_OF_OTHERS
         if self.counts.get(callee, 0) >= most or callee.size > self.room:
@@ -139,6 +147,10 @@ class Copier:
             # Where it goes on as an argument its value is known, too.
             symbol.value = value
         edits.update(self.renamed(callee, site, level + 1, cast))
+        if callee.statics:
+            if callee not in self.lifted:
+                self.lifted[callee] = Lifted(callee, self.fresh)
+            edits.update(self.lifted[callee].edits())
         for symbol, value in fixed:
             symbol.value = None
             if isinstance(symbol.type, Integer):
@@ -188,11 +200,28 @@ def is_visible(callee: Candidate, site: Site) -> bool:
     return True
 
 
+def is_before(callee: Candidate, site: Site) -> bool:
+    """Whether the static objects of a function stand before a place, in the same text."""
+    return callee.unit is site.unit and callee.node.first < site.before
+
+
+def lifted_text(lifted: Lifted, unit: ContextUnit) -> str:
+    """The declarations that go before a function."""
+    return "".join(
+        marker(unit, each.first) + edited(unit, each.first, each.last, named(lifted, each), {})
+        for each in lifted.declarations
+    )
+
+
+def named(lifted: Lifted, declaration: Declaration) -> dict[int, str]:
+    """The new names in a declaration."""
+    tokens = range(declaration.first, declaration.last + 1)
+    return {token: lifted.names[token] for token in tokens if token in lifted.names}
+
+
 def marker(unit: ContextUnit, token: int) -> str:
     """A marker line, and blanks up to a token's column, where it isn't too far."""
-    place = unit.places.of(unit.tokens.starts[token])
-    blanks = " " * (place.column - 1) if place.column <= MAX_COLUMN else ""
-    return f'\n# {place.line} "{place.file}"\n{blanks}'
+    return marker_to(unit.places.of(unit.tokens.starts[token]))
 
 
 def edited(

@@ -5,7 +5,7 @@ from __future__ import annotations
 from typing import Optional
 
 from c.tokens import NAME
-from c.trees import Declarator, Expression, FunctionDefinition, Specifiers, Statement, Symbol
+from c.trees import Declaration, Declarator, Expression, FunctionDefinition, Specifiers, Statement, Symbol
 from c.types import Function, Integer, MaybeType, Pointer
 from c.words import RESERVED, TAGGED
 from rewriting.unit import Program, Unit
@@ -41,9 +41,12 @@ class Candidate:
         self.size = node.last - node.first + 1
         self.calls: list[Call] = []
         self.has_return = False
-        # Whether a copy would not mean the same: it has an object of its own, or old parameters.
+        # Whether a copy would not mean the same, as with old parameters.
         self.is_bound = bool(node.old_style) or self.defines_types() or self.name == "main"
         self.locals: set[str] = set()
+        # The declarations of its static objects, and their names.
+        self.statics: list[Declaration] = []
+        self.static_names: set[str] = set()
         # Names that surely mean something outside, even where a local has that name, too.
         self.outside: set[str] = set()
         # The symbols that are assigned, or whose address is taken.
@@ -75,6 +78,27 @@ class Candidate:
             and isinstance(symbol.type, Integer)
             and id(symbol) not in self.changed
         )
+
+    def declare(self, name: str, is_static: bool) -> None:
+        """Notes a name that is declared in it. Where a static object's is another's, too, it isn't
+        looked into which of them is meant."""
+        if name in self.locals and (is_static or name in self.static_names):
+            self.is_bound = True
+        if is_static:
+            self.static_names.add(name)
+        self.locals.add(name)
+
+    def may_be_lifted(self, declaration: Declaration) -> bool:
+        """Whether static objects mean the same before the function: what declares them uses nothing
+        of the function but others of them."""
+        specifiers, tokens = declaration.specifiers, self.unit.tokens
+        names = self.locals - self.static_names
+        used = {
+            tokens.values[token]
+            for token in range(declaration.first, declaration.last + 1)
+            if tokens.values[token - 1] not in (".", "->")
+        }
+        return specifiers.body is None and not specifiers.is_tag_local and not used & names
 
     def may_wrap(self) -> bool:
         """Whether it may be an allocation wrapper, but for what it calls."""
@@ -169,14 +193,25 @@ class Gather(Rewriting):
         candidate = self.candidate()
         if candidate is None or node is candidate.node.declarator:
             return
-        candidate.locals.add(node.name or "")
-        candidate.is_bound |= "static" in specifiers.storage
+        candidate.declare(node.name or "", "static" in specifiers.storage)
         if specifiers.body is not None:
             candidate.is_bound = True
         if node.values is not None and node.values.expression is not None:
             call = self.known.get(id(bare(node.values.expression)))
             if call is not None:
                 call.meant = node.type
+
+    def declaration(self, node: Declaration) -> None:
+        """Static objects of a function."""
+        candidate = self.candidate()
+        if candidate is not None and "static" in node.specifiers.storage:
+            candidate.statics.append(node)
+
+    def function(self, node: FunctionDefinition) -> None:
+        """A function whose static objects can't go before it isn't copied."""
+        candidate = self.candidate()
+        if candidate is not None and not all(map(candidate.may_be_lifted, candidate.statics)):
+            candidate.is_bound = True
 
     def statement(self, node: Statement) -> None:
         """Labels, and whether anything is given back."""

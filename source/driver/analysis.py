@@ -20,6 +20,8 @@ class Answer:
     def __init__(self, status: int, parts: list[tuple[bytes, str | None]]) -> None:
         self.status = status
         self.parts = parts
+        # What is said of the run as a whole.
+        self.notes: list[str] = []
 
 
 def answer_over(room: Room, files: list[str], request: Request) -> Answer:

@@ -7,8 +7,10 @@ import sys
 
 from .analysis import Answer, answer_over
 from .failure import (
-    NO_MEMORY, NOT_RUN, SAID_OF_STATUS, UNWRITTEN, Failure, Misused, Stopped, say, unreadable,
+    ALARMS, CLEAN, NO_MEMORY, NOT_RUN, SAID_OF_STATUS, UNWRITTEN, Failure, Misused, Stopped, say,
+    unreadable,
 )
+from .outside import notes_on
 from .preprocessor import Preprocessor
 from .processes import hear_signals, run
 from .progress import Progress
@@ -30,7 +32,7 @@ def main(words: list[str]) -> int:
         return misused.status
     except Failure as failure:
         failure.say()
-        return failed(request, failure.status, failure.text)
+        return failed(request, failure)
     except Stopped as stopped:
         return stopped.status
     except MemoryError:
@@ -38,7 +40,7 @@ def main(words: list[str]) -> int:
     except OSError as error:
         said = f"{error.filename or 'a temporary file'}: {error.strerror}"
         say(said)
-        return failed(request, NOT_RUN, said)
+        return failed(request, Failure(NOT_RUN, said))
     if status in SAID_OF_STATUS:
         say(SAID_OF_STATUS[status])
     return status
@@ -64,24 +66,30 @@ def analyse(request: Request) -> int:
         if writer is not None:
             writer.remember(files, room.texts)
         answer = answer_over(room, files, request)
+        if answer.status in (CLEAN, ALARMS):
+            answer.notes = notes_on(room)
         if request.keep is not None:
             room.keep(request.keep)
         if writer is not None:
             answer = writer.told(answer)
-        return answer.status if is_written(answer) else UNWRITTEN
+        if not is_written(answer):
+            return UNWRITTEN
+        for note in answer.notes:
+            say(note)
+        return answer.status
 
 
-def failed(request: Request | None, status: int, text: str) -> int:
+def failed(request: Request | None, failure: Failure) -> int:
     """Writes that the run has failed, where the form of its report has room for it."""
     if request is not None and not request.report.is_plain:
         from report import writer
 
         try:
-            is_written(writer.failed(request.report, status, text))
+            is_written(writer.failed(request.report, failure))
         except Failure:
             # The file of the report was what failed, or fails now too.
             pass
-    return status
+    return failure.status
 
 
 def sources_of(request: Request) -> list[Source]:

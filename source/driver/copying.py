@@ -2,14 +2,13 @@
 
 from __future__ import annotations
 
-import re
-
 from .failure import say
-from .rewriter import read_text, write_text
 from .room import Room
+from .texts import read_text, write_text
 
 # A text without such a call has no allocation to be wrapped. A declaration has a `*` before.
-ALLOCATION = re.compile(r"[^\s*]\s*\b(?:malloc|calloc|realloc|strdup)\s*\(")
+WORDS = ("alloc", "strdup")
+ALLOCATION = r"[^\s*]\s*\b(?:malloc|calloc|realloc|strdup)\s*\("
 
 
 class Copying:
@@ -17,10 +16,10 @@ class Copying:
 
     def __init__(self, room: Room, size: int) -> None:
         self.room = room
-        self.before = [read_text(path) for path in room.texts]
+        self.before = room.uncopied = [read_text(path) for path in room.texts]
         self.is_done = False
         self.left: dict[str, int] = {}
-        if size > 0 or any(ALLOCATION.search(text) for text in self.before):
+        if size > 0 or any(map(has_allocation, self.before)):
             self.copy(size)
 
     def copy(self, size: int) -> None:
@@ -50,3 +49,13 @@ class Copying:
         if self.left:
             names = ", ".join(f"{name} ({count})" for name, count in sorted(self.left.items()))
             say(f"no room for copies of the functions of some calls: {names}")
+
+
+def has_allocation(text: str) -> bool:
+    """Whether a text may call what gives a block."""
+    if not any(word in text for word in WORDS):
+        return False
+    # It takes a while to load.
+    import re
+
+    return re.search(ALLOCATION, text) is not None

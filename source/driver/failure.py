@@ -15,7 +15,7 @@ SAID_OF_STATUS = {
     NOT_RUN: "the words of the command line can't be read",
 }
 
-# Why a file can't be read, where the system says it in other words.
+# Why a file isn't opened, where the system says it in other words.
 REASONS: dict[type[Exception], str] = {
     FileNotFoundError: "no such file",
     IsADirectoryError: "it is a folder",
@@ -53,12 +53,16 @@ class Stopped(BaseException):
         self.status = 128 + number
 
 
-def unreadable(file: str, error: Exception) -> Failure:
+def unreadable(file: str, error: Exception, hint: str | None = None) -> Failure:
     """The failure of a file that can't be read."""
-    why = "it has no name of a file"
-    if isinstance(error, OSError):
-        why = REASONS.get(type(error), str(error.strerror).lower())
-    return Failure(UNREADABLE, f"{file} can't be read: {why}")
+    return Failure(UNREADABLE, f"{file} can't be read: {reason_of(error)}", hint)
+
+
+def reason_of(error: Exception) -> str:
+    """Why the system doesn't open a file."""
+    if not isinstance(error, OSError):
+        return "it has no name of a file"
+    return REASONS.get(type(error), str(error.strerror).lower())
 
 
 def say(text: str) -> None:

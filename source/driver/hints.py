@@ -10,8 +10,9 @@ from .refusals import Refusal, names_at, places_in
 
 SPLIT = "split the program, or give fewer files"
 REWRITTEN = "--strict leaves it as it is; without --strict it is rewritten"
+# What takes a word that lays out data out of the text; a pragma is taken out in the source alone.
+TAKING_OUT = {"_Alignas": "-D'_Alignas(x)='", "pack": None}
 HINTS = {
-    "": "it has to go from the source; -D'__attribute__(x)=' takes all out, and sizes differ then",
     "F8": "is it misspelt, or does no header here have it?"
     " -DNAME=VALUE gives a constant, and -DNAME=TYPE a type",
     "F9": "-D_ANSI_SOURCE hides the names of POSIX in the headers of C90",
@@ -48,6 +49,8 @@ def hint_for(refusal: Refusal, texts: list[str], is_strict: bool) -> Optional[st
     """What may help against a refusal in one of these texts."""
     if is_strict and refusal.code in OF_STRICT:
         return REWRITTEN
+    if not refusal.code:
+        return hint_for_layout(refusal.text.decode("latin-1").split(" ")[0])
     places = places_in(refusal, texts) if refusal.code in ("F4", "F19") else ()
     for text, offset in places:
         if refusal.code == "F4" and has_escape(text, offset):
@@ -57,6 +60,15 @@ def hint_for(refusal: Refusal, texts: list[str], is_strict: bool) -> Optional[st
     if refusal.code == "F24":
         return hint_for_call(refusal, texts) or HINTS["F24"]
     return HINTS.get(refusal.code)
+
+
+def hint_for_layout(word: str) -> str:
+    """What helps against a word that lays out data."""
+    option = TAKING_OUT.get(word, "-D'__attribute__(x)='")
+    said = "it has to go from the source"
+    if option is None:
+        return f"{said}; sizes differ then"
+    return f"{said}; {option} takes all out, and sizes differ then"
 
 
 def has_escape(text: str, offset: int) -> bool:

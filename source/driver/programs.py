@@ -6,7 +6,7 @@ from typing import Optional
 
 from c.tokens import NAME, Tokens, Unreadable
 
-from .rewriter import read_text
+from .texts import read_text
 from .words import Request
 
 

@@ -2,14 +2,13 @@
 
 from __future__ import annotations
 
-import os
-
 from c.attributes import clear_attributes
 
 from .failure import say
 from .hints import OF_STRICT
 from .refusals import Refusal
 from .room import Room
+from .texts import latin, read_text, write_text
 
 
 def clear_texts(room: Room, files: list[str]) -> dict[int, Refusal]:
@@ -25,18 +24,6 @@ def clear_texts(room: Room, files: list[str]) -> dict[int, Refusal]:
         elif cleared.text != text:
             write_text(path, cleared.text)
     return refused
-
-
-def read_text(path: str) -> str:
-    """A text; each byte is a character."""
-    with open(path, encoding="latin-1", newline="") as file:
-        return file.read()
-
-
-def write_text(path: str, text: str) -> None:
-    """Writes a text so."""
-    with open(path, "w", encoding="latin-1", newline="") as file:
-        file.write(text)
 
 
 class Changes:
@@ -83,8 +70,3 @@ def rewrite_texts(room: Room, files: list[str], refused: dict[int, Refusal]) -> 
     if counts:
         say(f"rewritten: {told(counts)}")
     return changes
-
-
-def latin(file: str) -> str:
-    """The word of a file with a character for each byte."""
-    return os.fsencode(file).decode("latin-1")

@@ -14,6 +14,8 @@ class Room:
         parent = os.environ.get("TMPDIR") or "/tmp"
         self.folder = os.path.join(os.path.abspath(parent), f"sparrow.{os.urandom(8).hex()}")
         self.texts: list[str] = []
+        # What is in the texts without copies, where they have some or were looked at for them.
+        self.uncopied: list[str] = []
 
     def __enter__(self) -> Room:
         try:

@@ -9,11 +9,12 @@ from __future__ import annotations
 import hashlib
 import json
 import re
-from typing import Iterable
+from collections.abc import Iterable
 
-from driver.failure import UNREADABLE, USAGE, Failure
+from driver.failure import USAGE, Failure, unreadable
 
 FORMAT, VERSION = "sparrow-baseline", 1
+UPDATING = "--update-baseline writes it"
 FINGERPRINT = re.compile(r"[0-9a-f]{32}")
 
 
@@ -46,8 +47,8 @@ def read_baseline(path: str) -> set[str]:
         with open(path, encoding="utf-8") as file:
             content = json.load(file)
     except OSError as error:
-        hint = "; --update-baseline writes it" if isinstance(error, FileNotFoundError) else ""
-        raise Failure(UNREADABLE, f"{path} can't be read{hint}") from error
+        is_missing = isinstance(error, FileNotFoundError)
+        raise unreadable(path, error, UPDATING if is_missing else None) from error
     except (ValueError, RecursionError) as error:
         raise Failure(USAGE, f"{path} is no baseline") from error
     if (

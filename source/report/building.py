@@ -2,7 +2,6 @@
 
 from __future__ import annotations
 
-import os
 import re
 from typing import Iterable, Optional
 
@@ -13,11 +12,12 @@ from driver.failure import ALARMS, CLEAN, REFUSED, SAID_OF_STATUS, say
 from . import kinds
 from .folding import Finding, fold
 from .ignore import Reasons
-from .items import NEW, UNCHANGED, Item, Refused, Report
+from .items import Item, Refused
 from .sentences import sentence
 from .shown import shown
 from .sources import Sources, unescaped
 from .spots import Spot, Spots, joined
+from .whole import Report, Texts
 
 REFUSAL = re.compile(
     r"(.*):([0-9]+):([0-9]+): refused(?: ([A-Z]+[0-9]+))?: ([^\n]*)\n", re.DOTALL
@@ -25,13 +25,10 @@ REFUSAL = re.compile(
 
 ORDER = {kind: number for number, kind in enumerate(kinds.KINDS)}
 
-# The texts that were analysed, before they were rewritten, each with the name of its file.
-Texts = list[tuple[str, str]]
 
-
-def built(answer: Answer, sources: Sources, texts: Texts) -> Report:
+def built(answer: Answer, texts: Texts) -> Report:
     """The report of an answer."""
-    report = Report(answer.status)
+    report, sources = Report(answer.status), Sources()
     parts = [(part.decode("latin-1"), hint) for part, hint in answer.parts]
     if answer.status in (CLEAN, ALARMS):
         folded = fold("".join(part for part, _ in parts))
@@ -106,16 +103,3 @@ def take_refusals(
     for finding, code, text, hint in read:
         item = Item(finding, unescaped(finding.place.file), spots.of(finding), shown(text))
         report.refusals.append(Refused(item, code, hint))
-
-
-def compare(report: Report, known: set[str]) -> None:
-    """Tells of each warning whether it is known, and how many that are known are gone."""
-    for item in report.warnings:
-        item.state = UNCHANGED if item.fingerprint in known else NEW
-    found = {item.fingerprint for item in report.warnings + report.ignored}
-    report.gone = len(known - found)
-
-
-def latin(name: str) -> str:
-    """The word of a file with a character for each byte, as markers spell it."""
-    return os.fsencode(name).decode("latin-1").replace("\\", "\\\\").replace('"', '\\"')

@@ -6,11 +6,11 @@ from html import escape
 from typing import Iterable
 
 from .excerpt import Excerpt
-from .items import Item, Report
+from .items import Item
 from .kinds import KINDS
 from .shown import shown
 from .sources import Sources
-from .text import last_line
+from .whole import Report, last_line
 
 # Lines that are shown around a warning, and how much of a long one is.
 AROUND = 3
@@ -33,10 +33,12 @@ mark { background: #ffc95c; }
 """.strip()
 
 
-def document(report: Report, sources: Sources) -> bytes:
+def document(report: Report) -> bytes:
     """The page."""
-    said = report.failure or last_line(report)
+    said, sources = report.failure or last_line(report), Sources()
     body = [f"<h1>Sparrow</h1>\n<p>{escape(said)}</p>", *kinds(report.shown)]
+    quiet = report.notes if report.hint is None else [f"hint: {report.hint}", *report.notes]
+    body += [f'<p class="quiet">{escape(note)}</p>' for note in quiet]
     items = report.shown + [refusal.item for refusal in report.refusals]
     codes = {refusal.item: refusal.code for refusal in report.refusals}
     files: dict[str, list[Item]] = {}

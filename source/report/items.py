@@ -1,4 +1,4 @@
-"""All that formats write of a report."""
+"""What formats write of a warning and of a refusal."""
 
 from __future__ import annotations
 
@@ -7,9 +7,6 @@ from typing import Optional
 from .folding import Finding
 from .shown import shown
 from .spots import Spot
-
-NEW, UNCHANGED = "new", "unchanged"
-
 
 class Item:
     """A warning with its place in the source, where that is known, and its sentence."""
@@ -50,24 +47,3 @@ class Refused:
         self.item = item
         self.code = code
         self.hint = hint
-
-
-class Report:
-    """The warnings, or why there are none, and the status of the run."""
-
-    def __init__(self, status: int) -> None:
-        self.status = status
-        # Those of a baseline are among the warnings; those that a comment ignores are not.
-        self.warnings: list[Item] = []
-        self.ignored: list[Item] = []
-        self.values: list[str] = []
-        self.refusals: list[Refused] = []
-        self.failure: Optional[str] = None
-        # The file of the baseline, and how many of its warnings are gone.
-        self.baseline: Optional[str] = None
-        self.gone = 0
-
-    @property
-    def shown(self) -> list[Item]:
-        """The warnings that no baseline knows."""
-        return [item for item in self.warnings if item.state != UNCHANGED]

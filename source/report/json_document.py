@@ -8,8 +8,9 @@ from __future__ import annotations
 import json
 from typing import Any
 
-from .items import Item, Refused, Report
+from .items import Item, Refused
 from .shown import shown
+from .whole import Report
 
 FORMAT, VERSION = "sparrow-report", 1
 
@@ -19,6 +20,10 @@ def document(report: Report) -> bytes:
     head: dict[str, Any] = {"format": FORMAT, "version": VERSION, "status": report.status}
     if report.failure is not None:
         head["failure"] = report.failure
+    if report.hint is not None:
+        head["hint"] = report.hint
+    if report.notes:
+        head["notes"] = report.notes
     if report.baseline is not None:
         head["baseline"] = {"file": report.baseline, "gone": report.gone}
     parts = [json.dumps(head)[:-1]]

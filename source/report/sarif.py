@@ -7,9 +7,10 @@ import os
 from bisect import bisect_left
 from typing import Any
 
-from .items import Item, Refused, Report
+from .items import Item, Refused
 from .kinds import KINDS
 from .sources import unescaped
+from .whole import Report
 
 SCHEMA = "https://json.schemastore.org/sarif-2.1.0.json"
 NUMBERS = {kind: number for number, kind in enumerate(KINDS)}
@@ -25,7 +26,9 @@ def document(report: Report) -> bytes:
     }
     notes = [notification(refusal, regions) for refusal in report.refusals]
     if report.failure is not None:
-        notes.append({"level": "error", "message": {"text": report.failure}})
+        said = with_hint(report.failure, report.hint)
+        notes.append({"level": "error", "message": {"text": said}})
+    notes += [{"level": "note", "message": {"text": note}} for note in report.notes]
     if notes:
         invocation["toolExecutionNotifications"] = notes
     # Either all results tell whether they are suppressed, or none does.
@@ -87,17 +90,19 @@ def location(item: Item, regions: Regions) -> dict[str, Any]:
 
 def notification(refusal: Refused, regions: Regions) -> dict[str, Any]:
     """A refusal."""
-    said = refusal.item.message
-    if refusal.hint is not None:
-        said += f" (hint: {refusal.hint})"
     told: dict[str, Any] = {
         "level": "error",
-        "message": {"text": said},
+        "message": {"text": with_hint(refusal.item.message, refusal.hint)},
         "locations": [location(refusal.item, regions)],
     }
     if refusal.code:
         told["descriptor"] = {"id": refusal.code}
     return told
+
+
+def with_hint(said: str, hint: str | None) -> str:
+    """What is said, with what may help."""
+    return said if hint is None else f"{said} (hint: {hint})"
 
 
 def uri_of(name: str) -> str:

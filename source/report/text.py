@@ -2,9 +2,12 @@
 
 from __future__ import annotations
 
-from .excerpt import Excerpt
-from .items import Item, Report
-from .shown import CONTROL, REPLACEMENT
+from .whole import Report, last_line
+
+# A type checker takes it as true. A report without warnings doesn't need what that module loads.
+TYPE_CHECKING = False
+if TYPE_CHECKING:
+    from .items import Item
 
 BOLD, WARNING, ERROR, MARK, PLAIN = "\x1b[1m", "\x1b[1;35m", "\x1b[1;31m", "\x1b[1;32m", "\x1b[0m"
 
@@ -34,6 +37,8 @@ class Text:
         lines = [f"{place} {self.colored(color, f'{word}:')} {said}"]
         spot = item.spot
         if spot is not None:
+            from .excerpt import Excerpt
+
             excerpt = Excerpt(spot.text, spot.start, spot.end)
             lines.append(f"{spot.line:5} | {excerpt.line}")
             lines.append(f"      | {excerpt.indent}{self.colored(MARK, excerpt.mark)}")
@@ -46,31 +51,7 @@ class Text:
 
 def raw(name: str) -> str:
     """A name whose characters are bytes, without controls; what is no text stays as it is."""
+    from .shown import CONTROL, REPLACEMENT
+
     told = name.encode("latin-1").decode("utf-8", "surrogateescape")
     return CONTROL.sub(REPLACEMENT, told)
-
-
-def last_line(report: Report) -> str:
-    """How many warnings there are, and how many aren't told."""
-    if report.refusals:
-        return f"nothing is analysed: {counted(len(report.refusals), 'error')}"
-    items = report.shown
-    alarms = sum(item.finding.alarms for item in items)
-    new = "" if report.baseline is None else "new "
-    said = counted(len(items), f"{new}warning")
-    if items:
-        said += f" at {counted(len({item.place for item in items}), 'place')}"
-    if alarms > len(items):
-        said += f", folded from {alarms} alarms"
-    if report.ignored:
-        said += f"; {len(report.ignored)} ignored"
-    if report.baseline is not None:
-        known = len(report.warnings) - len(items)
-        said += f"; {known} in the baseline"
-        said += f", which has {report.gone} more" if report.gone else ""
-    return said
-
-
-def counted(count: int, what: str) -> str:
-    """A number with a noun."""
-    return f"{count} {what}" if count == 1 else f"{count} {what}s"

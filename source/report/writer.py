@@ -1,4 +1,7 @@
-"""The answer of a run in the form that its words ask for."""
+"""The answer of a run in the form that its words ask for.
+
+Most modules are loaded where they are needed, since all together take longer than gcc.
+"""
 
 from __future__ import annotations
 
@@ -6,16 +9,17 @@ import os
 import sys
 
 from driver.analysis import Answer
-from driver.failure import ALARMS, CLEAN, UNWRITTEN, Failure
+from driver.failure import ALARMS, CLEAN, UNWRITTEN, Failure, reason_of
+from driver.texts import latin, read_text
 
-from .baseline import Fingerprints, baseline_of, read_baseline
-from .building import Texts, built, compare, latin
-from .items import NEW, Report
-from .shown import shown
-from .sources import Sources
 from .wanted import Wanted
+from .whole import NEW, UNCHANGED, Report, Texts
 
-
+# What the program writes where it has no alarm.
+NO_ALARM = b"0 alarms\n"
+IGNORING = b"sparrow:"
+# The forms that tell the fingerprint of each warning.
+WITH_FINGERPRINTS = ("json", "sarif")
 # The characters of a line that a baseline keeps for its readers.
 MOST_KEPT = 200
 
@@ -27,47 +31,87 @@ class Writer:
         self.wanted = wanted
         self.known: set[str] = set()
         if wanted.baseline is not None and not wanted.is_updating:
+            from .baseline import read_baseline
+
             self.known = read_baseline(wanted.baseline)
         self.texts: Texts = []
+        # The files that may have a comment which ignores warnings.
+        self.commented: list[str] = []
 
     def remember(self, files: list[str], paths: list[str]) -> None:
         """Reads the texts of files."""
-        for file, path in zip(files, paths):
-            with open(path, encoding="latin-1", newline="") as text:
-                self.texts.append((latin(file), text.read()))
+        self.texts = [(spelled(file), read_text(path)) for file, path in zip(files, paths)]
+        self.commented = [spelled(file) for file in files if may_ignore(file)]
 
     def told(self, answer: Answer) -> Answer:
         """The answer in its form; with --output nothing of it goes to standard output."""
+        content = b"".join(part for part, _ in answer.parts)
         if self.wanted.format == "plain":
-            return written(self.wanted, answer, b"".join(part for part, _ in answer.parts))
-        sources = Sources()
-        report = built(answer, sources, self.texts)
+            return written(self.wanted, answer, content)
+        report = Report(answer.status)
+        if content != NO_ALARM:
+            from .building import built
+
+            report = built(answer, self.texts)
+        report.notes = answer.notes
         if report.status in (CLEAN, ALARMS):
             self.compare(report)
-        content = document(self.wanted, report, sources)
-        return written(self.wanted, Answer(report.status, answer.parts), content)
+            if self.commented:
+                from .unused import tell_unused
+
+                tell_unused(report, self.commented)
+        content = document(self.wanted, report)
+        told = written(self.wanted, Answer(report.status, answer.parts), content)
+        told.notes = answer.notes
+        return told
 
     def compare(self, report: Report) -> None:
         """Compares with the baseline, and finds the status."""
-        fingerprints = Fingerprints()
-        items = report.warnings + report.ignored
-        for item in sorted(items, key=lambda item: item.finding.place):
-            text = "" if item.spot is None else item.spot.text
-            item.fingerprint = fingerprints.next(item.kind, os.path.normpath(item.name), text)
+        if self.wanted.baseline is not None or self.wanted.format in WITH_FINGERPRINTS:
+            identify(report)
         if self.wanted.baseline is not None:
-            if self.wanted.is_updating:
-                self.known = {item.fingerprint for item in report.warnings}
-                write_file(self.wanted.baseline, baseline_for(report).encode("ascii"))
-            report.baseline = self.wanted.baseline
-            compare(report, self.known)
+            self.compare_with(self.wanted.baseline, report)
         counted = report.warnings
         if self.wanted.chosen["--fail-on"] == "new":
             counted = [item for item in counted if item.state == NEW]
         report.status = ALARMS if counted else CLEAN
 
+    def compare_with(self, baseline: str, report: Report) -> None:
+        """Tells of each warning whether a baseline knows it, and how many that it has are gone."""
+        if self.wanted.is_updating:
+            self.known = {item.fingerprint for item in report.warnings}
+            write_file(baseline, baseline_for(report).encode("ascii"))
+        report.baseline = baseline
+        for item in report.warnings:
+            item.state = UNCHANGED if item.fingerprint in self.known else NEW
+        found = {item.fingerprint for item in report.warnings + report.ignored}
+        report.gone = len(self.known - found)
+
+
+def may_ignore(file: str) -> bool:
+    """Whether a file has the word with which such a comment begins."""
+    if not os.path.isfile(file):
+        return False
+    with open(file, "rb") as opened:
+        return IGNORING in opened.read()
+
+
+def identify(report: Report) -> None:
+    """Gives each warning its fingerprint."""
+    from .baseline import Fingerprints
+
+    fingerprints = Fingerprints()
+    items = report.warnings + report.ignored
+    for item in sorted(items, key=lambda item: item.finding.place):
+        text = "" if item.spot is None else item.spot.text
+        item.fingerprint = fingerprints.next(item.kind, os.path.normpath(item.name), text)
+
 
 def baseline_for(report: Report) -> str:
     """The baseline of a report's warnings."""
+    from .baseline import baseline_of
+    from .shown import shown
+
     return baseline_of(
         (
             item.fingerprint,
@@ -79,16 +123,21 @@ def baseline_for(report: Report) -> str:
     )
 
 
-def failed(wanted: Wanted, status: int, text: str) -> Answer:
+def spelled(file: str) -> str:
+    """The word of a file as markers spell it."""
+    return latin(file).replace("\\", "\\\\").replace('"', '\\"')
+
+
+def failed(wanted: Wanted, failure: Failure) -> Answer:
     """The answer of a run that has failed."""
-    report = Report(status)
-    report.failure = text
-    content = b"" if wanted.format == "plain" else document(wanted, report, Sources())
-    return written(wanted, Answer(status, []), content)
+    report = Report(failure.status)
+    report.failure, report.hint = failure.text, failure.hint
+    content = b"" if wanted.format == "plain" else document(wanted, report)
+    return written(wanted, Answer(failure.status, []), content)
 
 
-def document(wanted: Wanted, report: Report, sources: Sources) -> bytes:
-    """The report in its form. Only what makes that form is read."""
+def document(wanted: Wanted, report: Report) -> bytes:
+    """The report in its form."""
     if wanted.format == "json":
         from . import json_document
 
@@ -100,7 +149,7 @@ def document(wanted: Wanted, report: Report, sources: Sources) -> bytes:
     if wanted.format == "html":
         from . import html_page
 
-        return html_page.document(report, sources)
+        return html_page.document(report)
     from .text import Text
 
     return Text(has_colors(wanted)).document(report)
@@ -131,4 +180,4 @@ def write_file(path: str, content: bytes) -> None:
         with open(path, "wb") as file:
             file.write(content)
     except (OSError, ValueError) as error:
-        raise Failure(UNWRITTEN, f"{path} can't be written") from error
+        raise Failure(UNWRITTEN, f"{path} can't be written: {reason_of(error)}") from error

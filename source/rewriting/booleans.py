@@ -42,9 +42,7 @@ class Booleans(Rewriting):
         if node.kind == "assign":
             self.assign(node)
         elif node.kind in ("prefix", "postfix"):
-            operand = node.parts[0]
-            if self.is_target(operand) and bits_of(operand) is None:
-                raise Untyped(node.first, "a step of a _Bool")
+            self.step(node)
         elif node.kind == "cast":
             self.convert(node.parts[0], node.type)
         elif node.kind == "call":
@@ -68,9 +66,29 @@ class Booleans(Rewriting):
             return
         if not is_repeatable(target):
             raise Untyped(node.first, "an assignment to a _Bool that has an effect")
-        before = f"(({self.edits.text_of(target.first, target.last)}) {node.text[:-1]} ("
-        self.edits.replace(target.last + 1, target.last + 1, "=")
+        copy, operator = self.edits.copy_of(target.first, target.last), target.last + 1
+        before = f"(({copy}) {self.edits.placed(operator, node.text[:-1])} ("
+        self.edits.replace(operator, operator, "=")
         self.edits.around(right.first, right.last, before, ")) != 0")
+
+    def step(self, node: Expression) -> None:
+        """`++` makes it 1, and `--` the other of 0 and 1. Behind it, the value is the one before."""
+        target = node.parts[0]
+        if not self.is_target(target) or bits_of(target) is not None:
+            return
+        if not is_repeatable(target):
+            raise Untyped(node.first, "a step of a _Bool that has an effect")
+        is_before = node.kind == "prefix"
+        copy = f"({self.edits.copy_of(target.first, target.last)})"
+        operator = node.first if is_before else node.last
+        self.edits.cut(operator, operator)
+        if not is_before:
+            fallen = f"({copy} = 0, 1)" if node.text == "--" else "1"
+            self.edits.around(node.first, node.last, "((", f") ? {fallen} : ({copy} = 1, 0))")
+        elif node.text == "++":
+            self.edits.around(node.first, node.last, "(", " = 1)")
+        else:
+            self.edits.around(node.first, node.last, "(", f" = !{copy})")
 
     def call(self, node: Expression) -> None:
         """The arguments of a call."""

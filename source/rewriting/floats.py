@@ -300,7 +300,11 @@ class FloatUses(Rewriting):
         self.is_used = self.is_used or isinstance(node.type, Floating)
 
     def declarator(self, node: Declarator, specifiers: Specifiers) -> None:
-        """What declares an object."""
+        """What defines an object. One of another file, or a parameter of a prototype, is none."""
+        is_outside = "extern" in specifiers.storage and node.values is None
+        is_inside = node.symbol is not None and node.symbol.depth > 0
+        if is_outside or (is_inside and self.context.function is None):
+            return
         kind = node.type
         while isinstance(kind, Array):
             kind = kind.element

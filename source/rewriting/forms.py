@@ -9,6 +9,7 @@ FORMS = {
     "declaration behind a statement": "declarations behind statements",
     "declaration in a for": "declarations in a for",
     "comma at the end of an enum": "commas at the end of an enum",
+    "enum before its constants": "enums before their constants",
     "label at the end of a block": "labels at the end of a block",
     "range of cases": "ranges of cases",
     "name of a function": "names of functions",

@@ -16,6 +16,7 @@ from .builtins import Builtins
 from .early_calls import EarlyCalls
 from .flexible import FlexibleMembers
 from .floats import Floats, uses_floats
+from .forward_enums import ForwardEnums
 from .generics import Generics
 from .initialisers import Initialisers
 from .inner_blocks import InnerBlocks
@@ -36,8 +37,8 @@ RECURSION = 8000
 
 # In the order in which they are shown a node: what stands first is put next to it.
 KINDS: list[type[Rewriting]] = [
-    LongLong, Builtins, EarlyCalls, Assertions, Generics, WideLiterals, SmallForms, VoidPointers,
-    FlexibleMembers, UnnamedMembers, BitFields, Names, InnerBlocks, VariadicFunctions, Literals,
+    LongLong, Builtins, EarlyCalls, Assertions, Generics, ForwardEnums, WideLiterals, SmallForms,
+    VoidPointers, FlexibleMembers, UnnamedMembers, BitFields, Names, InnerBlocks, VariadicFunctions, Literals,
     Initialisers, OldStyle, Blocks,
 ]
 

@@ -70,7 +70,7 @@ class SmallForms(Rewriting):
     def missing_middle(self, node: Expression) -> None:
         """`a ?: b` becomes `a ? a : b`; where `a` has an effect, an object keeps its value."""
         condition = node.parts[0]
-        text = f"({self.edits.text_of(condition.first, condition.last)})"
+        text = f"({self.edits.copy_of(condition.first, condition.last)})"
         if not is_repeatable(condition):
             kind, block = spelled(value_type(condition)), self.context.block()
             if kind is None or block is None:

@@ -38,7 +38,7 @@ class VoidPointers(Rewriting):
         if not is_repeatable(target):
             self.unit.leave(node.first, "a step of a void pointer that has an effect")
             return
-        sum_ = f"(void *)((char *)({self.edits.text_of(target.first, target.last)}) {node.text[0]}"
+        sum_ = f"(void *)((char *)({self.edits.copy_of(target.first, target.last)}) {node.text[0]}"
         self.unit.count("step of a void pointer")
         if node.kind == "assign":
             right = node.parts[1]

@@ -17,6 +17,20 @@ static int text_of(const char *s) { return *s; }
 
 static int walk(const int *s) { int n = 0; while (*s) n = n * 31 + *s++; return n; }
 
+/* Steps of a _Bool, with their values, of both numbers that it may hold. */
+static int steps(int n)
+{
+    struct set s = { 0 }, *p = &s;
+    int sum = 0, k;
+#define STEP(step) p->b[k] = k; sum = 2 * sum + step; sum = 2 * sum + p->b[k];
+    for (k = 0; k < 2; k++) {
+        STEP(p->b[k]++) STEP(++p->b[k]) STEP(p->b[k]--) STEP(--p->b[k])
+    }
+    for (s.a = 0; n > 0; s.a--)
+        n -= s.a + 1;
+    return sum + n;
+}
+
 int main(void)
 {
     _Static_assert(sizeof(struct set) == 12, "set");
@@ -35,5 +49,6 @@ int main(void)
     printf("%d %d %d %d ", walk(text), room[2], (int)sizeof(open_), open_[0] + open_[1]);
     switch (inside[1][1]) { case L'r': printf("%d", walk(L"\u00e9" "!") + inside[0][1]); }
     printf(" %d\n", _Generic(b ? 1 : 2L, long: 3, int: 4));
+    printf("%d\n", steps(5));
     return 0;
 }
