@@ -6,7 +6,8 @@ room=$(mktemp -d)
 trap 'rm -rf "$room"' EXIT
 
 usage=$'usage: sparrow COMMAND [OPTION] WORD..\n'
-commands='sparrow: the commands are: analyse [--values] FILE.., dense [--values] FILE..,'
+commands='sparrow: the commands are: analyse [--values] [--nodes] FILE..,'
+commands+=' dense [--values] [--nodes] FILE.., calls FILE..,'
 commands+=' source [--values] [--strict] [--keep DIR] [CPP-OPTION..] FILE.c..,'
 commands+=' source --compile-commands FILE [--target NAME] ..; sparrow --help tells more'
 file=examples/overrun.c
