@@ -1,5 +1,5 @@
 -- A program has no two texts of its indirect calls.
-use Rattle.std.proofs.Common.{◌≡◌, ◌∙◌, ◌⊎◌, inl, inr, ◌<◌, ℕ, zero, suc, nat_eq, eqb-true, arith}
+use Rattle.std.proofs.Common.{◌≡◌, ◌∙◌, ◌⊎◌, inl, inr, ◌<◌, ℕ, suc, nat_eq, eqb-true, arith}
 use Rattle.std.proofs.Common.{Bool, true, false, ◌||◌, true≢false, refl, sym, ap, ap₂, subst}
 use Rattle.std.proofs.Common.{List, [], ◌∷◌, ◌++◌, length, get_or}
 use Rattle.std.proofs.Math.Path.{fun_ext}
@@ -36,11 +36,12 @@ first_there x xs = ap (λ b. b || has x xs) (eqb-refl x)
 above : (x n : ℕ) (xs : List ℕ) → ((j : ℕ) → j < length xs → x < get_or xs j 0)
     → has n xs ≡ true → x < n
 above x n [] each there = absurd (true≢false (sym there))
-above x n (y ∷ ys) each there = go (member n y ys there)
+above x n (y ∷ ys) each there =
+    go (member n y ys there) (above x n ys (λ j low. each (suc j) (omega (arith, low))))
   where
-    go : (n ≡ y) ⊎ (has n ys ≡ true) → x < n
-    go (inl e) = subst (λ m. x < m) (sym e) (each 0 (omega arith))
-    go (inr t) = above x n ys (λ j low. each (suc j) (omega (arith, low))) t
+    go : (n ≡ y) ⊎ (has n ys ≡ true) → (has n ys ≡ true → x < n) → x < n
+    go (inl e) rest = subst (λ m. x < m) (sym e) (each 0 (omega arith))
+    go (inr t) rest = rest t
 
 module _ (x : ℕ) (xs : List ℕ) (rises : Ascends (x ∷ xs)) where
   first_least : (n : ℕ) → has n xs ≡ true → x < n

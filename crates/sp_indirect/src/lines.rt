@@ -3,10 +3,10 @@ ghost use Rattle.std.specs.Prelude.{◌≡◌, ◌++◌, ◌<◌, ◌^◌, ℕ, 
 ghost use Rattle.std.specs.List.{flat_map};
 ghost use Rattle.sp_ir.specs.Programs.{lowered_of, code_of};
 ghost use Rattle.sp_ir.specs.Formed.{IsFormed};
-ghost use Rattle.sp_ir.specs.View.{expression_of, command_of, node_of};
+ghost use Rattle.sp_ir.specs.View.{expression_of, lvalue_of, command_of, node_of};
 ghost use Rattle.sp_sets.specs.Sets.{Ascends};
 ghost use Rattle.sp_sets.specs.Reached.{row};
-ghost use Rattle.sp_indirect.specs.Texts.{is_name, is_indirect, count_of, name_of, callee_text, callees_text, count_text, call_text, node_text, lines_from};
+ghost use Rattle.sp_indirect.specs.Texts.{is_object, is_name, is_indirect, count_of, name_of, callee_text, callees_text, count_text, call_text, node_text, lines_from};
 ghost use Rattle.sp_indirect.specs.Told.{AreCallsOf};
 
 use sp_graph::CallGraph;
@@ -16,13 +16,31 @@ use sp_report::add_place;
 use sp_tree::Names;
 use std::alloc::{AllocError, Global};
 
+// Whether an lvalue is an object itself.
+fn is_object(lvalue: &Lvalue) -> bool
+    ensures { result ≡ is_object (lvalue_of lvalue.now) }
+{
+    match lvalue {
+        Lvalue::Direct(..) => true,
+        Lvalue::Through(..) | Lvalue::Field(..) => false,
+    }
+}
+
 // Whether a function is called by its own name.
 fn is_name(callee: &Expr) -> bool
     ensures { result ≡ is_name (expression_of callee.now) }
 {
     match callee {
-        Expr::Address(Lvalue::Direct(..)) => true,
-        _ => false,
+        Expr::Address(lvalue) => is_object(lvalue),
+        Expr::Number(..)
+        | Expr::Decay(_)
+        | Expr::Read(_)
+        | Expr::Convert(..)
+        | Expr::Unary(..)
+        | Expr::Binary(..)
+        | Expr::Compare(..)
+        | Expr::Move { .. }
+        | Expr::Distance { .. } => false,
     }
 }
 
@@ -168,11 +186,7 @@ fn count_text(alloc: Global, count: usize) -> Result<String, AllocError>
 /// The indirect calls of a formed program: a line for each node that is one, in the order of nodes,
 /// with its place and the functions that it calls, and then how many there are. `names` tells the
 /// bytes of each file's name. More objects than 2^32 want memory.
-pub fn print_calls(
-    alloc: Global,
-    names: &Names,
-    lowered: &Lowered,
-) -> Result<Vec<u8>, AllocError>
+pub fn print_calls(alloc: Global, names: &Names, lowered: &Lowered) -> Result<Vec<u8>, AllocError>
     requires { IsFormed (lowered_of lowered.now) }
     ensures { IfOk result (λ text. AreCallsOf (lowered_of lowered.now) names.now text.items) }
 {

@@ -1,6 +1,5 @@
-use Rattle.std.proofs.Common.{◌≡◌, ◌++◌, ◌<◌, ℕ, drop, map}
+use Rattle.std.proofs.Common.{◌≡◌, ◌++◌, ◌<◌, ℕ, drop}
 use Rattle.sp_ir.specs.Programs.{lowered_of}
-use Rattle.sp_ir.specs.View.{node_of}
 use Rattle.sp_sets.specs.Sets.{Ascends}
 use Rattle.sp_sets.specs.Reached.{row}
 use Rattle.sp_indirect.specs.Texts.{lines_from}
