@@ -1,12 +1,12 @@
 -- The report over a solved table is that over the least solution.
-use Rattle.std.proofs.Common.{◌≡◌, ℕ, List, subst}
+use Rattle.std.proofs.Common.{ℕ, List, subst}
 use Rattle.std.proofs.Math.Path.{fun_ext}
 use Rattle.sp_value.specs.declared.slots.Slot.{Slot}
 use Rattle.sp_value.specs.Slots.{slot_order}
 use Rattle.sp_dense.specs.Solution.{Grids, IsSolved, cell}
 use Rattle.sp_transfer.specs.Equations.{Equations, meaning_of}
 use Rattle.sp_analysis.specs.declared.reports.Details.{Details}
-use Rattle.sp_analysis.specs.Outcomes.{IsReport, IsReportOf, reaching}
+use Rattle.sp_analysis.specs.Outcomes.{IsReport, IsReportOf}
 
 pub reported : (names : List (List ℕ)) (details : Details) (e : Equations) (grids : Grids Slot) (text : List ℕ) (count : ℕ)
     → IsSolved slot_order (meaning_of e) grids → IsReport e (cell grids.inputs) names details text count

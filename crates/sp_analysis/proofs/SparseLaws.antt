@@ -22,7 +22,6 @@ use Rattle.sp_updates.proofs.Numbers.{side}
 use Rattle.sp_verdicts.specs.Commands.{node_alarms}
 use Rattle.sp_verdicts.specs.Uses.{command_uses}
 use Rattle.sp_verdicts.proofs.NodeLaws.{node-agrees}
-use Rattle.sp_dense.specs.Solution.{within_counts}
 use Rattle.sp_sparse.specs.Solution.{SparseCells, IsSolved, within_list, cell}
 use Rattle.sp_report.specs.Inputs.{slot_or_nothing, store_given, alarms_at}
 use Rattle.sp_report.specs.Values.{uses_at, values_from}

@@ -7,7 +7,6 @@ use Rattle.sp_value.specs.declared.slots.Slot.{Slot}
 use Rattle.sp_value.specs.Slots.{slot_order}
 use Rattle.sp_verdicts.specs.declared.alarm.Alarm.{Alarm}
 use Rattle.sp_dense.specs.Solution.{cells, most_cells, within_counts}
-use Rattle.sp_report.specs.declared.lines.Report.{Report}
 use Rattle.sp_report.specs.Inputs.{alarms_from}
 use Rattle.sp_report.specs.Values.{values_from}
 use Rattle.sp_report.specs.ByNode.{by_node_from}

@@ -1,6 +1,5 @@
 -- From what an engine makes of a program to what is written.
 use Rattle.std.proofs.Common.{◌≡◌, ℕ, List, Result, Ok, Err, IfOk, refl, sym, ap, subst}
-use Rattle.sp_tree.specs.declared.fault.FaultKind.{FaultKind}
 use Rattle.sp_tree.specs.declared.fault.FaultKind.TheVariants.{M6, M8}
 use Rattle.sp_ir.specs.Programs.{Lowered}
 use Rattle.sp_lower.specs.Programs.{start_place}
