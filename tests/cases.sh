@@ -20,8 +20,12 @@ for file in tests/cases/*.tsv; do
 done
 
 for file in tests/programs/*.tsv; do
-    flags=()
-    [ "$file" != tests/programs/values.tsv ] || flags=(--values)
+    flags=() commands=(analyse dense)
+    case $file in
+        */values.tsv) flags=(--values) ;;
+        */nodes.tsv) flags=(--nodes) ;;
+        */calls.tsv) commands=(calls) ;;
+    esac
     while IFS=$'\t' read -r name status first second answer || [ -n "$name" ]; do
         files=(a.c)
         printf '%b' "$first" >"$room/a.c"
@@ -29,7 +33,7 @@ for file in tests/programs/*.tsv; do
             printf '%b' "$second" >"$room/b.c"
             files+=(b.c)
         fi
-        for command in analyse dense; do
+        for command in "${commands[@]}"; do
             check "$file, $name, $command" "$status" "${answer//|/$'\n'}"$'\n' \
                 in_room "$command" "${flags[@]}" "${files[@]}"
         done
