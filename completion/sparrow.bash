@@ -23,12 +23,13 @@ _sparrow() {
     fi
     if [ "$COMP_CWORD" -eq 1 ]; then
         mapfile -t COMPREPLY < <(
-            compgen -W 'source analyse dense help --help --version --program' -- "$word")
+            compgen -W 'source analyse dense calls help --help --version --program' -- "$word")
         return
     fi
     case ${COMP_WORDS[1]} in
         source) options+=' --strict --keep --compile-commands --target -D -I -U -idirafter -imacros -include -iquote -isystem --contexts= --no-contexts --format --output --color --baseline --update-baseline --fail-on' ;;
-        analyse | dense) ;;
+        analyse | dense) options+=' --nodes' ;;
+        calls) options='' ;;
         *) return ;;
     esac
     case ${COMP_WORDS[1]}:$before in

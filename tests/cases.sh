@@ -22,8 +22,12 @@ for file in tests/cases/*.tsv; do
 done
 
 for file in tests/programs/*.tsv; do
-    flags=()
-    [ "$file" != tests/programs/values.tsv ] || flags=(--values)
+    flags=() commands=(analyse dense)
+    case $file in
+        */values.tsv) flags=(--values) ;;
+        */nodes.tsv) flags=(--nodes) ;;
+        */calls.tsv) commands=(calls) ;;
+    esac
     while IFS=$'\t' read -r -a fields || [ ${#fields[@]} -gt 0 ]; do
         texts=("${fields[@]:2:${#fields[@]}-3}")
         files=()
@@ -33,7 +37,7 @@ for file in tests/programs/*.tsv; do
             printf '%b' "${texts[place]}" >"$room/$written"
             files+=("$written")
         done
-        for command in analyse dense; do
+        for command in "${commands[@]}"; do
             check "$file, ${fields[0]}, $command" "${fields[1]}" "${fields[-1]//|/$'\n'}"$'\n' \
                 in_room "$command" "${flags[@]}" "${files[@]}"
         done

@@ -97,7 +97,8 @@ complete_words() { # WORD..
 mkdir "$room/sources/part"
 touch "$room/sources/notes.txt"
 check 'the commands' 0 $'source\n' complete_words sparrow s
-check 'the options of analyse' 0 $'--values\n' complete_words sparrow analyse -
+check 'a command' 0 $'calls\n' complete_words sparrow c
+check 'the options of analyse' 0 $'--values\n--nodes\n' complete_words sparrow analyse -
 options=$'--values\n--strict\n--keep\n--compile-commands\n--target\n'
 options+=$'--contexts=\n--no-contexts\n--format\n--output\n--color\n--baseline\n--update-baseline\n--fail-on\n'
 check 'the options of source' 0 "$options" complete_words sparrow source --

@@ -6,7 +6,8 @@ room=$(mktemp -d)
 trap 'rm -rf "$room"' EXIT
 
 usage=$'usage: sparrow COMMAND [OPTION] WORD..\n'
-commands='sparrow: the commands are: analyse [--values] FILE.., dense [--values] FILE..,'
+commands='sparrow: the commands are: analyse [--values] [--nodes] FILE..,'
+commands+=' dense [--values] [--nodes] FILE.., calls FILE..,'
 commands+=' source [--values] [--strict] [--keep DIR] [CPP-OPTION..] FILE.c..,'
 commands+=' source --compile-commands FILE [--target NAME] ..; sparrow --help tells more'
 file=examples/overrun.c
@@ -17,6 +18,11 @@ check 'the flag twice' 3 "$usage" ./sparrow analyse --values --values "$file"
 check 'a value for the flag' 3 "$usage" ./sparrow analyse --values=1 "$file"
 check 'the flag without a file' 3 "$usage" ./sparrow dense --values
 check 'no file behind the end of options' 3 "$usage" ./sparrow dense --
+check 'the other flag twice' 3 "$usage" ./sparrow dense --nodes --nodes "$file"
+check 'a part of a flag' 3 "$usage" ./sparrow analyse --node "$file"
+check 'a flag of calls' 3 "$usage" ./sparrow calls --nodes "$file"
+check 'values of calls' 3 "$usage" ./sparrow calls "$file" --values
+check 'calls alone' 3 "$usage" ./sparrow calls
 check 'help behind a file' 3 "$usage" ./sparrow analyse "$file" --help
 check 'an option in place of the file' 3 "$usage" ./sparrow analyse --fast
 check 'another command' 3 "$usage" ./sparrow Analyse "$file"
@@ -30,6 +36,8 @@ check 'the empty word as a file' 4 '' ./sparrow analyse ''
 check 'the flag as a file' 4 '' ./sparrow analyse -- --values
 check 'a second file that is missing' 4 '' ./sparrow analyse "$file" examples/none.c
 check 'a folder' 4 '' ./sparrow dense examples
+check 'a missing file of calls' 4 '' ./sparrow calls examples/none.c
+check 'a flag of calls as a file' 4 '' ./sparrow calls -- --nodes
 check_said 'a missing file' "sparrow: examples/none.c can't be read: no such file" \
     ./sparrow analyse examples/none.c
 check_said 'a missing file behind another' "sparrow: none can't be read: no such file" \
@@ -58,7 +66,19 @@ values=$'0 alarms\nnode 2 a.c:1:29: x = [0,0]\n'
 check 'two files' 0 $'0 alarms\n' in_room analyse a.c b.c
 check 'values behind the files' 0 "$values" in_room analyse a.c b.c --values
 check 'values before the end of options' 0 "$values" in_room dense --values -- a.c b.c
+printf 'int x;int main(void){return 5/x;}' >"$room/div.c"
+alarm='div.c:1:30: zero: divisor [0,0]'
+behind=$'node 2 div.c:1:22: x = [0,0]\n'
+check 'nodes' 1 "$alarm"$'\n1 alarm\nnode 2 '"$alarm"$'\n' in_room analyse div.c --nodes
+check 'nodes behind values' 1 "$alarm"$'\n1 alarm\n'"${behind}node 2 $alarm"$'\n' \
+    in_room dense --nodes div.c --values
+check 'no alarm of a node' 0 "$values" in_room analyse --nodes a.c --values b.c
+printf 'int f(void){return 0;}int(*p)(void)=f;' >"$room/f.c"
+printf 'extern int(*p)(void);int main(void){return p();}' >"$room/p.c"
+check 'indirect calls' 0 $'p.c:1:44: f\n1 indirect call\n' in_room calls f.c -- p.c
+check 'no indirect call' 0 $'0 indirect calls\n' in_room calls b.c a.c
 check 'one file twice' 2 $'a.c:1:18: refused F23: second definition\n' in_room analyse a.c b.c a.c
+check 'one file twice for calls' 2 $'a.c:1:18: refused F23: second definition\n' in_room calls a.c b.c a.c
 
 # Files may have 16,777,216 bytes together, and there may be 64.
 head -c 16777200 /dev/zero | tr '\0' ' ' >"$room/blank.c"

@@ -1,5 +1,5 @@
 -- What reaches nodes at their uses alone gives the whole report.
-use Rattle.std.proofs.Common.{◌≡◌, ◌⊎◌, inl, inr, ℕ, zero, suc, ◌<◌, ◌≤◌, ◌^◌, Bool, true, false, ◌&&◌, nat_lt, List, [], ◌∷◌, ◌++◌, length, Option, Some, None, is_some, unwrap_or, if◌then◌else◌, slice_get, get_or, refl, sym, ap, subst, ◌∙◌, arith}
+use Rattle.std.proofs.Common.{◌≡◌, ◌⊎◌, inl, inr, ℕ, zero, suc, ◌<◌, ◌≤◌, ◌^◌, Bool, true, false, ◌&&◌, nat_lt, List, [], ◌∷◌, ◌++◌, length, Option, Some, None, is_some, unwrap_or, if◌then◌else◌, slice_get, get_or, refl, sym, ap, ap₂, cond, subst, ◌∙◌, arith}
 use Rattle.std.proofs.lemmas.Bool.{false≢true}
 use Rattle.std.proofs.Math.Path.{fun_ext}
 use Rattle.std.proofs.Props.{props}
@@ -22,10 +22,10 @@ use Rattle.sp_updates.proofs.Numbers.{side}
 use Rattle.sp_verdicts.specs.Commands.{node_alarms}
 use Rattle.sp_verdicts.specs.Uses.{command_uses}
 use Rattle.sp_verdicts.proofs.NodeLaws.{node-agrees}
-use Rattle.sp_dense.specs.Solution.{within_counts}
 use Rattle.sp_sparse.specs.Solution.{SparseCells, IsSolved, within_list, cell}
 use Rattle.sp_report.specs.Inputs.{slot_or_nothing, store_given, alarms_at}
 use Rattle.sp_report.specs.Values.{uses_at, values_from}
+use Rattle.sp_report.specs.ByNode.{by_node_from}
 use Rattle.sp_report.specs.Report.{report_text, report_count}
 use Rattle.sp_report.proofs.AgreeLaws.{input_laws}
 use Rattle.sp_scenes.specs.Analysed.{Analysed, setting_of, locations_of}
@@ -34,7 +34,8 @@ use Rattle.sp_scenes.proofs.AllLaws.{scene_laws}
 use Rattle.sp_calls.proofs.StoringSteps.{low-member}
 use Rattle.sp_transfer.specs.Effects.{used_by}
 use Rattle.sp_transfer.specs.Equations.{Equations, AreEquations, nodes_of, meaning_of, number_of}
-use Rattle.sp_analysis.specs.Outcomes.{alarms_of, text_of, IsReport, IsReportOf, reaching}
+use Rattle.sp_analysis.specs.declared.reports.Details.{Details}
+use Rattle.sp_analysis.specs.Outcomes.{alarms_of, text_of, detailed_text, IsReport, IsReportOf, reaching}
 use Rattle.sp_transfer.proofs.UsedLaws.{alarms-used}
 
 -- an answer that is there where two tests hold, and none where one of them doesn't
@@ -157,17 +158,17 @@ module _ (e : Equations) (whole : IsAnalysed e.analysed) (are : AreEquations e) 
   alarms-at k low None is = refl
   alarms-at k low (Some node) is = node-same k low node is
 
+  each-node : (k n : ℕ) → slice_get (nodes_of e) k ≡ Some n
+      → alarms_at a.program (locations_of a.program) (store_given some_given k) (slice_get a.program.nodes n)
+      ≡ alarms_at a.program (locations_of a.program) (store_given all_given k) (slice_get a.program.nodes n)
+  each-node k n at =
+      let found = found-at (nodes_of e) k n 0 at in
+      subst (λ m. alarms_at a.program (locations_of a.program) (store_given some_given k) (slice_get a.program.nodes m)
+      ≡ alarms_at a.program (locations_of a.program) (store_given all_given k) (slice_get a.program.nodes m)) found.1
+      (alarms-at k found.0 (slice_get a.program.nodes (number_of e k)) refl)
+
   alarms-same : alarms_of e some_given ≡ alarms_of e all_given
-  alarms-same = input_laws.alarms_agree a.program (locations_of a.program) some_given all_given (nodes_of e) each
-    where
-      each : (k n : ℕ) → slice_get (nodes_of e) k ≡ Some n
-          → alarms_at a.program (locations_of a.program) (store_given some_given k) (slice_get a.program.nodes n)
-          ≡ alarms_at a.program (locations_of a.program) (store_given all_given k) (slice_get a.program.nodes n)
-      each k n at =
-          let found = found-at (nodes_of e) k n 0 at in
-          subst (λ m. alarms_at a.program (locations_of a.program) (store_given some_given k) (slice_get a.program.nodes m)
-          ≡ alarms_at a.program (locations_of a.program) (store_given all_given k) (slice_get a.program.nodes m)) found.1
-          (alarms-at k found.0 (slice_get a.program.nodes (number_of e k)) refl)
+  alarms-same = input_laws.alarms_agree a.program (locations_of a.program) some_given all_given (nodes_of e) each-node
 
   -- ---- values
 
@@ -187,18 +188,34 @@ module _ (e : Equations) (whole : IsAnalysed e.analysed) (are : AreEquations e) 
       ∙ ap (λ v. report_text names (alarms_of e all_given) ++ v) (values-same names)
   text-same names false = ap (report_text names) alarms-same
 
+  -- ---- lines by node
+
+  by-node-same : (names : List (List ℕ))
+      → by_node_from names a.program (locations_of a.program) some_given 0 (nodes_of e)
+      ≡ by_node_from names a.program (locations_of a.program) all_given 0 (nodes_of e)
+  by-node-same names = input_laws.by_node_agree names a.program (locations_of a.program) some_given all_given (nodes_of e) each-node
+
+  details-same : (names : List (List ℕ)) (values nodes : Bool)
+      → cond nodes (text_of e some_given names values ++ by_node_from names a.program (locations_of a.program) some_given 0 (nodes_of e)) (text_of e some_given names values)
+      ≡ cond nodes (text_of e all_given names values ++ by_node_from names a.program (locations_of a.program) all_given 0 (nodes_of e)) (text_of e all_given names values)
+  details-same names values true = ap₂ (λ t l. t ++ l) (text-same names values) (by-node-same names)
+  details-same names values false = text-same names values
+
+  detailed-same : (names : List (List ℕ)) (details : Details) → detailed_text e some_given names details ≡ detailed_text e all_given names details
+  detailed-same names details = details-same names details.values details.nodes
+
 -- the report over a solved sparse table is that over the least solution
-pub reported-sparsely : (names : List (List ℕ)) (with_values : Bool) (e : Equations) (cells : SparseCells Slot) (text : List ℕ) (count : ℕ)
+pub reported-sparsely : (names : List (List ℕ)) (details : Details) (e : Equations) (cells : SparseCells Slot) (text : List ℕ) (count : ℕ)
     → ∥ IsAnalysed e.analysed ∥₁ → ∥ AreEquations e ∥₁ → InputsUnder slot_order (meaning_of e) → IsSolved slot_order (meaning_of e) cells
-    → IsReport e (cell cells.inputs) names with_values text count → IsReportOf names with_values e text count
-reported-sparsely names with_values e cells text count whole are inputs solved report = record {
+    → IsReport e (cell cells.inputs) names details text count → IsReportOf names details e text count
+reported-sparsely names details e cells text count whole are inputs solved report = record {
   table = solved.dense;
   least = solved.least;
   reports = record {
-    text_is = ∥∥₁_elim whole (hlevel props) (λ w. ∥∥₁_elim are (hlevel props) (λ h. (some w h).text_is ∙ text-same e w h solved.dense solved.least inputs names with_values));
+    text_is = ∥∥₁_elim whole (hlevel props) (λ w. ∥∥₁_elim are (hlevel props) (λ h. (some w h).text_is ∙ detailed-same e w h solved.dense solved.least inputs names details));
     count_is = ∥∥₁_elim whole (hlevel props) (λ w. ∥∥₁_elim are (hlevel props) (λ h. (some w h).count_is ∙ ap (report_count names) (alarms-same e w h solved.dense solved.least inputs)));
   };
 }
   where
-    some : (w : IsAnalysed e.analysed) (h : AreEquations e) → IsReport e (some_given e w h solved.dense solved.least inputs) names with_values text count
-    some w h = subst (λ g. IsReport e g names with_values text count) (fun_ext (λ n. fun_ext (λ l. solved.inputs n l))) report
+    some : (w : IsAnalysed e.analysed) (h : AreEquations e) → IsReport e (some_given e w h solved.dense solved.least inputs) names details text count
+    some w h = subst (λ g. IsReport e g names details text count) (fun_ext (λ n. fun_ext (λ l. solved.inputs n l))) report

@@ -9,8 +9,8 @@
 //! 1 alarm
 //! ```
 //!
-//! Behind it come the lines of values, where they are wanted: what reaches each node at the
-//! locations that it uses.
+//! Behind it come the details that are wanted: the lines of values, which tell what reaches each
+//! node at the locations that it uses, and the lines by node, which tell each node's alarms.
 //!
 //! The layer above uses two contracts. [`dense_report`]: what comes `Ends` the program
 //! (`specs.Outcomes`), and the evaluations are at most those of the dense engine (`IsStepped`
@@ -23,4 +23,5 @@ mod reports;
 mod sparse;
 
 pub use dense::{Outcome, dense_report};
+pub use reports::Details;
 pub use sparse::{SparseOutcome, sparse_report};

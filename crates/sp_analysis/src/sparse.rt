@@ -5,7 +5,7 @@ ghost use Rattle.sp_ir.specs.Formed.{IsFormed};
 ghost use Rattle.sp_defuse.specs.Program.{equations_in};
 ghost use Rattle.sp_analysis.specs.Sparse.{Gives, Ends, ServesWithin, IsServed};
 
-use crate::reports::report_on;
+use crate::reports::{Details, report_on};
 use sp_defuse::{CProgram, open_nodes};
 use sp_deps::{DepError, dependencies_with};
 use sp_ir::Lowered;
@@ -30,11 +30,11 @@ pub enum SparseOutcome {
 fn solve<L: Ledger>(
     alloc: Global,
     names: &Names,
-    with_values: bool,
+    details: Details,
     program: &CProgram,
     steps: &mut Steps<L>,
 ) -> Result<SparseOutcome, AllocError>
-    ensures gives { IfOk result (Gives names.now with_values
+    ensures gives { IfOk result (Gives names.now details
         (equations_in program.now)
         steps.old steps.new) }
     ensures bound { ServesWithin
@@ -50,25 +50,25 @@ fn solve<L: Ledger>(
     };
     let mut picker = BySweeps::new(order_of(alloc, program)?);
     let table = solve_sparse(alloc, program, &deps, &mut picker, steps)?;
-    let report = report_on(alloc, names, with_values, program, &table)?;
+    let report = report_on(alloc, names, details, program, &table)?;
     Ok(SparseOutcome::Reported(report))
 }
 
 /// The report of a formed program, or that it has too many dependencies. `names` tells the bytes of
-/// each file's name; `with_values` wants the lines of values behind the report.
+/// each file's name; `details` are wanted behind the report.
 pub fn sparse_report<L: Ledger>(
     alloc: Global,
     names: &Names,
-    with_values: bool,
+    details: Details,
     lowered: Lowered,
     steps: &mut Steps<L>,
 ) -> Result<SparseOutcome, AllocError>
     requires { IsFormed (lowered_of lowered) }
     ensures ends { IfOk result
-        (Ends (lowered_of lowered) names.now with_values steps.old steps.new) }
+        (Ends (lowered_of lowered) names.now details steps.old steps.new) }
     ensures steps { IsServed (lowered_of lowered) steps.old steps.new }
 {
     let analysis = Analysis::new(alloc, lowered)?;
     let program = CProgram::new(alloc, analysis)?;
-    solve(alloc, names, with_values, &program, steps)
+    solve(alloc, names, details, &program, steps)
 }

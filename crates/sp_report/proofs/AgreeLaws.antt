@@ -1,11 +1,13 @@
 -- Inputs that agree at what is used give the same alarms and the same lines of values.
-use Rattle.std.proofs.Common.{◌≡◌, ℕ, suc, ◌+◌, Bool, true, false, ◌||◌, List, [], ◌∷◌, ◌++◌, Option, Some, None, slice_get, nat_eq, eq-eqb, refl, ap, subst, ◌∙◌, arith}
+use Rattle.std.proofs.Common.{◌≡◌, ℕ, suc, ◌+◌, Bool, true, false, ◌||◌, List, [], ◌∷◌, ◌++◌, Option, Some, None, slice_get, nat_eq, eq-eqb, refl, ap, ap₂, subst, ◌∙◌, arith}
 use Rattle.std.specs.List.{flat_map}
 use Rattle.sp_lattice.specs.System.{has}
 use Rattle.sp_ir.specs.Commands.{Node}
 use Rattle.sp_ir.specs.Programs.{Lowered}
 use Rattle.sp_value.specs.declared.slots.Slot.{Slot}
 use Rattle.sp_report.specs.Inputs.{store_given, alarms_at, alarms_from}
+use Rattle.sp_verdicts.specs.declared.alarm.Alarm.{Alarm}
+use Rattle.sp_report.specs.ByNode.{lines_of_node, by_node_from}
 use Rattle.sp_report.specs.Values.{value_line, node_lines, uses_at, values_from}
 use Rattle.sp_report.specs.Laws.{InputLaws}
 
@@ -36,6 +38,41 @@ from_zero p cells g h ns same = alarms-agree p cells g h 0 ns (λ i n e. moved i
     moved i n e =
         let shift : i ≡ 0 + i = omega arith in
         subst (λ (j : ℕ). alarms_at p cells (store_given g j) (slice_get p.nodes n) ≡ alarms_at p cells (store_given h j) (slice_get p.nodes n)) shift e
+
+-- ---- lines by node
+
+module _ (names : List (List ℕ)) (p : Lowered) (cells : List ℕ) (g h : ℕ → ℕ → Option Slot) where
+  abbrev alarms_of_node : (ℕ → ℕ → Option Slot) → ℕ → ℕ → List Alarm
+  alarms_of_node given k n = alarms_at p cells (store_given given k) (slice_get p.nodes n)
+
+  by-node-agree : (k : ℕ) (ns : List ℕ)
+      → ((i n : ℕ) → slice_get ns i ≡ Some n
+      → alarms_of_node g (k + i) n ≡ alarms_of_node h (k + i) n)
+      → by_node_from names p cells g k ns ≡ by_node_from names p cells h k ns
+  by-node-agree k [] same = refl
+  by-node-agree k (n ∷ ns) same =
+      let here : k + 0 ≡ k = omega arith in
+      let first : alarms_of_node g k n ≡ alarms_of_node h k n =
+      subst (λ (j : ℕ). alarms_of_node g j n ≡ alarms_of_node h j n) here (same 0 n refl) in
+      ap₂ (λ xs ls. lines_of_node names n xs ++ ls) first
+      (by-node-agree (suc k) ns (λ i m e. moved i m (same (suc i) m e)))
+    where
+      moved : (i m : ℕ) → alarms_of_node g (k + suc i) m ≡ alarms_of_node h (k + suc i) m
+          → alarms_of_node g (suc k + i) m ≡ alarms_of_node h (suc k + i) m
+      moved i m e =
+          let shift : k + suc i ≡ suc k + i = omega arith in
+          subst (λ (j : ℕ). alarms_of_node g j m ≡ alarms_of_node h j m) shift e
+
+  by_node_zero : (ns : List ℕ)
+      → ((k n : ℕ) → slice_get ns k ≡ Some n → alarms_of_node g k n ≡ alarms_of_node h k n)
+      → by_node_from names p cells g 0 ns ≡ by_node_from names p cells h 0 ns
+  by_node_zero ns same = by-node-agree 0 ns (λ i n e. moved i n (same i n e))
+    where
+      moved : (i n : ℕ) → alarms_of_node g i n ≡ alarms_of_node h i n
+          → alarms_of_node g (0 + i) n ≡ alarms_of_node h (0 + i) n
+      moved i n e =
+          let shift : i ≡ 0 + i = omega arith in
+          subst (λ (j : ℕ). alarms_of_node g j n ≡ alarms_of_node h j n) shift e
 
 -- ---- lines of values
 
@@ -69,5 +106,6 @@ module _ (names : List (List ℕ)) (p : Lowered) (cells : List ℕ) where
 pub input_laws : InputLaws
 input_laws = record {
   alarms_agree = from_zero;
+  by_node_agree = by_node_zero;
   values_agree = λ names p cells g h uses ns same. values-agree names p cells g h uses 0 ns same;
 }

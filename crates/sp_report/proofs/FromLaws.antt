@@ -6,6 +6,7 @@ use Rattle.sp_ir.specs.Programs.{Lowered}
 use Rattle.sp_value.specs.declared.slots.Slot.{Slot}
 use Rattle.sp_verdicts.specs.declared.alarm.Alarm.{Alarm}
 use Rattle.sp_report.specs.Inputs.{store_given, alarms_at, alarms_from}
+use Rattle.sp_report.specs.ByNode.{lines_of_node, by_node_from}
 use Rattle.sp_report.specs.Values.{node_lines, uses_at, values_from}
 
 pub alarms_step : (p : Lowered) (cells : List ℕ) (given : ℕ → ℕ → Option Slot) (k n : ℕ) (ns : List ℕ) (now : List Alarm) → k < length ns → n ≡ get_or ns k 0
@@ -17,6 +18,15 @@ pub values_step : (names : List (List ℕ)) (p : Lowered) (cells : List ℕ) (gi
     → (now ++ node_lines names p cells n (slice_get p.nodes n) (store_given given k) (uses_at (slice_get uses k))) ++ values_from names p cells given uses (k + 1) (drop (k + 1) ns) ≡ now ++ values_from names p cells given uses k (drop k ns)
 values_step names p cells given uses k n ns now h e =
     rw add-one (append_assoc now _ _ ∙ ap (λ ms. now ++ values_from names p cells given uses k ms) (ap (λ m. m ∷ drop (suc k) ns) e ∙ sym (drop-cons ns k 0 h)))
+
+pub by_node_step : (names : List (List ℕ)) (p : Lowered) (cells : List ℕ) (given : ℕ → ℕ → Option Slot)
+    (k n : ℕ) (ns now : List ℕ) → k < length ns → n ≡ get_or ns k 0
+    → (now ++ lines_of_node names n (alarms_at p cells (store_given given k) (slice_get p.nodes n)))
+    ++ by_node_from names p cells given (k + 1) (drop (k + 1) ns)
+    ≡ now ++ by_node_from names p cells given k (drop k ns)
+by_node_step names p cells given k n ns now h e =
+    rw add-one (append_assoc now _ _ ∙ ap (λ ms. now ++ by_node_from names p cells given k ms)
+    (ap (λ m. m ∷ drop (suc k) ns) e ∙ sym (drop-cons ns k 0 h)))
 
 -- the number at a place is one of the list
 pub has_at : (ns : List ℕ) (k : ℕ) → k < length ns → has (get_or ns k 0) ns ≡ true

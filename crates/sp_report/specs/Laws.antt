@@ -7,6 +7,7 @@ use Rattle.sp_ir.specs.Programs.{Lowered}
 use Rattle.sp_value.specs.declared.slots.Slot.{Slot}
 use Rattle.sp_verdicts.specs.declared.alarm.Alarm.{Alarm}
 use Rattle.sp_report.specs.Inputs.{store_given, alarms_at, alarms_from}
+use Rattle.sp_report.specs.ByNode.{by_node_from}
 use Rattle.sp_report.specs.Values.{uses_at, values_from}
 use Rattle.sp_report.specs.Report.{line_cmp, lines_of, report_text, report_count}
 
@@ -25,14 +26,20 @@ pub record ReportLaws : Type 0 where
   pub clean : (names : List (List ℕ)) (alarms : List Alarm)
       → report_count names alarms ≡ 0 ↔ alarms ≡ []
 
--- Two tables of inputs that give each node the same alarms give the same alarms together. Two that
--- agree at the locations that nodes use have the same lines of values.
+-- Two tables of inputs that give each node the same alarms give the same alarms together, and the
+-- same lines by node. Two that agree at the locations that nodes use have the same lines of values.
 pub record InputLaws : Type 0 where
   pub alarms_agree : (p : Lowered) (cells : List ℕ) (g h : ℕ → ℕ → Option Slot) (nodes : List ℕ)
       → ((k n : ℕ) → slice_get nodes k ≡ Some n
       → alarms_at p cells (store_given g k) (slice_get p.nodes n)
       ≡ alarms_at p cells (store_given h k) (slice_get p.nodes n))
       → alarms_from p cells g 0 nodes ≡ alarms_from p cells h 0 nodes
+  pub by_node_agree : (names : List (List ℕ)) (p : Lowered) (cells : List ℕ)
+      (g h : ℕ → ℕ → Option Slot) (nodes : List ℕ)
+      → ((k n : ℕ) → slice_get nodes k ≡ Some n
+      → alarms_at p cells (store_given g k) (slice_get p.nodes n)
+      ≡ alarms_at p cells (store_given h k) (slice_get p.nodes n))
+      → by_node_from names p cells g 0 nodes ≡ by_node_from names p cells h 0 nodes
   pub values_agree : (names : List (List ℕ)) (p : Lowered) (cells : List ℕ)
       (g h : ℕ → ℕ → Option Slot) (uses : List (List ℕ)) (nodes : List ℕ)
       → ((k l : ℕ) → has l (uses_at (slice_get uses k)) ≡ true

@@ -57,8 +57,8 @@ pub(crate) fn node_at(lowered: &Lowered, number: u32) -> Option<&Node>
     lowered.nodes.get(number as usize)
 }
 
-// Adds the alarms of the node of a number, where there is one.
-fn add_alarms<I: Inputs<Value = Slot>>(
+/// Adds the alarms of the node of a number, where there is one.
+pub(crate) fn add_alarms<I: Inputs<Value = Slot>>(
     alloc: Global,
     lowered: &Lowered,
     locations: &Locations,

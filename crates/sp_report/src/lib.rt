@@ -24,12 +24,14 @@
 //! What goes in: the names of the texts, the program, its locations, the numbers of its nodes, and
 //! the [`Inputs`](sp_lattice::Inputs) that a solved table gives. [`alarms`] lists the alarms of the
 //! nodes over their stores (`alarms_from` of `specs.Inputs`). [`print_alarms`] gives the bytes
-//! `report_text` of `specs.Report`. [`print_values`] gives `values_from` of `specs.Values`. The
+//! `report_text` of `specs.Report`. [`print_values`] gives `values_from` of `specs.Values`, and
+//! [`print_by_node`] `by_node_from` of `specs.ByNode`. [`add_place`] writes a place. The
 //! layer above also uses that a report is one of the *set* of its alarms, and that tables which
 //! agree at what is used have one report and the same lines of values (`ReportLaws` and `InputLaws`
 //! of `specs.Laws`, the contract of [`reports_are_lawful`]).
 #![tactic(auto)]
 
+mod by_node;
 mod inputs;
 mod lawful;
 mod lines;
@@ -37,7 +39,8 @@ mod places;
 mod texts;
 mod values;
 
+pub use by_node::print_by_node;
 pub use inputs::alarms;
 pub use lawful::reports_are_lawful;
-pub use lines::{Report, print_alarms};
+pub use lines::{Report, add_place, print_alarms};
 pub use values::print_values;

@@ -2,12 +2,12 @@
 ghost use Rattle.std.specs.Prelude.{◌≡◌, ◌++◌, IfOk, OnOk, map, string_bytes, slice_get};
 ghost use Rattle.std.specs.BTreeSet.{insert_key};
 ghost use Rattle.std.specs.List.{flat_map};
-ghost use Rattle.sp_report.specs.Texts.{name_of, alarm_text};
-ghost use Rattle.sp_report.specs.Report.{kind_rank, line_of, line_cmp, line_text, count_text, report_text, report_count};
+ghost use Rattle.sp_report.specs.Texts.{name_of, file_name, position_text, alarm_text};
+ghost use Rattle.sp_report.specs.Report.{kind_rank, line_of, line_cmp, line_text, lines_of, count_text, report_text, report_count};
 ghost use Rattle.sp_report.specs.Lines.{rank_number, seen};
 
-use crate::texts::AlarmTail;
-use sp_tree::Names;
+use crate::texts::{AlarmTail, Position};
+use sp_tree::{Names, Place};
 use sp_verdicts::{Alarm, AlarmKind};
 use std::alloc::{AllocError, Global};
 use std::collections::BTreeSet;
@@ -40,7 +40,7 @@ impl Rank {
 
 /// A line of the report: the name of its file, what it is sorted by, and what follows the name.
 #[derive(PartialEq, Eq, PartialOrd, Ord, Drop)]
-struct Line<'a> {
+pub(crate) struct Line<'a> {
     name: &'a [u8],
     line: u64,
     column: u64,
@@ -53,6 +53,22 @@ pub(crate) fn name_of(names: &Names, number: u32) -> &[u8]
     ensures { result.now ≡ name_of (slice_get names.now number) }
 {
     names.get(number).unwrap_or(b"".as_slice())
+}
+
+/// Adds a place, as `NAME:LINE:COLUMN`.
+pub fn add_place(
+    alloc: Global,
+    names: &Names,
+    place: Place,
+    text: &mut Vec<u8>,
+) -> Result<(), AllocError>
+    ensures { OnOk result (text.new.items ≡
+        text.old.items ++ (file_name names.now place ++ position_text place)) }
+{
+    text.extend_from_slice(name_of(names, place.name))?;
+    let position = format!(in alloc; "{}", Position(place))?;
+    text.extend_from_slice(position.as_bytes())?;
+    Ok(())
 }
 
 // The line of an alarm behind the name of its file.
@@ -83,8 +99,23 @@ fn add_line<'a>(
     Ok(())
 }
 
-// Adds a line to a text.
-fn add_text(text: &mut Vec<u8>, line: &Line<'_>) -> Result<(), AllocError>
+/// The lines of alarms, in order, each once.
+pub(crate) fn lines_of<'a>(
+    alloc: Global,
+    names: &'a Names,
+    alarms: &[Alarm],
+) -> Result<BTreeSet<Line<'a>>, AllocError>
+    ensures { IfOk result (λ lines. map seen lines.keys ≡ lines_of names.now alarms.now) }
+{
+    let mut lines = BTreeSet::new(alloc);
+    for alarm in alarms {
+        add_line(alloc, &mut lines, names, *alarm)?;
+    }
+    Ok(lines)
+}
+
+/// Adds a line to a text.
+pub(crate) fn add_text(text: &mut Vec<u8>, line: &Line<'_>) -> Result<(), AllocError>
     ensures { OnOk result (text.new.items ≡ text.old.items ++ line_text (seen line.now)) }
 {
     text.extend_from_slice(line.name)?;
@@ -127,10 +158,7 @@ pub fn print_alarms(alloc: Global, names: &Names, alarms: &[Alarm]) -> Result<Re
     ensures text { IfOk result (λ r. r.text.items ≡ report_text names.now alarms.now) }
     ensures count { IfOk result (λ r. r.count ≡ report_count names.now alarms.now) }
 {
-    let mut lines = BTreeSet::new(alloc);
-    for alarm in alarms {
-        add_line(alloc, &mut lines, names, *alarm)?;
-    }
+    let lines = lines_of(alloc, names, alarms)?;
     let count = lines.len();
     let mut text = joined(alloc, &lines)?;
     text.extend_from_slice(count_text(alloc, count)?.as_bytes())?;

@@ -1,5 +1,5 @@
 -- How a run ends: what each status says of what was read and written.
-use Rattle.std.specs.Prelude.{◌≡◌, ◌⊎◌, ℕ, ◌<◌, ◌≤◌, Bool, false, List, map, Option, Some, None, length, take, String, string_bytes}
+use Rattle.std.specs.Prelude.{◌≡◌, ◌⊎◌, ℕ, ◌<◌, ◌≤◌, Bool, List, map, Option, Some, None, length, take, String, string_bytes}
 use Rattle.std.specs.declared.alloc.Global.{Global}
 use Rattle.std.specs.Io.KnownBytes.{Appends}
 use Rattle.sp_tree.specs.declared.fault.FaultKind.TheVariants.{M7, M9}
@@ -42,7 +42,7 @@ pub record IsReadTo (texts : List ℕ → Told) (request : Asked) (status : Stat
   pub sources : List Source
   pub read : AreRead texts request.files sources
   pub within : AreWithin sources
-  pub answer : IsAnswer request.engine request.values sources status bytes
+  pub answer : IsAnswer request.task sources status bytes
 
 -- The bytes are the answer to what is asked for, with this status.
 abbrev pub Answers : (List ℕ → Told) → Asked → Status → List ℕ → Type 0
@@ -104,11 +104,11 @@ Ends words texts old new WriteFault = IsWriteFault words texts old new
 Ends words texts old new NoMemory = new.written ≡ old.written
 
 -- nothing was evaluated; or the files that are asked for are within the limits, and it is at most what
--- the engine may use on their program
+-- may be evaluated for what is wanted of their program
 abbrev pub IsSteppedAsked : (List ℕ → Told) → Asked → ℕ → ℕ → Type 0
 IsSteppedAsked texts request before after = (after ≡ before)
     ⊎ ((sources : List Source) × AreRead texts request.files sources × AreWithin sources
-    × IsSteppedFor request.engine sources before after)
+    × IsSteppedFor request.task sources before after)
 
 -- and those of the words
 abbrev pub IsSteppedBy : List (List ℕ) → (List ℕ → Told) → ℕ → ℕ → Type 0

@@ -65,10 +65,7 @@ fn answer_of<F: Files, L: Ledger>(
         return Ok(refusal(alloc, name, FaultKind::M9)?);
     }
     match read_sources(alloc, &request.files, files) {
-        Ok(sources) => {
-            let Request { engine, values, .. } = request;
-            Ok(answer_to(alloc, *engine, *values, &sources, steps)?)
-        }
+        Ok(sources) => Ok(answer_to(alloc, request.task, &sources, steps)?),
         Err(Unread::TooLong(name)) => Ok(refusal(alloc, name, FaultKind::M7)?),
         Err(Unread::Fault) => Err(NoAnswer::ReadFault),
         Err(Unread::NoMemory) => Err(NoAnswer::NoMemory),
@@ -92,8 +89,8 @@ fn write_out<W: Sink>(out: &mut W, bytes: &[u8], status: Status) -> Status
     }
 }
 
-/// Does what the words say: reads the files, analyses their program, and writes the answer. The
-/// whole answer is made before its first byte is written.
+/// Does what the words say: reads the files, analyses their program or takes its indirect calls from
+/// points-to, and writes the answer. The whole answer is made before its first byte is written.
 ///
 /// `Ends` of `specs/Run.antt` says what each status means.
 pub fn run<F: Files, W: Sink, L: Ledger>(

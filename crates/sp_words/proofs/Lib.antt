@@ -1,4 +1,5 @@
 mod Examples
+mod RowLaws
 mod SeenLaws
 mod WordLaws
 mod WalkLaws

@@ -10,13 +10,15 @@ use Rattle.clap.specs.Lexer.{long_of, short_of, has_byte}
 use Rattle.clap.specs.Faults.{bundle_fault, bundle_step_fault, flags_fault, other_fault}
 use Rattle.clap.specs.declared.error.kind.ErrorKind.{ErrorKind}
 use Rattle.clap.specs.declared.error.kind.ErrorKind.TheVariants.{UnknownArgument, TooManyValues}
-use Rattle.sp_words.specs.Words.{Word, is_option, ends_flags, options_of, files_of}
-use Rattle.sp_words.proofs.SeenLaws.{Seen, held, flag_word, top, rules}
+use Rattle.clap.specs.Walk.{Row}
+use Rattle.sp_words.specs.Words.{Word, ends_flags, files_of, is_flag, is_option, nodes_flag}
+use Rattle.sp_words.specs.Words.{options_of, values_flag}
+use Rattle.sp_words.proofs.SeenLaws.{held, nodes_id, rules, top, values_id}
 
 -- `clap` refuses the word before `--`
 abbrev pub IsRefused : Word → Type 0
-IsRefused word = (p : Option Word) (s : Seen)
-    → (kind : ErrorKind) × (other_fault top None word (held p s) ≡ kind ∷ [])
+IsRefused word = (p : Option Word) (rows : List Row)
+    → (kind : ErrorKind) × (other_fault top None word (held p rows) ≡ kind ∷ [])
 
 -- `clap` takes the word for a value
 pub record IsValue (word : Word) : Type 0 where
@@ -24,16 +26,17 @@ pub record IsValue (word : Word) : Type 0 where
   pub long : long_of word ≡ None
   pub short : short_of word ≡ None
 
--- an option that isn't the flag
+-- an option that is no flag
 pub record IsOther (word : Word) : Type 0 where
   pub option : is_option word ≡ true
   pub ends : ends_flags word ≡ false
-  pub differs : bytes_eq word flag_word ≡ false
+  pub differs : is_flag word ≡ false
   pub refused : IsRefused word
 
 pub data Sort (word : Word) : Type 0 where
   end : word ≡ codes "--" → Sort word
-  flag : word ≡ flag_word → Sort word
+  values : word ≡ values_flag → Sort word
+  nodes : word ≡ nodes_flag → Sort word
   file : is_option word ≡ false → IsValue word → Sort word
   other : IsOther word → Sort word
 
@@ -86,22 +89,22 @@ first_char b bs u = go u.0 (sym (ap chars u.1.1) ∙ chars-encodes u.0 u.1.0) u.
 
 -- no argument has a short name
 bundle_refused : (c : ℕ) (bs : List ℕ) (x : ℕ) → slice_get (chars (c ∷ bs)) 0 ≡ Some x
-    → (p : Option Word) (s : Seen)
-    → bundle_fault rules false (c ∷ bs) (held p s) ≡ UnknownArgument ∷ []
+    → (p : Option Word) (rows : List Row)
+    → bundle_fault rules false (c ∷ bs) (held p rows) ≡ UnknownArgument ∷ []
 unfolding flags_fault
-bundle_refused c bs x e p s = ap (λ o.
-    bundle_step_fault rules false o (c ∷ bs) 0 (held p s) (flags_fault rules false (length bs))) e
+bundle_refused c bs x e p rows = ap (λ o.
+    bundle_step_fault rules false o (c ∷ bs) 0 (held p rows) (flags_fault rules false (length bs))) e
 
 short_refused : (c : ℕ) (bs : List ℕ) → IsUtf8 (c ∷ bs) → (c == 45) ≡ false
     → IsRefused (45 ∷ c ∷ bs)
-short_refused c bs u e p s =
+short_refused c bs u e p rows =
     let first = first_char c bs u in
     let no_end : ends_flags (45 ∷ c ∷ bs) ≡ false = rw e refl in
     let no_long : long_of (45 ∷ c ∷ bs) ≡ None = rw e refl in
     let is_short : short_of (45 ∷ c ∷ bs) ≡ Some (c ∷ bs) = rw e refl in
-    let read : other_fault top None (45 ∷ c ∷ bs) (held p s)
-    ≡ bundle_fault rules false (c ∷ bs) (held p s) = rw (no_end, no_long, is_short) refl in
-    (UnknownArgument, read ∙ bundle_refused c bs first.0 first.1 p s)
+    let read : other_fault top None (45 ∷ c ∷ bs) (held p rows)
+    ≡ bundle_fault rules false (c ∷ bs) (held p rows) = rw (no_end, no_long, is_short) refl in
+    (UnknownArgument, read ∙ bundle_refused c bs first.0 first.1 p rows)
 
 -- ---- `--` and other bytes
 
@@ -125,34 +128,43 @@ module _ (x : ℕ) (xs : List ℕ) where
   abbrev text : List ℕ
   text = x ∷ xs
 
-  abbrev has_flag_name : Bool
-  has_flag_name = bytes_eq (codes "values") (name_in text)
-
-  long_refused : bytes_eq text (codes "values") ≡ false → IsRefused (45 ∷ 45 ∷ text)
-  long_refused differs = by_name has_flag_name refl
+  -- the name of the word is this one, and the word another
+  with_value : (id : List ℕ) → bytes_eq id (name_in text) ≡ true → bytes_eq text id ≡ false
+      → has_byte 61 text ≡ true
+  with_value id same differs = go (has_byte 61 text) refl
     where
-      by_value : (b : Bool) → has_byte 61 text ≡ b → has_flag_name ≡ true
-          → IsRefused (45 ∷ 45 ∷ text)
-      by_value true has same p s = (TooManyValues, rw (same, has) refl)
-      by_value false has same p s =
-          let is : codes "values" ≡ text = (bytes_eq-Decides _ _).0 same ∙ whole_name text has in
-          let again = (bytes_eq-Decides text (codes "values")).1 (sym is) in
+      go : (b : Bool) → has_byte 61 text ≡ b → has_byte 61 text ≡ true
+      go true has = has
+      go false has =
+          let is : id ≡ text = (bytes_eq-Decides _ _).0 same ∙ whole_name text has in
+          let again = (bytes_eq-Decides text id).1 (sym is) in
           absurd (true≢false (sym again ∙ differs))
 
-      by_name : (b : Bool) → has_flag_name ≡ b → IsRefused (45 ∷ 45 ∷ text)
-      by_name false e p s = (UnknownArgument, rw e refl)
-      by_name true e p s = by_value (has_byte 61 text) refl e p s
+  long_refused : bytes_eq text values_id ≡ false → bytes_eq text nodes_id ≡ false
+      → IsRefused (45 ∷ 45 ∷ text)
+  long_refused no_values no_nodes =
+      go (bytes_eq values_id (name_in text)) (bytes_eq nodes_id (name_in text)) refl refl
+    where
+      go : (v n : Bool) → bytes_eq values_id (name_in text) ≡ v
+          → bytes_eq nodes_id (name_in text) ≡ n → IsRefused (45 ∷ 45 ∷ text)
+      go true n e f p rows =
+          let has = with_value values_id e no_values in (TooManyValues, rw (e, has) refl)
+      go false true e f p rows =
+          let has = with_value nodes_id f no_nodes in (TooManyValues, rw (e, f, has) refl)
+      go false false e f p rows = (UnknownArgument, rw (e, f) refl)
 
   long_sort : Sort (45 ∷ 45 ∷ text)
-  long_sort = go (bytes_eq text (codes "values")) refl
+  long_sort = go (bytes_eq text values_id) (bytes_eq text nodes_id) refl refl
     where
-      go : (b : Bool) → bytes_eq text (codes "values") ≡ b → Sort (45 ∷ 45 ∷ text)
-      go true e = flag (ap (λ l. 45 ∷ 45 ∷ l) ((bytes_eq-Decides _ _).0 e))
-      go false e = other (record {
+      go : (v n : Bool) → bytes_eq text values_id ≡ v → bytes_eq text nodes_id ≡ n
+          → Sort (45 ∷ 45 ∷ text)
+      go true n e f = values (ap (λ l. 45 ∷ 45 ∷ l) ((bytes_eq-Decides _ _).0 e))
+      go false true e f = nodes (ap (λ l. 45 ∷ 45 ∷ l) ((bytes_eq-Decides _ _).0 f))
+      go false false e f = other (record {
         option = refl;
         ends = refl;
-        differs = e;
-        refused = long_refused e;
+        differs = rw (e, f) refl;
+        refused = long_refused e f;
       })
 
 -- ---- each word

@@ -1,12 +1,11 @@
--- The command by which `clap` reads the words behind the first: the flag, and the FILEs.
-use Rattle.std.specs.Prelude.{true, codes, Some}
+-- The command by which `clap` reads the words behind the first: the flags, and the FILEs.
+use Rattle.std.specs.Prelude.{ℕ, List, true, codes, Some}
 use Rattle.clap.specs.Walk.{Rule}
 use Rattle.clap.specs.Simple.{App, new_app, new_rule, on_top, with_rule}
 use Rattle.clap.specs.declared.builder.action.ArgAction.TheVariants.{Append, SetTrue}
 
-abbrev pub flag_rule : Rule
-flag_rule =
-    record (new_rule (codes "values")) { long = Some (codes "values"); action = Some SetTrue }
+abbrev pub flag_rule : List ℕ → Rule
+flag_rule name = record (new_rule name) { long = Some name; action = Some SetTrue }
 
 abbrev pub file_rule : Rule
 file_rule = record (new_rule (codes "files")) { action = Some Append; required = true }
@@ -20,4 +19,5 @@ bare_app = on_top (λ s. record s {
 }) (new_app (codes "sparrow"))
 
 abbrev pub reader_app : App
-reader_app = with_rule (with_rule bare_app flag_rule) file_rule
+reader_app = with_rule (with_rule (with_rule bare_app (flag_rule (codes "values")))
+    (flag_rule (codes "nodes"))) file_rule

@@ -1,8 +1,9 @@
 //! The command by which `clap` reads the words behind the first.
 
-ghost use Rattle.std.specs.Prelude.{◌≡◌, IfOk};
+ghost use Rattle.std.specs.Prelude.{◌≡◌, false, IfOk};
 ghost use Rattle.clap.specs.Words.{app_of};
-ghost use Rattle.sp_words.specs.Reader.{reader_app};
+ghost use Rattle.clap.specs.Walk.{rule_of};
+ghost use Rattle.sp_words.specs.Reader.{file_rule, flag_rule, reader_app};
 
 use clap::{Arg, ArgAction, Command};
 use std::alloc::{AllocError, Global};
@@ -10,23 +11,39 @@ use std::alloc::{AllocError, Global};
 /// The flag `--values`.
 pub(crate) const VALUES: &str = "values";
 
+/// The flag `--nodes`.
+pub(crate) const NODES: &str = "nodes";
+
 /// The FILEs.
 pub(crate) const FILES: &str = "files";
 
-/// Each FILE is a use of its own, so that the flag may stand between two.
+/// A flag of this name.
+fn flag<'a>(alloc: Global, name: &'a str) -> Arg<'a>
+    ensures rule { rule_of result ≡ flag_rule name.now }
+    ensures local { result.global ≡ false }
+{
+    Arg::new(alloc, name).long(name).action(ArgAction::SetTrue)
+}
+
+/// The FILEs: each is a use of its own, so that a flag may stand between two.
+fn files<'a>(alloc: Global) -> Arg<'a>
+    ensures rule { rule_of result ≡ file_rule }
+    ensures local { result.global ≡ false }
+{
+    Arg::new(alloc, FILES)
+        .action(ArgAction::Append)
+        .required(true)
+}
+
+/// The command of the flags and the FILEs.
 pub(crate) fn reader<'a>(alloc: Global) -> Result<Command<'a>, AllocError>
     ensures { IfOk result (λ command. app_of command ≡ reader_app) }
 {
-    let values = Arg::new(alloc, VALUES)
-        .long(VALUES)
-        .action(ArgAction::SetTrue);
-    let files = Arg::new(alloc, FILES)
-        .action(ArgAction::Append)
-        .required(true);
     Command::new(alloc, "sparrow")
         .no_binary_name(true)
         .disable_help_flag(true)
         .disable_version_flag(true)
-        .arg(values)?
-        .arg(files)
+        .arg(flag(alloc, VALUES))?
+        .arg(flag(alloc, NODES))?
+        .arg(files(alloc))
 }

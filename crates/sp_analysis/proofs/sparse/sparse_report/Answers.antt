@@ -1,7 +1,6 @@
 use Rattle.std.proofs.Common.{ap, ◌∙◌}
 use Rattle.sp_scenes.specs.Analysed.{Analysed}
 use Rattle.std.proofs.lemmas.Result.{IfOk-weaker}
-use Rattle.sp_scenes.specs.View.{analysed_of}
 use Rattle.sp_defuse.specs.Program.{equations_in}
 use Rattle.sp_analysis.proofs.sparse.sparse_report.Goals as goal
 

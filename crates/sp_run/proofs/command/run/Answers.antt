@@ -1,4 +1,4 @@
-use Rattle.std.proofs.Common.{◌≤◌, ◌≡◌, List, ℕ, Some, None, Err, Ok, length, refl, sym, ap, ◌∙◌, inl, inr, subst}
+use Rattle.std.proofs.Common.{◌≤◌, ◌≡◌, Some, None, Err, length, refl, sym, ap, ◌∙◌, inl, inr}
 use Rattle.sp_words.specs.Words.{fits}
 use Rattle.sp_words.specs.Words.{asked_of}
 use Rattle.sp_run.specs.Words.{usage_text}

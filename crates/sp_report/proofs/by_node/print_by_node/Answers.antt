@@ -1,0 +1,21 @@
+use Rattle.std.proofs.Common.{◌+◌, ◌++◌, get_or, drop, refl, ap, ◌∙◌}
+use Rattle.sp_ir.specs.Programs.{lowered_of}
+use Rattle.sp_report.specs.ByNode.{by_node_from}
+use Rattle.sp_report.proofs.FromLaws.{by_node_step, has_at}
+use Rattle.sp_report.proofs.by_node.print_by_node.Goals as goal
+
+pub add_node-requires : goal.add_node-requires
+add_node-requires g c = c.requires.proper (get_or c.args.nodes.now c.loop-k.k 0)
+    (has_at c.args.nodes.now c.loop-k.k c.loop-k-test.true)
+
+pub loop-k-preserved : goal.loop-k-preserved
+loop-k-preserved g c =
+    let added = rw (c.new-input.ensures.inputs, c.new-input.ensures.node) at c.in_ok-add_node.ensures in
+    ap (λ ms. ms ++ by_node_from c.args.names.now (lowered_of c.args.lowered.now)
+    c.args.locations.now.cells.items (g.I.Inputs.given c.args.inputs.now) (c.loop-k.k + 1)
+    (drop (c.loop-k.k + 1) c.args.nodes.now)) added
+    ∙ by_node_step c.args.names.now (lowered_of c.args.lowered.now)
+    c.args.locations.now.cells.items (g.I.Inputs.given c.args.inputs.now) c.loop-k.k
+    (get_or c.args.nodes.now c.loop-k.k 0) c.args.nodes.now c.loop-k.text.items
+    c.loop-k-test.true refl
+    ∙ c.loop-k.invariant
