@@ -71,6 +71,8 @@ check 'what C90 names, without POSIX' 0 $'0 alarms\n' \
 check "the program's own names" 0 $'0 alarms\n' \
     ./sparrow source --format=plain -D_ANSI_SOURCE $here/own_names.c
 
+check 'macros with arguments' 0 $'0 alarms\n' ./sparrow source --format=plain $here/macros.c
+
 # Names with blanks and quotes; a refusal of the whole program names the source.
 odd="$room/it's a/b c.c"
 mkdir "${odd%/*}"
