@@ -141,6 +141,16 @@ sparrow: hint: -idirafter /usr/include gives linux/limits.h
     check 'the header is found so' 0 $'0 alarms\n' \
         ./sparrow source --format=plain -idirafter /usr/include "$room/main.c" "$room/fails.c"
 fi
+# A header of Linux that includes others, which are in another folder.
+printf '#include <linux/kd.h>\nint main(void) { return KDGKBTYPE == 0; }\n' >"$room/fails.c"
+gnu=/usr/include/x86_64-linux-gnu
+if [ -e /usr/include/linux/kd.h ] && [ -e $gnu/asm/types.h ]; then
+    check 'headers of two folders' 0 "sparrow: $room/fails.c was not preprocessed by gcc -E
+sparrow: hint: -idirafter /usr/include -idirafter $gnu gives linux/kd.h and asm/types.h
+" last_said
+    check 'both are found so' 0 $'0 alarms\n' \
+        ./sparrow source --format=plain -idirafter /usr/include -idirafter $gnu "$room/fails.c"
+fi
 printf '#error none.h\n' >"$room/fails.c"
 hints() { ./sparrow source "$room/main.c" "$room/fails.c" 2>&1 | grep -c hint; }
 check 'another error has no hint' 1 $'0\n' hints
