@@ -140,6 +140,14 @@ check 'another fault before it' 2 "$room/left.c:1:15: refused U2: setjmp
 printf '#define A b +\nint f(void) { return A 1; }\n' >"$room/macro.c"
 check 'the name that a macro writes' 2 "$room/macro.c:2:22: refused F8: undeclared name: b"$'\n' \
     ./sparrow source --format=plain "$room/macro.c"
+# A fault in a header that two files include is told once; so is what is left as it is there.
+printf 'extern int f(int) ODD;\n' >"$room/odd.h"
+printf '#include "odd.h"\nint main(void) { return 0; }\n' >"$room/odd.c"
+printf '#include "odd.h"\nint b;\n' >"$room/b.c"
+check 'a fault in a header' 2 "$room/odd.h:1:19: refused F7: unexpected token"$'\n' \
+    ./sparrow source --format=plain "$room/odd.c" "$room/b.c"
+check_said 'what is left in a header' "sparrow: left as it is: $room/odd.h:1:19: no ';' there" \
+    ./sparrow source "$room/odd.c" "$room/b.c"
 check 'a fault of the whole' 2 "$room/c90.c:1:5: refused F23: second definition"$'\n' \
     ./sparrow source --format=plain "$room/c90.c" "$room/c90.c"
 # check_hint NAME HINT FILE TEXT [FILE TEXT]: a hint is the last line on standard error.
