@@ -22,6 +22,10 @@ extern char both[_IOWR('E', 3, long) == 0xC0084503 ? 1 : -1];
 extern char parts[_IOC_DIR(0x80044507) == _IOC_READ && _IOC_TYPE(0x80044507) == 'E' ? 1 : -1];
 extern char others[_IOC_NR(0x80044507) == 7 && _IOC_SIZE(0x80044507) == 4 ? 1 : -1];
 
+/* Words in declarations of glibc's headers. */
+extern int first_of(const char *) __THROW __nonnull((1)) __attribute_pure__ __wur;
+extern int __NTH(last_of(const char *)) __attribute_const__;
+
 int main(void)
 {
     static struct timeval first, last;
