@@ -175,6 +175,8 @@ is_macro='a macro that no header here and no option defines?'
 check_hint 'a text' "is VERSION $is_macro '-DVERSION=\"TEXT\"' gives it a text" \
     v.c 'char *a = "version " VERSION;'
 check_hint 'a word' "is NORETURN $is_macro -DNORETURN= takes it out" v.c 'int f(void) NORETURN;'
+check_hint 'a tag' 'a header or a line before gives this tag to a struct, union or enum already' \
+    t.c $'#include <time.h>\nstruct tm { int a; };'
 check_hint 'a word of C is no macro' '' v.c 'int f(void) int g(void);'
 main='#include <string.h>
 int main(void) { return strlen("a") > 1; }'

@@ -16,6 +16,7 @@ HINTS = {
     "F8": "is it misspelt, or does no header here have it?"
     " -DNAME=VALUE gives a constant, and -DNAME=TYPE a type",
     "F9": "-D_ANSI_SOURCE hides the names of POSIX in the headers of C90",
+    "F11": "a header or a line before gives this tag to a struct, union or enum already",
     "F23": "a header says extern, and one file defines the object",
     "F24": "-D_ANSI_SOURCE hides the names of POSIX in the headers of C90",
     "F25": "give all files of one program; a library needs a main that calls it",
