@@ -112,6 +112,14 @@ printf '[{"directory": "%s", "file": "one.c", "output": "../b/c.p/one.o", "comma
     "$room/tree/src" "$room/tree/src" >"$two"
 check_said 'targets of Meson and others' \
     "sparrow: $two has no target a: --target NAME takes one of c, e" source_of "$two" --target a
+# Both programs of one folder, by whole names as Bear has them.
+one="$room/tree/src/one.c"
+printf '[{"directory": "%s", "file": "%s", "output": "%s/one", "command": "cc one.c -o one"},
+{"directory": "%s", "file": "%s/three.c", "arguments": ["cc", "-c", "three.c"]}]' \
+    "${one%/*}" "$one" "${one%/*}" "${one%/*}" "${one%/*}" >"$two"
+last_said() { source_of "$two" 2>&1 >/dev/null | tail -n 1; }
+check 'two mains of one folder' 0 "$both/three.c have a main each: give the files of one program; \
+--target NAME takes one of src"$'\n' last_said
 in_build() {
     (cd "$room/build" &&
         "$top/sparrow" source --format=plain --compile-commands ../*_commands.json --target tool)

@@ -55,7 +55,9 @@ def choices_in(database: str) -> str:
             targets |= targets_of(output_of(entry.get("output"), words_of(entry, database)))
     if not targets:
         return "give the files of one program, since no output tells a target"
-    return f"--target NAME takes one of {', '.join(sorted(targets))}"
+    said = f"--target NAME takes one of {', '.join(sorted(targets))}"
+    # The only folder is often that of all programs.
+    return said if len(targets) > 1 else f"give the files of one program; {said}"
 
 
 def read_entries(path: str) -> list[object]:
