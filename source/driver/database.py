@@ -151,7 +151,7 @@ def options_of(folder: str, words: list[str]) -> list[str]:
 
 def from_folder(folder: str, path: str) -> str:
     """A path of a folder, as it is from the current one."""
-    if os.path.isabs(path) or os.path.realpath(folder) == os.path.realpath(os.curdir):
+    if os.path.realpath(folder) == os.path.realpath(os.curdir) and not os.path.isabs(path):
         return path
     joined = os.path.normpath(os.path.join(folder, path))
     inside = os.path.relpath(joined)
