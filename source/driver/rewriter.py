@@ -23,6 +23,7 @@ def clear_texts(room: Room, files: list[str]) -> dict[int, Refusal]:
             refused[number] = Refusal(name.encode("latin-1"), line, column, "", said.encode())
         elif cleared.text != text:
             write_text(path, cleared.text)
+            room.by_itself += [":".join(map(str, place)) for place in cleared.by_itself]
     return refused
 
 
