@@ -151,6 +151,10 @@ sparrow: hint: -idirafter /usr/include -idirafter $gnu gives linux/kd.h and asm/
     check 'both are found so' 0 $'0 alarms\n' \
         ./sparrow source --format=plain -idirafter /usr/include -idirafter $gnu "$room/fails.c"
 fi
+misspelt() { ./sparrow source --no-context "$room/main.c" 2>&1 >/dev/null | tail -n 1; }
+check 'an option that is misspelt' 0 "sparrow: hint: source has no option --no-context; sparrow \
+--help tells which there are
+" misspelt
 printf '#error none.h\n' >"$room/fails.c"
 hints() { ./sparrow source "$room/main.c" "$room/fails.c" 2>&1 | grep -c hint; }
 check 'another error has no hint' 1 $'0\n' hints

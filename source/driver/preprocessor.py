@@ -49,8 +49,18 @@ class Preprocessor:
         if run(words, output=text) != 0:
             # Once more, since what the preprocessor says is read only where it fails.
             run(words, output=text, errors=f"{text}.said")
-            hint = hint_for_headers(words, text)
+            hint = hint_for_options(options, f"{text}.said") or hint_for_headers(words, text)
             raise Failure(USAGE, f"{file} was not preprocessed by {self.name}", hint)
+
+
+def hint_for_options(options: list[str], said: str) -> str | None:
+    """What helps where the preprocessor names a long option, which is meant for `source`."""
+    with open(said, encoding="utf-8", errors="replace") as file:
+        text = file.read()
+    for option in options:
+        if option.startswith("--") and "unrecognized" in text and option in text:
+            return f"source has no option {option}; sparrow --help tells which there are"
+    return None
 
 
 def hint_for_headers(words: list[str], text: str) -> str | None:
