@@ -71,6 +71,8 @@ check 'what C90 names, without POSIX' 0 $'0 alarms\n' \
 check "the program's own names" 0 $'0 alarms\n' \
     ./sparrow source --format=plain -D_ANSI_SOURCE $here/own_names.c
 
+check 'macros with arguments' 0 $'0 alarms\n' ./sparrow source --format=plain $here/macros.c
+
 # Names with blanks and quotes; a refusal of the whole program names the source.
 odd="$room/it's a/b c.c"
 mkdir "${odd%/*}"
@@ -139,6 +141,20 @@ sparrow: hint: -idirafter /usr/include gives linux/limits.h
     check 'the header is found so' 0 $'0 alarms\n' \
         ./sparrow source --format=plain -idirafter /usr/include "$room/main.c" "$room/fails.c"
 fi
+# A header of Linux that includes others, which are in another folder.
+printf '#include <linux/kd.h>\nint main(void) { return KDGKBTYPE == 0; }\n' >"$room/fails.c"
+gnu=/usr/include/x86_64-linux-gnu
+if [ -e /usr/include/linux/kd.h ] && [ -e $gnu/asm/types.h ]; then
+    check 'headers of two folders' 0 "sparrow: $room/fails.c was not preprocessed by gcc -E
+sparrow: hint: -idirafter /usr/include -idirafter $gnu gives linux/kd.h and asm/types.h
+" last_said
+    check 'both are found so' 0 $'0 alarms\n' \
+        ./sparrow source --format=plain -idirafter /usr/include -idirafter $gnu "$room/fails.c"
+fi
+misspelt() { ./sparrow source --no-context "$room/main.c" 2>&1 >/dev/null | tail -n 1; }
+check 'an option that is misspelt' 0 "sparrow: hint: source has no option --no-context; sparrow \
+--help tells which there are
+" misspelt
 printf '#error none.h\n' >"$room/fails.c"
 hints() { ./sparrow source "$room/main.c" "$room/fails.c" 2>&1 | grep -c hint; }
 check 'another error has no hint' 1 $'0\n' hints

@@ -112,6 +112,20 @@ printf '[{"directory": "%s", "file": "one.c", "output": "../b/c.p/one.o", "comma
     "$room/tree/src" "$room/tree/src" >"$two"
 check_said 'targets of Meson and others' \
     "sparrow: $two has no target a: --target NAME takes one of c, e" source_of "$two" --target a
+# Both programs of one folder, by whole names as Bear has them.
+one="$room/tree/src/one.c"
+printf '[{"directory": "%s", "file": "%s", "output": "%s/one", "command": "cc one.c -o one"},
+{"directory": "%s", "file": "%s/three.c", "arguments": ["cc", "-c", "three.c"]}]' \
+    "${one%/*}" "$one" "${one%/*}" "${one%/*}" "${one%/*}" >"$two"
+last_said() { source_of "$two" 2>&1 >/dev/null | tail -n 1; }
+check 'two mains of one folder' 0 "$both/three.c have a main each: give the files of one program; \
+--target NAME takes one of src"$'\n' last_said
+printf 'int a[SIZE], n;\nint main(void) { return a[SIZE]; }\n' >"$room/tree/include/whole.c"
+printf '[{"directory": "/", "file": "%s", "command": "cc -DSIZE=2 -I%s -c %s"}]' \
+    "$room/tree/include/whole.c" "$room/tree/include" "$room/tree/include/whole.c" >"$two"
+in_tree() { (cd "$room/tree" && "$top/sparrow" source --format=plain --compile-commands "$two"); }
+check 'whole names below the current folder' 1 \
+    $'include/whole.c:2:25: overrun: offset [2,2], size [2,2]\n1 alarm\n' in_tree
 in_build() {
     (cd "$room/build" &&
         "$top/sparrow" source --format=plain --compile-commands ../*_commands.json --target tool)

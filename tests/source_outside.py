@@ -80,6 +80,15 @@ def try_forms(room: str) -> None:
     expect("a report in a file", run(room, READS, "--output", "out"), (0, "", said))
     expect("one function", run(room, ONE)[2], f"sparrow: {NOTE_OF_ONE}\n")
     expect("none", run(room, NONE), (0, "0 warnings\n", ""))
+    begun = "__attribute__((constructor)) static void f(void) { }\n"
+    ended = "static void g(void) __attribute__((__destructor__(101)));\n"
+    said_of_one = "1 function is a constructor or destructor, which nothing here calls: a.c:1:1"
+    said_of_two = "2 functions are constructors or destructors, which nothing here calls: "
+    expect("a constructor", run(room, begun + NONE)[2], f"sparrow: {said_of_one}\n")
+    two = run(room, begun + ended + NONE, "--format=json")
+    expect("and a destructor", json.loads(two[1])["notes"], [f"{said_of_two}a.c:1:1, a.c:2:21"])
+    unused = "__attribute__((unused)) static int constructor;\n"
+    expect("another attribute", run(room, unused + NONE), (0, "0 warnings\n", ""))
     expect("refused", run(room, READS + "int x = y;\n")[::2][0], 2)
     _, content, errors = run(room, READS, "--format=json")
     value, rule = json.loads(content), schema("report")

@@ -140,9 +140,19 @@ check 'another fault before it' 2 "$room/left.c:1:15: refused U2: setjmp
 printf '#define A b +\nint f(void) { return A 1; }\n' >"$room/macro.c"
 check 'the name that a macro writes' 2 "$room/macro.c:2:22: refused F8: undeclared name: b"$'\n' \
     ./sparrow source --format=plain "$room/macro.c"
+# A fault in a header that two files include is told once; so is what is left as it is there.
+printf 'extern int f(int) ODD;\n' >"$room/odd.h"
+printf '#include "odd.h"\nint main(void) { return 0; }\n' >"$room/odd.c"
+printf '#include "odd.h"\nint b;\n' >"$room/b.c"
+check 'a fault in a header' 2 "$room/odd.h:1:19: refused F7: unexpected token"$'\n' \
+    ./sparrow source --format=plain "$room/odd.c" "$room/b.c"
+check_said 'what is left in a header' "sparrow: left as it is: $room/odd.h:1:19: no ';' there
+sparrow: hint: is ODD a macro that no header here and no option defines? -DODD= takes it out" \
+    ./sparrow source "$room/odd.c" "$room/b.c"
 check 'a fault of the whole' 2 "$room/c90.c:1:5: refused F23: second definition"$'\n' \
     ./sparrow source --format=plain "$room/c90.c" "$room/c90.c"
-# check_hint NAME HINT FILE TEXT [FILE TEXT]: a hint is the last line on standard error.
+# check_hint NAME HINT FILE TEXT [FILE TEXT]: a hint is the last line on standard error; before it
+# stands at most what is left as it is.
 check_hint() {
     local name=$1 want=$2 files=()
     shift 2
@@ -153,7 +163,7 @@ check_hint() {
     done
     check "$name" 0 "${want:+$want
 }" eval './sparrow source "${files[@]}" 2>&1 >/dev/null |
-        sed "s/^sparrow: hint: //"'
+        sed "/^sparrow: left as it is: /d; s/^sparrow: hint: //"'
 }
 length='a length must be constant: give the greatest'
 check_hint 'a length' "$length" l.c 'int n; int main(void) { int a[2 * n]; return 0; }'
@@ -161,6 +171,13 @@ check_hint 'a start value is no length' '' l.c 'int n, a[2] = { n }; int main(vo
 check_hint 'nor is a label' '' l.c 'int main(int n, char **v) { switch (n) { case n: return 0; } }'
 check_hint 'an escape of GNU C' '\033 is standard in place of \e' e.c 'char *a = "x\e[0m";'
 check_hint 'a backslash before an e' '' e.c 'char *a = "\\e \q";'
+is_macro='a macro that no header here and no option defines?'
+check_hint 'a text' "is VERSION $is_macro '-DVERSION=\"TEXT\"' gives it a text" \
+    v.c 'char *a = "version " VERSION;'
+check_hint 'a word' "is NORETURN $is_macro -DNORETURN= takes it out" v.c 'int f(void) NORETURN;'
+check_hint 'a tag' 'a header or a line before gives this tag to a struct, union or enum already' \
+    t.c $'#include <time.h>\nstruct tm { int a; };'
+check_hint 'a word of C is no macro' '' v.c 'int f(void) int g(void);'
 main='#include <string.h>
 int main(void) { return strlen("a") > 1; }'
 call='int f(char *a) { return strlen(a); }'

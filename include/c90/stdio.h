@@ -10,7 +10,7 @@
 typedef char *__va_list;
 
 /* 7.9.1 */
-typedef struct _file {
+typedef struct _IO_FILE {
     int _descriptor;
 } FILE;
 typedef struct {

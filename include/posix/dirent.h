@@ -4,7 +4,7 @@
 
 #include <sys/types.h>
 
-typedef struct _directory {
+typedef struct __dirstream {
     int _descriptor;
 } DIR;
 

@@ -2,6 +2,8 @@
 #ifndef _SPARROW_FEATURES_H
 #define _SPARROW_FEATURES_H
 
+#include <bits/types.h>
+
 #define __GNUC_PREREQ(major, minor) 0
 #define __GLIBC_PREREQ(major, minor) 0
 

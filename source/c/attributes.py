@@ -7,7 +7,7 @@ would mean something else.
 from __future__ import annotations
 
 import re
-from typing import NamedTuple, Optional
+from typing import NamedTuple, Optional, Sequence
 
 from .places import Place, Places
 from .tokens import NAME, Tokens, Unreadable
@@ -21,15 +21,19 @@ ATTRIBUTES = frozenset(["__attribute__", "__attribute"])
 LAYOUT = frozenset(["packed", "mode", "vector_size", "scalar_storage_order", "ms_struct"])
 # These change a layout in a struct or a typedef, and only a place elsewhere.
 ALIGNING = frozenset(["aligned", "_Alignas"])
+# The system calls such functions, before `main` and behind it.
+BY_ITSELF = frozenset(["constructor", "destructor"])
 RECORDS = frozenset(["struct", "union"])
 
 
 class Cleared(NamedTuple):
-    """A text with its attributes blank; and the first word that lays out data, with its place."""
+    """A text with its attributes blank; and the first word that lays out data, with its place. Then
+    the places of those by which the system calls a function."""
 
     text: str
     word: Optional[str]
     place: Optional[Place]
+    by_itself: Sequence[Place] = ()
 
 
 def clear_attributes(text: str, file: str) -> Cleared:
@@ -52,7 +56,18 @@ def clear_attributes(text: str, file: str) -> Cleared:
         start, end = tokens.starts[attribute.first], tokens.end(attribute.last)
         parts += [text[at:start], blank(text[start:end])]
         at = end
-    return Cleared("".join(parts) + text[at:], None, None)
+    by_itself = [
+        tokens.starts[attribute.first]
+        for attribute in found
+        if any(
+            tokens.values[token].strip("_") in BY_ITSELF
+            for token in range(attribute.first, attribute.last)
+        )
+    ]
+    places = Places(text, file)
+    return Cleared(
+        "".join(parts) + text[at:], None, None, [places.of(offset) for offset in by_itself]
+    )
 
 
 def blank(text: str) -> str:

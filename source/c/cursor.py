@@ -29,7 +29,7 @@ class Cursor(ABC):
     def expect(self, value: str) -> int:
         """Goes past a token of that spelling, and gives its number."""
         if self.values[self.at] != value:
-            raise self.unreadable(f"no {value}")
+            raise self.unreadable(f"no '{value}' there")
         self.at += 1
         return self.at - 1
 

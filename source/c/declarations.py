@@ -91,7 +91,8 @@ class Declarations(Expressions):
             declaration = Declaration(self.specifiers())
             if self.values[self.at] == ";":
                 specifiers = declaration.specifiers
-                if specifiers.body is not None and specifiers.tag < 0:
+                # Constants without a name of their type declare no member.
+                if isinstance(specifiers.body, RecordBody) and specifiers.tag < 0:
                     members.append(Member(None, specifiers.type, None, specifiers.first))
             else:
                 self.member_declarators(declaration, members)

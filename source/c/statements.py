@@ -166,7 +166,7 @@ class Statements(Declarations):
         while self.values[self.at] != "(":
             self.at += 1
             if self.kinds[self.at] != NAME and self.values[self.at] != "(":
-                raise self.unreadable("no (")
+                raise self.unreadable("no '(' there")
         self.at = self.tokens.matching(self.at) + 1
         self.expect(";")
         return self.ended(read)

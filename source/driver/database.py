@@ -55,7 +55,9 @@ def choices_in(database: str) -> str:
             targets |= targets_of(output_of(entry.get("output"), words_of(entry, database)))
     if not targets:
         return "give the files of one program, since no output tells a target"
-    return f"--target NAME takes one of {', '.join(sorted(targets))}"
+    said = f"--target NAME takes one of {', '.join(sorted(targets))}"
+    # The only folder is often that of all programs.
+    return said if len(targets) > 1 else f"give the files of one program; {said}"
 
 
 def read_entries(path: str) -> list[object]:
@@ -149,7 +151,7 @@ def options_of(folder: str, words: list[str]) -> list[str]:
 
 def from_folder(folder: str, path: str) -> str:
     """A path of a folder, as it is from the current one."""
-    if os.path.isabs(path) or os.path.realpath(folder) == os.path.realpath(os.curdir):
+    if os.path.realpath(folder) == os.path.realpath(os.curdir) and not os.path.isabs(path):
         return path
     joined = os.path.normpath(os.path.join(folder, path))
     inside = os.path.relpath(joined)

@@ -6,7 +6,7 @@ import os
 import re
 from typing import Optional
 
-from .refusals import Refusal, names_at, places_in
+from .refusals import NAME, Refusal, names_at, places_in
 
 SPLIT = "split the program, or give fewer files"
 REWRITTEN = "--strict leaves it as it is; without --strict it is rewritten"
@@ -16,6 +16,7 @@ HINTS = {
     "F8": "is it misspelt, or does no header here have it?"
     " -DNAME=VALUE gives a constant, and -DNAME=TYPE a type",
     "F9": "-D_ANSI_SOURCE hides the names of POSIX in the headers of C90",
+    "F11": "a header or a line before gives this tag to a struct, union or enum already",
     "F23": "a header says extern, and one file defines the object",
     "F24": "-D_ANSI_SOURCE hides the names of POSIX in the headers of C90",
     "F25": "give all files of one program; a library needs a main that calls it",
@@ -51,10 +52,12 @@ def hint_for(refusal: Refusal, texts: list[str], is_strict: bool) -> Optional[st
         return REWRITTEN
     if not refusal.code:
         return hint_for_layout(refusal.text.decode("latin-1").split(" ")[0])
-    places = places_in(refusal, texts) if refusal.code in ("F4", "F19") else ()
+    places = places_in(refusal, texts) if refusal.code in ("F4", "F7", "F19") else ()
     for text, offset in places:
         if refusal.code == "F4" and has_escape(text, offset):
             return ESCAPE
+        if refusal.code == "F7":
+            return hint_for_name(text, offset)
         if refusal.code == "F19" and is_length(text, offset):
             return LENGTH
     if refusal.code == "F24":
@@ -69,6 +72,20 @@ def hint_for_layout(word: str) -> str:
     if option is None:
         return f"{said}; sizes differ then"
     return f"{said}; {option} takes all out, and sizes differ then"
+
+
+def hint_for_name(text: str, offset: int) -> Optional[str]:
+    """What helps against a name that no unit goes on with: most often it is a macro's."""
+    from c.words import RESERVED
+
+    match = NAME.match(text, offset)
+    if match is None or match.group() in RESERVED:
+        return None
+    name = match.group()
+    is_text = text[:offset].rstrip().endswith('"') or text[match.end() :].lstrip().startswith('"')
+    value = f"'-D{name}=\"TEXT\"'" if is_text else f"-D{name}="
+    does = "gives it a text" if is_text else "takes it out"
+    return f"is {name} a macro that no header here and no option defines? {value} {does}"
 
 
 def has_escape(text: str, offset: int) -> bool:

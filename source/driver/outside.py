@@ -7,6 +7,22 @@ from .texts import read_text
 
 
 def notes_on(room: Room) -> list[str]:
+    """What is said of functions from outside, and of those that the system calls by itself."""
+    return note_on_calls(room) + note_on_outside(room)
+
+
+def note_on_calls(room: Room) -> list[str]:
+    """The note on functions with an attribute by which the system calls them."""
+    places = list(dict.fromkeys(room.by_itself))
+    if not places:
+        return []
+    said = "function is a constructor or destructor, which nothing here calls"
+    if len(places) > 1:
+        said = "functions are constructors or destructors, which nothing here calls"
+    return [f"{len(places)} {said}: {', '.join(places)}"]
+
+
+def note_on_outside(room: Room) -> list[str]:
     """The note on the functions from outside that the texts give a pointer."""
     from outside.words import may_call_others
 

@@ -49,12 +49,43 @@ class Preprocessor:
         if run(words, output=text) != 0:
             # Once more, since what the preprocessor says is read only where it fails.
             run(words, output=text, errors=f"{text}.said")
-            hint = hint_for_header(f"{text}.said")
+            hint = hint_for_options(options, f"{text}.said") or hint_for_headers(words, text)
             raise Failure(USAGE, f"{file} was not preprocessed by {self.name}", hint)
 
 
-def hint_for_header(said: str) -> str | None:
-    """What helps where the preprocessor has said that a header is missing."""
+def hint_for_options(options: list[str], said: str) -> str | None:
+    """What helps where the preprocessor names a long option, which is meant for `source`."""
+    with open(said, encoding="utf-8", errors="replace") as file:
+        text = file.read()
+    for option in options:
+        if option.startswith("--") and "unrecognized" in text and option in text:
+            return f"source has no option {option}; sparrow --help tells which there are"
+    return None
+
+
+def hint_for_headers(words: list[str], text: str) -> str | None:
+    """What helps where the preprocessor has said that a header is missing: all folders at once."""
+    said = f"{text}.said"
+    found: dict[str, str] = {}
+    name = missing_header(said)
+    while name is not None:
+        there = (folder for folder in SYSTEM if os.path.exists(os.path.join(folder, name)))
+        folder = next(there, None)
+        if folder is None or folder in found:
+            break
+        found[folder] = name
+        behind = [word for each in found for word in ("-idirafter", each)]
+        if run(words + behind, output=text, errors=said) == 0:
+            break
+        name = missing_header(said)
+    if found:
+        options = " ".join(f"-idirafter {folder}" for folder in found)
+        return f"{options} gives {' and '.join(found.values())}"
+    return f"-I tells in which folder {name} is" if name is not None else None
+
+
+def missing_header(said: str) -> str | None:
+    """The header that the preprocessor has said is missing."""
     import re
 
     with open(said, encoding="utf-8", errors="replace") as file:
@@ -62,8 +93,4 @@ def hint_for_header(said: str) -> str | None:
     match = re.search(r'#[ \t]*include[ \t]*[<"]([^>"\n]+)[>"]', text)
     if match is None or f": {match.group(1)}: " not in text:
         return None
-    name = match.group(1)
-    for folder in SYSTEM:
-        if os.path.exists(os.path.join(folder, name)):
-            return f"-idirafter {folder} gives {name}"
-    return f"-I tells in which folder {name} is"
+    return match.group(1)

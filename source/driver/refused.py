@@ -48,7 +48,8 @@ class RefusedTexts:
         if not faults and fault is not None:
             faults = {0: fault}
         told = [self.told(changes.instead_of(*fault)) for fault in faults.items()]
-        return Answer(status, told or [(answer, None)])
+        # A fault in a header is one fault, however many files include it.
+        return Answer(status, list(dict.fromkeys(told)) or [(answer, None)])
 
     def told(self, refusal: Refusal) -> tuple[bytes, str | None]:
         """The line of a refusal, and what may help."""

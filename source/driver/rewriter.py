@@ -23,6 +23,7 @@ def clear_texts(room: Room, files: list[str]) -> dict[int, Refusal]:
             refused[number] = Refusal(name.encode("latin-1"), line, column, "", said.encode())
         elif cleared.text != text:
             write_text(path, cleared.text)
+            room.by_itself += [":".join(map(str, place)) for place in cleared.by_itself]
     return refused
 
 
@@ -54,10 +55,13 @@ def rewrite_texts(room: Room, files: list[str], refused: dict[int, Refusal]) -> 
     texts = [(latin(files[number]), read_text(room.texts[number])) for number in numbers]
     counts: dict[str, int] = {}
     changes = Changes()
+    said_of: set[str] = set()
     for number, (_, before), after in zip(numbers, texts, rewrite(texts)):
         if after.left:
             changes.left.add(number)
-            say(f"left as it is: {after.left[0]}")
+            if after.left[0] not in said_of:
+                say(f"left as it is: {after.left[0]}")
+                said_of.add(after.left[0])
         if after.undeclared is not None:
             (name, line, column), word = after.undeclared
             said = f"undeclared name: {word}".encode()

@@ -16,6 +16,8 @@ class Room:
         self.texts: list[str] = []
         # What is in the texts without copies, where they have some or were looked at for them.
         self.uncopied: list[str] = []
+        # The places of functions that the system calls by itself.
+        self.by_itself: list[str] = []
 
     def __enter__(self) -> Room:
         try:

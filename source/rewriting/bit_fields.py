@@ -139,6 +139,9 @@ class BitFields(Rewriting):
         if runs is None or declarations is None:
             self.unit.leave(node.open, "bit-fields that no integers hold")
             return
+        if len(declarations) != len(node.record.members or []):
+            self.unit.leave(node.open, "a struct that is defined twice")
+            return
         for run in runs:
             held = [declarations[position] for position in range(run.first, run.last + 1)]
             for declaration in held[1:]:

@@ -23,6 +23,8 @@ enum { PATH_MAX = 1, SSIZE_MAX, NSIG, L_ctermid, CLOCK_REALTIME };
 struct timespec { int own; };
 struct timeval { int own; };
 struct sigaction { int own; };
+struct _file { int own; };
+struct _IO_FILE *stream;
 
 int main(void)
 {

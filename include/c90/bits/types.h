@@ -91,4 +91,23 @@ typedef struct {
 #ifndef __BEGIN_DECLS
 #define __BEGIN_DECLS
 #define __END_DECLS
+
+/* What declarations of glibc's headers say, which options may give. */
+#define __THROW
+#define __THROWNL
+#define __NTH(function) function
+#define __nonnull(parameters)
+#define __wur
+#define __attr_access(parameters)
+#define __attr_dealloc(function, parameter)
+#define __attr_dealloc_free
+#define __attribute_const__
+#define __attribute_deprecated__
+#define __attribute_deprecated_msg__(text)
+#define __attribute_malloc__
+#define __attribute_nonstring__
+#define __attribute_pure__
+#define __attribute_warn_unused_result__
+#define __flexarr []
+#define __restrict_arr
 #endif
