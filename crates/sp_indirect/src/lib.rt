@@ -1,8 +1,8 @@
 //! The indirect calls of a program, and which functions each of them calls.
 //!
-//! A call is *direct* where a function is called by its own name, and *indirect* else. Its *callees*
-//! are the functions to which points-to lets the called expression point and that take as many
-//! arguments. So of a file `a.c` with the text
+//! A call is *direct* where a function is called by its own name, and *indirect* else, as `(*f)(x)`
+//! is. Its *callees* are the functions to which points-to lets the called expression point and that
+//! take as many arguments. So of a file `a.c` with the text
 //!
 //! ```text
 //! int f(int a){return a;} int g(int a){return 0;} int(*t[2])(int)={f,g};
@@ -13,7 +13,7 @@
 //!
 //! ```text
 //! a.c:2:40: none
-//! a.c:2:53: f g
+//! a.c:2:54: f g
 //! 2 indirect calls
 //! ```
 //!
