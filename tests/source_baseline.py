@@ -130,10 +130,12 @@ def try_bad_baselines(room: Room) -> None:
         expect("leaves its baseline", file.read(), "kept")
 
 
+IGNORED = "  a[3] = 1; /* sparrow: ignore it is <here> */\n"
+
+
 def try_ignoring(room: Room) -> None:
     """Comments that ignore."""
-    ignored = "  a[3] = 1; /* sparrow: ignore it is <here> */\n"
-    room.write(HEAD + ignored + SECOND + TAIL)
+    room.write(HEAD + IGNORED + SECOND + TAIL)
     expect("one is ignored", room.last(), (1, "1 warning at 1 place; 1 ignored"))
     value = json.loads(room.run("--format=json")[1])
     told = [each["justification"] for each in value["ignored"]]
@@ -148,7 +150,7 @@ def try_ignoring(room: Room) -> None:
     expect("sarif: its schema", schema_faults(value, rule, rule), [])
     page = room.run("--format=html")[1]
     expect("html: why", "it is &lt;here&gt;" in page, True)
-    room.write(HEAD + ignored + TAIL)
+    room.write(HEAD + IGNORED + TAIL)
     expect("all are ignored", room.last(), (0, "0 warnings; 1 ignored"))
     words = ("--baseline=ignored.json", "--update-baseline")
     expect("an ignored one is in no baseline", room.last(*words),
@@ -156,12 +158,16 @@ def try_ignoring(room: Room) -> None:
     room.write(HEAD + "  a[3] = 1; /* sparrow: ignore */\n" + TAIL)
     expect("without a reason", room.last(), (1, "1 warning at 1 place"))
     expect("it is said", room.run()[2], "sparrow: a.c:4: 'sparrow: ignore' wants a reason\n")
+
+
+def try_ignoring_nothing(room: Room) -> None:
+    """Comments that ignore nothing are told, where they stand in a given file."""
     room.write("#define SET(x) (x = 1) /* sparrow: ignore it */\n" + HEAD + "  SET(a[3]);\n" + TAIL)
     expect("on the macro's own line", room.last(), (1, "1 warning at 1 place"))
     nothing = "'sparrow: ignore' ignores nothing\n"
     expect("it ignores nothing there", room.run()[2], f"sparrow: a.c:1: {nothing}")
     other = "  a[2] = 1; // sparrow: ignore it fits\n"
-    room.write(HEAD + ignored + other + SECOND + TAIL)
+    room.write(HEAD + IGNORED + other + SECOND + TAIL)
     expect("one of two", room.run()[2], f"sparrow: a.c:5: {nothing}")
     room.write(HEAD + "  a[2] = 1; /* sparrow: ignore */\n" + TAIL)
     expect("a clean program", room.run()[2], f"sparrow: a.c:4: {nothing}")
@@ -214,6 +220,7 @@ def main() -> int:
         try_baseline(room)
         try_bad_baselines(room)
         try_ignoring(room)
+        try_ignoring_nothing(room)
         try_time(room)
     return tell(faults)
 
