@@ -6,6 +6,7 @@ import subprocess
 import sys
 import tempfile
 import time
+from typing import Callable, NamedTuple
 
 LIMIT = 600  # seconds
 NODES = 71  # of a function of a module: 6,400 of them stay below 500,000 nodes and 2,000,000 tokens
@@ -124,16 +125,23 @@ def measured(words):
     return time.time() - start, int(done.stderr.split()[-1]), last[-40:]
 
 
-def table(command, head, made, sizes, words, source, nodes=1):
-    """Prints a row for each size, of so many nodes each: what a node takes, and the ratio of its time to
-    that of the row above."""
-    print(f"{command:9}{head:>12}{'nodes':>9}{'s':>9}{'KiB':>10}{'us/node':>9}{'KiB/node':>10}{'ratio':>7}  last line")
+class Shape(NamedTuple):
+    """How a program of a size is made, and how many nodes it has for each of its size."""
+
+    name: str
+    made: Callable[[int], str]
+    nodes: int = 1
+
+
+def table(command, shape, sizes, words, source):
+    """Prints a row for each size: what a node takes, and the ratio of its time to that of the row above."""
+    print(f"{command:9}{shape.name:>12}{'nodes':>9}{'s':>9}{'KiB':>10}{'us/node':>9}{'KiB/node':>10}{'ratio':>7}  last line")
     last = None
     for size in sizes:
         with open(source, "w", encoding="ascii") as out:
-            out.write(made(size))
+            out.write(shape.made(size))
         found = measured([*words, source])
-        count = size * nodes
+        count = size * shape.nodes
         if found is None:
             print(f"{'':9}{size:12}{count:9}{'> ' + str(LIMIT):>9}", flush=True)
             break
@@ -151,19 +159,19 @@ def main():
         for command in ("analyse", "dense"):
             # dense takes 1,048,576 slots, nodes times locations
             some = sizes if command == "analyse" else [25]
-            table(command, "modules", modules, some, [sparrow, command], source, NODES)
+            table(command, Shape("modules", modules, NODES), some, [sparrow, command], source)
         # of the functions of a deep program eight in ten are reached where there are many
-        table("analyse", "deep", deep, sizes, [sparrow, "analyse"], source)
-        table("analyse", "allocations", allocations, [10, 100], [sparrow, "analyse"], source, ALLOCATING)
-        table("analyse", "targets", targets, [100, 300], [sparrow, "analyse"], source, HANDING)
+        table("analyse", Shape("deep", deep), sizes, [sparrow, "analyse"], source)
+        table("analyse", Shape("allocations", allocations, ALLOCATING), [10, 100], [sparrow, "analyse"], source)
+        table("analyse", Shape("targets", targets, HANDING), [100, 300], [sparrow, "analyse"], source)
         others = {"gcc": ["-O2", "-Wall", "-c", "-o", os.devnull], "frama-c": ["-eva", "-eva-verbose", "0"]}
         for name, flags in others.items():
             if shutil.which(name):
-                table(name, "modules", modules, sizes, [name, *flags], source, NODES)
+                table(name, Shape("modules", modules, NODES), sizes, [name, *flags], source)
             else:
                 print(f"{name}: not installed")
-        for shape in (chain, ring):
-            table("dense", shape.__name__, shape, [4000, 8000, 16100], [sparrow, "dense"], source)
+        for made in (chain, ring):
+            table("dense", Shape(made.__name__, made), [4000, 8000, 16100], [sparrow, "dense"], source)
 
 
 main()
