@@ -23,8 +23,8 @@ member n x xs there = go (nat_eq n x) refl there
     go true e t = inl (eqb-true n x e)
     go false e t = inr t
 
-one_more : (n x : ℕ) (xs : List ℕ) → has n xs ≡ true → has n (x ∷ xs) ≡ true
-one_more n x xs there = ap (λ b. nat_eq n x || b) there ∙ or_true (nat_eq n x)
+kept_behind : (n x : ℕ) (xs : List ℕ) → has n xs ≡ true → has n (x ∷ xs) ≡ true
+kept_behind n x xs there = ap (λ b. nat_eq n x || b) there ∙ or_true (nat_eq n x)
   where
     or_true : (b : Bool) → (b || true) ≡ true
     or_true true = refl
@@ -66,7 +66,7 @@ same_first x y xs ys a b f g = go (member x y ys f) (member y x xs g)
 
 rest_includes : (x y : ℕ) (xs ys : List ℕ) → Ascends (x ∷ xs) → x ≡ y
     → Includes (x ∷ xs) (y ∷ ys) → Includes xs ys
-rest_includes x y xs ys a same f n there = go (member n y ys (f n (one_more n x xs there)))
+rest_includes x y xs ys a same f n there = go (member n y ys (f n (kept_behind n x xs there)))
   where
     go : (n ≡ y) ⊎ (has n ys ≡ true) → has n ys ≡ true
     go (inl e) = let more = first_least x xs a n there in absurd (omega (arith, more, e, same))

@@ -9,6 +9,9 @@
 //! their inputs (`proofs/Working`), and spread to every node along the edges they are such a table themselves
 //! (`proofs/Spreading`). After Oh et al. 2012, over a frame and a support.
 //!
+//! [`order_of`] numbers the nodes in an order of service; [`ByOrder`] serves the least number first, and [`BySweeps`] goes
+//! through the numbers again and again.
+//!
 //! A [`System`](sp_lattice::System) goes in with its dependencies, a picker and a counter of evaluations, and a
 //! [`SparseTable`] comes out. The layer above uses the contract of [`solve_sparse`]: the table `IsSolved`, and the evaluations
 //! of each node are within `IsWithinBounds` (`specs.Solution`).

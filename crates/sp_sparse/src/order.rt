@@ -10,14 +10,15 @@ ghost use Rattle.sp_sparse.specs.inner.Order.{AreGiven};
 use sp_lattice::System;
 use std::alloc::{AllocError, Global};
 
-/// No edge, or no node.
+/// The number of no edge.
 const NONE: u32 = u32::MAX;
 
-/// The edges of a system by the nodes from which they lead: of each node its first edge, and of each
-/// edge the next of its node.
+/// The edges of a system by the nodes from which they lead.
 #[derive(Drop)]
 struct Edges {
+    /// Of each node its first edge.
     first: Vec<u32>,
+    /// Of each edge the node to which it leads, and the next edge of its own node.
     to: Vec<(u32, u32)>,
 }
 
@@ -52,12 +53,14 @@ impl Edges {
     }
 }
 
-/// Nodes in a depth-first search: the path to the node that is looked at, each node of it with the
-/// next edge to go along, and the nodes that are finished.
+/// A depth-first search.
 #[derive(Drop)]
 struct Search {
+    /// The path to the node that is looked at: each node of it with the next edge to go along.
     path: Vec<(u32, u32)>,
+    /// Of each node whether it was found.
     found: Vec<bool>,
+    /// The nodes that are finished, in their order.
     finished: Vec<u32>,
 }
 
@@ -91,7 +94,10 @@ impl Search {
                 self.path.push((node, next))?;
                 self.enter(edges, to)
             }
-            None => self.finished.push(node).map_err(|_| AllocError),
+            None => {
+                self.finished.push(node)?;
+                Ok(())
+            }
         }
     }
 
@@ -121,8 +127,11 @@ fn finished<S: System>(alloc: Global, system: &S) -> Result<Vec<u32>, AllocError
 /// Numbers that are given to nodes, in the order of the calls.
 #[derive(Drop)]
 struct Numbers {
+    /// Of each node its number, or 0 where it has none yet.
     order: Vec<u32>,
+    /// Of each node whether it has one.
     given: Vec<bool>,
+    /// The next number.
     next: u32,
 }
 
