@@ -83,13 +83,18 @@ def row(name: str, folder: str, options: list[str], files: list[str]) -> str:
     return f"| {name} | {len(files)} | {lines} | {is_new} | {numbers} | {seconds:.1f} s |"
 
 
+def asked_room(usage: str | None) -> str:
+    """The folder that the first word names; without it the usage is told, and the status is 3."""
+    if len(sys.argv) < 2:
+        print(usage, file=sys.stderr)
+        sys.exit(3)
+    prepare_environment()
+    return os.path.abspath(sys.argv[1])
+
+
 def main() -> int:
     """Runs the programs."""
-    if len(sys.argv) < 2:
-        print(__doc__, file=sys.stderr)
-        return 3
-    prepare_environment()
-    room = os.path.abspath(sys.argv[1])
+    room = asked_room(__doc__)
     numbers = "alarms | places | a hundred lines | at a token"
     print(f"| program | files | lines | rewritten | {numbers} | time |")
     print("|---|---|---|---|---|---|---|---|---|")

@@ -13,8 +13,8 @@ import subprocess
 import sys
 from typing import NamedTuple
 
-from programs import LATE, lines_of
-from survey import TOP, configure_apt, folder_of, packages, prepare_environment, run_logged
+from programs import LATE, asked_room, lines_of
+from survey import TOP, configure_apt, folder_of, packages, run_logged
 
 PROGRAMS = ("byacc", "bzip2", "figlet", "ncompress", "unifdef", "cproto", "minigzip")
 # What a program's files are made by, beside what the survey does.
@@ -98,11 +98,7 @@ def row(room: str, program: Chosen) -> str:
 
 def main() -> int:
     """Prints the table."""
-    if len(sys.argv) < 2:
-        print(__doc__, file=sys.stderr)
-        return 3
-    prepare_environment()
-    room = os.path.abspath(sys.argv[1])
+    room = asked_room(__doc__)
     if not os.path.isdir(os.path.join(room, "sources")):
         configure_apt(room)
         run_logged(["apt-get", "update"], room, os.path.join(room, "apt", "log"), LATE)

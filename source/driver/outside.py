@@ -11,15 +11,21 @@ def notes_on(room: Room) -> list[str]:
     return note_on_calls(room) + note_on_outside(room)
 
 
+def told(names: list[str], one: str, many: str) -> str:
+    """How many there are, what is said of one or of many, and which they are."""
+    return f"{len(names)} {one if len(names) == 1 else many}: {', '.join(names)}"
+
+
 def note_on_calls(room: Room) -> list[str]:
     """The note on functions with an attribute by which the system calls them."""
     places = list(dict.fromkeys(room.by_itself))
     if not places:
         return []
-    said = "function is a constructor or destructor, which nothing here calls"
-    if len(places) > 1:
-        said = "functions are constructors or destructors, which nothing here calls"
-    return [f"{len(places)} {said}: {', '.join(places)}"]
+    return [told(
+        places,
+        "function is a constructor or destructor, which nothing here calls",
+        "functions are constructors or destructors, which nothing here calls",
+    )]
 
 
 def note_on_outside(room: Room) -> list[str]:
@@ -34,7 +40,8 @@ def note_on_outside(room: Room) -> list[str]:
     names = given_pointers(texts)
     if not names:
         return []
-    said = "function from outside was given a pointer and is taken to write nothing"
-    if len(names) > 1:
-        said = "functions from outside were given a pointer and are taken to write nothing"
-    return [f"{len(names)} {said}: {', '.join(names)}"]
+    return [told(
+        names,
+        "function from outside was given a pointer and is taken to write nothing",
+        "functions from outside were given a pointer and are taken to write nothing",
+    )]
