@@ -5,10 +5,10 @@
 set -eu
 top=$(cd "$(dirname "$0")/.." && pwd)
 . "$top/bench/room.sh"
-make_room checks sp_tree sp_syntax sp_grammar sp_c_tokens sp_c_spelling sp_kept sp_c_steps sp_c_closings sp_c_lists sp_c_reader sp_c_declarations sp_c_statements \
-    sp_lexer sp_c_grammar sp_c_units sp_expr_parser sp_decl_parser sp_types sp_operands sp_constants sp_rules sp_unary_rules sp_scopes sp_env sp_member_rules sp_type_rules \
-    sp_names sp_expr_steps sp_expr_check sp_initialisers sp_objects sp_declarations sp_formals sp_heads sp_renaming sp_labels sp_mentions sp_statement_rules \
-    sp_statement_check sp_units sp_tentative sp_decl_check sp_matching sp_struct_agree sp_struct_match sp_conflicts sp_joining sp_link sp_program
+make_room checks sp_tree sp_parse_trees sp_parse_grammar sp_parse_tokens sp_parse_laws sp_base_kept sp_parse_expr_steps sp_parse_expr_ends sp_parse_expr_lists sp_parse_expr_reader sp_parse_declarations sp_parse_statements \
+    sp_lexer sp_parse_laws sp_parse_laws sp_expr_parser sp_decl_parser sp_types sp_check_operands sp_check_constants sp_check_binary_rules sp_check_unary_rules sp_check_scopes sp_check_env sp_check_members sp_check_type_names \
+    sp_check_primaries sp_check_expr_steps sp_expr_check sp_check_initialisers sp_check_objects sp_check_declarations sp_check_heads sp_check_heads sp_link_renaming sp_check_statement_rules sp_check_mentions sp_check_statement_rules \
+    sp_check_statements sp_base_checked sp_decl_check sp_decl_check sp_link_structs sp_link_agreement sp_link_structs sp_link_conflicts sp_link_entries sp_link_units sp_link_units
 "$top/tools/takekept" "$room" > "$room/taken.txt" || true
 python3 "$top/bench/checks_texts.py" "$room/texts"
 (cd "$room/crates/checks_bench" && rt run -- "$room"/texts/calls-10000/*.c) > "$room/built.txt"

@@ -1,8 +1,8 @@
 #!/usr/bin/env python3
-"""Writes the rows of crates/domain_rows with their answers, computed here from the definitions alone.
+"""Writes the rows of crates/rows_domain with their answers, computed here from the definitions alone.
 
-usage: tests/domain_rows.py          writes crates/domain_rows/stdin and stdout
-       tests/domain_rows.py --check  says whether they are as it would write them
+usage: tests/rows_domain.py          writes crates/rows_domain/stdin and stdout
+       tests/rows_domain.py --check  says whether they are as it would write them
 
 Intervals are gone through member by member, octagons point by point: nothing here knows the formulas of the
 crates. tests/rows/interval.tsv has cases with wider numbers, of the same form: call, operands, range, answer.
@@ -14,7 +14,7 @@ import sys
 
 TOP = os.path.dirname(os.path.dirname(os.path.abspath(__file__)))
 CASES = f"{TOP}/tests/rows/interval.tsv"
-ROWS = f"{TOP}/crates/domain_rows"
+ROWS = f"{TOP}/crates/rows_domain"
 
 LOWEST, HIGHEST = -(2**63), 2**64 - 1
 CALLS = ["add", "sub", "mul", "div", "rem", "shl", "shr", "and", "or", "xor"]

@@ -1,15 +1,15 @@
 -- External declarations one after another.
 use Rattle.std.proofs.Common.{◌≡◌, ℕ, zero, suc, ◌<◌, List, [], ◌∷◌, length, drop, set, get_or, refl, ap, sym, ◌∙◌, arith}
-use Rattle.sp_tree.specs.declared.fault.FaultKind.TheVariants.{F13, F14}
-use Rattle.sp_syntax.specs.Syntax.{External, definition, external_declaration, semicolon}
-use Rattle.sp_syntax.specs.View.{external_of, externals_of}
-use Rattle.sp_syntax.specs.declared.statement.External.{External as CodeExternal}
-use Rattle.sp_operands.specs.Answers.{accepted}
-use Rattle.sp_scopes.specs.Scopes.{or_else}
-use Rattle.sp_env.specs.Env.{Env}
-use Rattle.sp_labels.specs.Repeats.{where_none}
-use Rattle.sp_mentions.specs.Undefined.{undefined_function}
-use Rattle.sp_tentative.specs.Tentative.{open_external, open_tentative}
+use Rattle.sp_tree.specs.declared.fault.FaultKind.TheVariants.{IncompleteType, BadOperand}
+use Rattle.sp_parse_trees.specs.Syntax.{External, definition, external_declaration, semicolon}
+use Rattle.sp_parse_trees.specs.View.{external_of, externals_of}
+use Rattle.sp_parse_trees.specs.declared.statement.External.{External as CodeExternal}
+use Rattle.sp_base_checked.specs.Answers.{accepted}
+use Rattle.sp_check_scopes.specs.Scopes.{or_else}
+use Rattle.sp_check_env.specs.Env.{Env}
+use Rattle.sp_check_statement_rules.specs.Repeats.{where_none}
+use Rattle.sp_check_mentions.specs.Undefined.{undefined_function}
+use Rattle.sp_decl_check.specs.Tentative.{open_external, open_tentative}
 use Rattle.sp_decl_check.specs.Definitions.{kept_of, SameOpen}
 use Rattle.sp_decl_check.specs.Units.{checked_unit, unit_told}
 
@@ -33,4 +33,4 @@ same_open (z ∷ zs) (suc i) x y h is kept env = ap (or_else (open_external env 
 
 -- and the same is told at the end of the unit
 pub same_told : (env : Env) (ns : List ℕ) (us vs : List External) → SameOpen us vs → unit_told env ns us ≡ unit_told env ns vs
-same_told env ns us vs same = ap (λ o. where_none o F13 (where_none (undefined_function env.tables.objects env.tables.functions) F14 (accepted (checked_unit env.tables ns)))) (same env)
+same_told env ns us vs same = ap (λ o. where_none o IncompleteType (where_none (undefined_function env.tables.objects env.tables.functions) BadOperand (accepted (checked_unit env.tables ns)))) (same env)

@@ -1,16 +1,16 @@
 -- Definitions of functions, and the external declarations of a unit in order (C90 6.7).
 use Rattle.std.specs.Prelude.{◌≡◌, ℕ, List, [], ◌∷◌, ◌++◌, Option, Some, None, slice_get}
-use Rattle.sp_syntax.specs.Syntax.{Specifiers, Declarator, Statement, External, definition, external_declaration, semicolon}
+use Rattle.sp_parse_trees.specs.Syntax.{Specifiers, Declarator, Statement, External, definition, external_declaration, semicolon}
 use Rattle.sp_types.specs.Types.{result_of}
 use Rattle.sp_types.specs.Programs.{Function}
 use Rattle.sp_types.specs.Statements.{TypedStatement, end_of}
-use Rattle.sp_operands.specs.Answers.{Checked, accepted, and_then}
-use Rattle.sp_env.specs.Env.{Env, left, set_function}
-use Rattle.sp_declarations.specs.Declarations.{declaration_checked}
-use Rattle.sp_statement_rules.specs.Blocks.{locals_in}
-use Rattle.sp_statement_check.specs.Statements.{body_checked}
-use Rattle.sp_heads.specs.Heads.{Head, head_checked}
-use Rattle.sp_tentative.specs.Tentative.{open_tentative}
+use Rattle.sp_base_checked.specs.Answers.{Checked, accepted, and_then}
+use Rattle.sp_check_env.specs.Env.{Env, left, set_function}
+use Rattle.sp_check_declarations.specs.Declarations.{declaration_checked}
+use Rattle.sp_check_statement_rules.specs.Blocks.{locals_in}
+use Rattle.sp_check_statements.specs.Statements.{body_checked}
+use Rattle.sp_check_heads.specs.Heads.{Head, head_checked}
+use Rattle.sp_decl_check.specs.Tentative.{open_tentative}
 
 -- 6.7.1: the function with its body, at the place of its name in the definition
 abbrev pub defined : Function → Head → TypedStatement → Function

@@ -1,6 +1,6 @@
 //! External declarations.
 ghost use Rattle.std.specs.Prelude.{◌≡◌, [], IfOk, OnOk};
-ghost use Rattle.sp_syntax.specs.View.{
+ghost use Rattle.sp_parse_trees.specs.View.{
   specifiers_of,
   declarator_of,
   statement_of as tree_statement_of,
@@ -9,19 +9,19 @@ ghost use Rattle.sp_syntax.specs.View.{
 };
 ghost use Rattle.sp_types.specs.Programs.{function_of};
 ghost use Rattle.sp_types.specs.TypedView.{statement_of};
-ghost use Rattle.sp_operands.specs.Answers.{AnswersIn};
-ghost use Rattle.sp_env.specs.Views.{env_of};
-ghost use Rattle.sp_statement_rules.specs.Blocks.{locals_in};
-ghost use Rattle.sp_heads.specs.HeadView.{head_of};
+ghost use Rattle.sp_base_checked.specs.Answers.{AnswersIn};
+ghost use Rattle.sp_check_env.specs.Views.{env_of};
+ghost use Rattle.sp_check_statement_rules.specs.Blocks.{locals_in};
+ghost use Rattle.sp_check_heads.specs.HeadView.{head_of};
 ghost use Rattle.sp_decl_check.specs.Definitions as rules;
 
-use sp_declarations::check_declaration;
-use sp_env::Env;
-use sp_heads::{Head, check_head};
-use sp_operands::CheckError;
-use sp_statement_check::check_body;
-use sp_statement_rules::add_locals;
-use sp_syntax::{Declarator, External, Specifier, Statement};
+use sp_base_checked::CheckError;
+use sp_check_declarations::check_declaration;
+use sp_check_env::Env;
+use sp_check_heads::{Head, check_head};
+use sp_check_statement_rules::add_locals;
+use sp_check_statements::check_body;
+use sp_parse_trees::{Declarator, External, Specifier, Statement};
 use sp_tree::Names;
 use sp_types::{FunctionDef, TypedStatement};
 use std::alloc::{AllocError, Global};

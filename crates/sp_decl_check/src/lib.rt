@@ -7,14 +7,19 @@
 //! *tentative definition* (an object without initialiser and storage class, 6.7.2) has a complete
 //! type, and each internal function that an expression mentions has a body.
 //!
-//! So for `static int f(void); int main(void) { return f(); }` the fault F14 stands at `f`, and for
+//! So for `static int f(void); int main(void) { return f(); }` the fault BadOperand stands at `f`, and for
 //! `struct s x; struct s { int a; };` there is none.
+//!
+//! Of the tentative definitions [`open_tentative`] gives the place of the first declarator whose
+//! object has a struct without members: so for `struct s x; struct s { int a; };` there is none, and
+//! for `struct s x;` alone it is the place of `x`.
 //!
 //! The layer above uses one contract: `check_unit` answers exactly what `unit_checked` in
 //! `specs/Units.antt` gives, or its fault; where memory runs out it says nothing.
 #![tactic(auto)]
 
 mod definitions;
+mod tentative;
 mod unit;
 
 pub use unit::check_unit;

@@ -1,19 +1,18 @@
 //! Units.
 ghost use Rattle.std.specs.Prelude.{[]};
-ghost use Rattle.sp_syntax.specs.View.{externals_of};
-ghost use Rattle.sp_operands.specs.Answers.{Answers};
-ghost use Rattle.sp_env.specs.Views.{env_of};
-ghost use Rattle.sp_units.specs.Units.{checked_unit_of};
+ghost use Rattle.sp_parse_trees.specs.View.{externals_of};
+ghost use Rattle.sp_base_checked.specs.Answers.{Answers};
+ghost use Rattle.sp_check_env.specs.Views.{env_of};
+ghost use Rattle.sp_base_checked.specs.Units.{checked_unit_of};
 ghost use Rattle.sp_decl_check.specs.Units.{unit_told, unit_checked};
 
 use crate::definitions::externals_checked;
-use sp_env::Env;
-use sp_mentions::undefined_function;
-use sp_operands::{CheckError, fault};
-use sp_syntax::{External, Unit};
-use sp_tentative::open_tentative;
+use crate::tentative::open_tentative;
+use sp_base_checked::{CheckError, CheckedUnit, fault};
+use sp_check_env::Env;
+use sp_check_mentions::undefined_function;
+use sp_parse_trees::{External, Unit};
 use sp_tree::{FaultKind, Names};
-use sp_units::CheckedUnit;
 use std::alloc::Global;
 
 /// What is told at the end of a unit.
@@ -27,11 +26,11 @@ fn unit_told(
         (unit_told (env_of env) defined.items (externals_of externals.now)) result }
 {
     if let Some(place) = open_tentative(&env, externals) {
-        return fault(FaultKind::F13, place);
+        return fault(FaultKind::IncompleteType, place);
     }
     let tables = env.finish();
     if let Some(place) = undefined_function(alloc, &tables.objects, &tables.functions)? {
-        return fault(FaultKind::F14, place);
+        return fault(FaultKind::BadOperand, place);
     }
     Ok(CheckedUnit {
         structs: tables.structs,

@@ -3,35 +3,35 @@ use Rattle.std.proofs.Common.{◌≡◌, ℕ, ◌≤◌, Bool, true, false, Resu
 use Rattle.std.specs.Prelude.{◌&&◌, not, max, MatchResult, Option, if◌then◌else◌}
 use Rattle.sp_tree.specs.declared.fault.Place.{Place}
 use Rattle.sp_tree.specs.declared.token.Token.{Token}
-use Rattle.sp_syntax.specs.Syntax as syntax
-use Rattle.sp_syntax.specs.Syntax.{External, Specifiers, Declarator, Declaration, Statement, Init, InitDeclarator, declaration}
-use Rattle.sp_syntax.specs.View.{init_declarators}
-use Rattle.sp_syntax.specs.Depth.{specifiers_depth, declarator_depth, statement_depth}
-use Rattle.sp_grammar.specs.CTokens as tokens
-use Rattle.sp_grammar.specs.CTokens.{view, is_mark}
-use Rattle.sp_grammar.specs.CTable as grammar
-use Rattle.sp_grammar.specs.CTable.{Context, at, c_symbols, get, next, close_by, one_item, with_name, new_types, in_function, is_variadic}
-use Rattle.sp_grammar.specs.Table.{Plan, done}
-use Rattle.sp_c_tokens.specs.declared.scope.Scope.{Scope}
-use Rattle.sp_c_tokens.specs.declared.scope.AlsoAllowed.{AlsoAllowed}
-use Rattle.sp_c_tokens.specs.declared.part.Part.{Part}
-use Rattle.sp_c_tokens.specs.declared.part.ReadError.{ReadError}
-use Rattle.sp_c_tokens.specs.declared.part.SpecifierList.{SpecifierList}
-use Rattle.sp_c_tokens.specs.Sorts.{Terminal, terminal, sort_of}
-use Rattle.sp_c_tokens.specs.SyntaxTrees.{syntax_trees}
-use Rattle.sp_c_tokens.specs.Makers.{SpecifierAt, all_specifiers, all_items, place_of_first, make_declaration}
-use Rattle.sp_c_tokens.specs.Ended.{IsEnded}
-use Rattle.sp_c_tokens.specs.Expecting.{IsExpected, IsUnexpected}
-use Rattle.sp_c_tokens.specs.Scopes.{there, purpose_seen}
-use Rattle.sp_c_tokens.proofs.Viewing.{ended_mark, mark_viewed}
-use Rattle.sp_c_steps.specs.Reading.{IsRead, IsStop}
-use Rattle.sp_c_steps.specs.Declaring.{AreSpecified}
-use Rattle.sp_c_steps.proofs.Steps.{got, last, finished}
-use Rattle.sp_c_steps.proofs.Parts.{IsOn, on_mark, stop_before, stop_mark, stop_part}
-use Rattle.sp_c_steps.proofs.ExpressionSteps.{built, read_before, first_same, first_taken}
-use Rattle.sp_c_steps.proofs.Faulting.{result_before}
-use Rattle.sp_c_declarations.specs.Taking.{IsTaken}
-use Rattle.sp_c_statements.specs.Parts.{compound, IsCompound, IsCompoundStop}
+use Rattle.sp_parse_trees.specs.Syntax as syntax
+use Rattle.sp_parse_trees.specs.Syntax.{External, Specifiers, Declarator, Declaration, Statement, Init, InitDeclarator, declaration}
+use Rattle.sp_parse_trees.specs.View.{init_declarators}
+use Rattle.sp_parse_trees.specs.Depth.{specifiers_depth, declarator_depth, statement_depth}
+use Rattle.sp_parse_grammar.specs.CTokens as tokens
+use Rattle.sp_parse_grammar.specs.CTokens.{view, is_mark}
+use Rattle.sp_parse_grammar.specs.CTable as grammar
+use Rattle.sp_parse_grammar.specs.CTable.{Context, at, c_symbols, get, next, close_by, one_item, with_name, new_types, in_function, is_variadic}
+use Rattle.sp_parse_grammar.specs.Table.{Plan, done}
+use Rattle.sp_parse_tokens.specs.declared.scope.Scope.{Scope}
+use Rattle.sp_parse_tokens.specs.declared.scope.AlsoAllowed.{AlsoAllowed}
+use Rattle.sp_parse_tokens.specs.declared.part.Part.{Part}
+use Rattle.sp_parse_tokens.specs.declared.part.ReadError.{ReadError}
+use Rattle.sp_parse_tokens.specs.declared.part.SpecifierList.{SpecifierList}
+use Rattle.sp_parse_tokens.specs.Sorts.{Terminal, terminal, sort_of}
+use Rattle.sp_parse_tokens.specs.SyntaxTrees.{syntax_trees}
+use Rattle.sp_parse_tokens.specs.Makers.{SpecifierAt, all_specifiers, all_items, place_of_first, make_declaration}
+use Rattle.sp_parse_tokens.specs.Ended.{IsEnded}
+use Rattle.sp_parse_tokens.specs.Expecting.{IsExpected, IsUnexpected}
+use Rattle.sp_parse_tokens.specs.Scopes.{there, purpose_seen}
+use Rattle.sp_parse_tokens.proofs.Viewing.{ended_mark, mark_viewed}
+use Rattle.sp_parse_expr_steps.specs.Reading.{IsRead, IsStop}
+use Rattle.sp_parse_expr_steps.specs.Declaring.{AreSpecified}
+use Rattle.sp_parse_expr_steps.proofs.Steps.{got, last, finished}
+use Rattle.sp_parse_expr_steps.proofs.Parts.{IsOn, on_mark, stop_before, stop_mark, stop_part}
+use Rattle.sp_parse_expr_steps.proofs.ExpressionSteps.{built, read_before, first_same, first_taken}
+use Rattle.sp_parse_expr_steps.proofs.Faulting.{result_before}
+use Rattle.sp_parse_declarations.specs.Taking.{IsTaken}
+use Rattle.sp_parse_statements.specs.Parts.{compound, IsCompound, IsCompoundStop}
 use Rattle.sp_decl_parser.specs.declared.externals.ExternalPart.{ExternalPart}
 use Rattle.sp_decl_parser.specs.Seen.{external_part, specified, sort_of_first}
 

@@ -1,19 +1,19 @@
 -- What the reader of units reads, said by levelled units.
 use Rattle.std.proofs.Common.{◌≡◌, ℕ, ◌+◌, ◌≤◌, List, [], ◌∷◌, ◌++◌, length, take, drop, inl, inr, refl, sym, ap, ◌∙◌, subst, arith, length-append}
 use Rattle.sp_tree.specs.declared.fault.FaultKind.{FaultKind}
-use Rattle.sp_tree.specs.declared.fault.FaultKind.TheVariants.{M2}
+use Rattle.sp_tree.specs.declared.fault.FaultKind.TheVariants.{NestingTooDeep}
 use Rattle.sp_tree.specs.declared.token.Token.{Token}
-use Rattle.sp_syntax.specs.Syntax.{External}
-use Rattle.sp_grammar.specs.CTable.{unit, whole}
-use Rattle.sp_grammar.specs.Table.{ask, Reads, Fails}
-use Rattle.sp_grammar.specs.Depth.{Nests}
-use Rattle.sp_c_tokens.specs.Sorts.{c_tokens}
-use Rattle.sp_c_tokens.specs.SyntaxTrees.{c_table}
-use Rattle.sp_c_tokens.specs.Depths.{c_depths}
-use Rattle.sp_c_tokens.specs.Faults.{Wanted, fault_there, sort_there, fault_of}
-use Rattle.sp_c_tokens.specs.Makers.{first_place}
-use Rattle.sp_c_steps.specs.Reading.{kind_at}
-use Rattle.sp_c_units.specs.Answers.{UnitsAreParsed, IsUnit, IsUnitFault, IsUnitNested}
+use Rattle.sp_parse_trees.specs.Syntax.{External}
+use Rattle.sp_parse_grammar.specs.CTable.{unit, whole}
+use Rattle.sp_parse_grammar.specs.Table.{ask, Reads, Fails}
+use Rattle.sp_parse_grammar.specs.Depth.{Nests}
+use Rattle.sp_parse_tokens.specs.Sorts.{c_tokens}
+use Rattle.sp_parse_tokens.specs.SyntaxTrees.{c_table}
+use Rattle.sp_parse_tokens.specs.Depths.{c_depths}
+use Rattle.sp_parse_tokens.specs.Faults.{Wanted, fault_there, sort_there, fault_of}
+use Rattle.sp_parse_tokens.specs.Makers.{first_place}
+use Rattle.sp_parse_expr_steps.specs.Reading.{kind_at}
+use Rattle.sp_parse_laws.specs.UnitAnswers.{UnitsAreParsed, IsUnit, IsUnitFault, IsUnitNested}
 use Rattle.sp_expr_parser.proofs.ParserSteps.{Front, read_front, fault_front_of, nests_front, drop_front, front_taken}
 use Rattle.sp_decl_parser.specs.Units.{IsUnitRead}
 use Rattle.sp_decl_parser.specs.Parsing.{IsUnitRefused}
@@ -53,7 +53,7 @@ module _ (laws : UnitsAreParsed) where
     pub fault_is : (d : ℕ) (kind found : FaultKind) (before : List Token) (w : Wanted) → Fails c_table whole (ask whole) (c_tokens text) w (c_tokens rest) → kind ≡ kind_at w rest → ((n : ℕ) → n + length rest ≡ length text → before ≡ take n text) → ((v : Wanted) → kind ≡ fault_there v (sort_there v bad) → found ≡ fault_of v before bad) → IsUnitRefused d text (record { kind = found; place = bad.place })
     fault_is d kind found before w fails told counted refines = fault_from d kind found before w fails told counted refines (fault_front_of whole text rest w fails)
 
-    nested_from : (d : ℕ) → Nests c_table c_depths whole d (c_tokens text) (c_tokens rest) → Front text rest → IsUnitRefused d text (record { kind = M2; place = bad.place })
+    nested_from : (d : ℕ) → Nests c_table c_depths whole d (c_tokens text) (c_tokens rest) → Front text rest → IsUnitRefused d text (record { kind = NestingTooDeep; place = bad.place })
     nested_from d h f =
         let all = here_whole f in
         let at_bad : Nests c_table c_depths whole d (c_tokens (f.front ++ bad ∷ more)) (c_tokens (bad ∷ more)) = subst (λ v. Nests c_table c_depths whole d (c_tokens v) (c_tokens (bad ∷ more))) all (subst (λ v. Nests c_table c_depths whole d (c_tokens text) (c_tokens v)) e h) in
@@ -63,7 +63,7 @@ module _ (laws : UnitsAreParsed) where
           why = inr (refl, subst (λ v. IsUnitNested d v (length f.front)) (sym all) (laws.nested d f.front bad more at_bad));
         }
 
-    pub nested_is : (d : ℕ) → Nests c_table c_depths whole d (c_tokens text) (c_tokens rest) → IsUnitRefused d text (record { kind = M2; place = bad.place })
+    pub nested_is : (d : ℕ) → Nests c_table c_depths whole d (c_tokens text) (c_tokens rest) → IsUnitRefused d text (record { kind = NestingTooDeep; place = bad.place })
     nested_is d h = nested_from d h (nests_front whole d text rest h)
 
 -- the tokens from the failing one on are no more than all

@@ -10,30 +10,30 @@ use Rattle.sp_tree.specs.declared.token.Keyword.TheVariants.{Auto}
 use Rattle.sp_tree.specs.declared.token.Punct.{Punct}
 use Rattle.sp_tree.specs.declared.token.Punct.TheVariants.{Comma}
 use Rattle.sp_tree.specs.declared.token.Token.{Token}
-use Rattle.sp_syntax.specs.Syntax.{External}
-use Rattle.sp_syntax.specs.Depth.{unit_depth, external_depth}
-use Rattle.sp_grammar.specs.CTokens as tokens
-use Rattle.sp_grammar.specs.CTokens.{Sort, view, is_mark}
-use Rattle.sp_grammar.specs.CTable as grammar
-use Rattle.sp_grammar.specs.CTable.{Context, at, unit, whole, outside, c_symbols, get, begins_specifiers}
-use Rattle.sp_grammar.specs.Table.{Plan, call, done, ask, Reads, Fails, wanted}
-use Rattle.sp_grammar.specs.Depth.{Nests}
-use Rattle.sp_c_tokens.specs.declared.scope.Scope.{Scope}
-use Rattle.sp_c_tokens.specs.declared.scope.AlsoAllowed.TheVariants as purposes
-use Rattle.sp_c_tokens.specs.declared.part.ReadError.{ReadError}
-use Rattle.sp_c_tokens.specs.declared.part.ReadError.TheVariants as stops
-use Rattle.sp_c_tokens.specs.Sorts.{Terminal, sort_of, word_sort, punct_sort, c_tokens}
-use Rattle.sp_c_tokens.specs.SyntaxTrees.{syntax_trees, c_table}
-use Rattle.sp_c_tokens.specs.Depths.{c_depths}
-use Rattle.sp_c_tokens.specs.Faults.{Wanted, fault_there, sort_there}
-use Rattle.sp_c_tokens.specs.Ended.{IsEnded}
-use Rattle.sp_c_tokens.specs.Expecting.{IsFaultFor, kind_of_first}
-use Rattle.sp_c_tokens.specs.Scopes.{kind_for}
-use Rattle.sp_c_tokens.proofs.Viewing.{mark_viewed}
-use Rattle.sp_c_steps.specs.Reading.{kind_at, IsStop}
-use Rattle.sp_c_steps.specs.States.{Before, Inside}
-use Rattle.sp_c_steps.proofs.Steps.{begun, enter, got, last, finished, part_fails, part_nests, refused}
-use Rattle.sp_c_declarations.specs.Taking.{IsTaken}
+use Rattle.sp_parse_trees.specs.Syntax.{External}
+use Rattle.sp_parse_trees.specs.Depth.{unit_depth, external_depth}
+use Rattle.sp_parse_grammar.specs.CTokens as tokens
+use Rattle.sp_parse_grammar.specs.CTokens.{Sort, view, is_mark}
+use Rattle.sp_parse_grammar.specs.CTable as grammar
+use Rattle.sp_parse_grammar.specs.CTable.{Context, at, unit, whole, outside, c_symbols, get, begins_specifiers}
+use Rattle.sp_parse_grammar.specs.Table.{Plan, call, done, ask, Reads, Fails, wanted}
+use Rattle.sp_parse_grammar.specs.Depth.{Nests}
+use Rattle.sp_parse_tokens.specs.declared.scope.Scope.{Scope}
+use Rattle.sp_parse_tokens.specs.declared.scope.AlsoAllowed.TheVariants as purposes
+use Rattle.sp_parse_tokens.specs.declared.part.ReadError.{ReadError}
+use Rattle.sp_parse_tokens.specs.declared.part.ReadError.TheVariants as stops
+use Rattle.sp_parse_tokens.specs.Sorts.{Terminal, sort_of, word_sort, punct_sort, c_tokens}
+use Rattle.sp_parse_tokens.specs.SyntaxTrees.{syntax_trees, c_table}
+use Rattle.sp_parse_tokens.specs.Depths.{c_depths}
+use Rattle.sp_parse_tokens.specs.Faults.{Wanted, fault_there, sort_there}
+use Rattle.sp_parse_tokens.specs.Ended.{IsEnded}
+use Rattle.sp_parse_tokens.specs.Expecting.{IsFaultFor, kind_of_first}
+use Rattle.sp_parse_tokens.specs.Scopes.{kind_for}
+use Rattle.sp_parse_tokens.proofs.Viewing.{mark_viewed}
+use Rattle.sp_parse_expr_steps.specs.Reading.{kind_at, IsStop}
+use Rattle.sp_parse_expr_steps.specs.States.{Before, Inside}
+use Rattle.sp_parse_expr_steps.proofs.Steps.{begun, enter, got, last, finished, part_fails, part_nests, refused}
+use Rattle.sp_parse_declarations.specs.Taking.{IsTaken}
 use Rattle.sp_decl_parser.specs.Units.{IsUnitRead, IsUnitStop}
 
 abbrev Declares : Type 0

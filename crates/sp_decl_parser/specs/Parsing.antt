@@ -1,12 +1,12 @@
--- What the parser of units answers, said by levelled units (specs/Answers.antt of sp_c_units).
+-- What the parser of units answers, said by levelled units (specs/Answers.antt of sp_parse_laws).
 use Rattle.std.specs.Prelude.{◌≡◌, ℕ, List, drop, Result, Ok, Err, ⊤, ◌⊎◌}
 use Rattle.sp_tree.specs.declared.fault.Fault.{Fault}
-use Rattle.sp_tree.specs.declared.fault.FaultKind.TheVariants.{M2}
+use Rattle.sp_tree.specs.declared.fault.FaultKind.TheVariants.{NestingTooDeep}
 use Rattle.sp_tree.specs.declared.token.Token.{Token}
-use Rattle.sp_syntax.specs.declared.statement.Unit.{Unit as CodeUnit}
-use Rattle.sp_syntax.specs.View.{externals_of}
-use Rattle.sp_c_tokens.specs.Makers.{first_place}
-use Rattle.sp_c_units.specs.Answers.{IsUnit, IsUnitFault, IsUnitNested}
+use Rattle.sp_parse_trees.specs.declared.statement.Unit.{Unit as CodeUnit}
+use Rattle.sp_parse_trees.specs.View.{externals_of}
+use Rattle.sp_parse_tokens.specs.Makers.{first_place}
+use Rattle.sp_parse_laws.specs.UnitAnswers.{IsUnit, IsUnitFault, IsUnitNested}
 use Rattle.sp_expr_parser.specs.declared.error.ParseError.{ParseError}
 use Rattle.sp_expr_parser.specs.declared.error.ParseError.TheVariants as errors
 
@@ -14,7 +14,7 @@ use Rattle.sp_expr_parser.specs.declared.error.ParseError.TheVariants as errors
 pub record IsUnitRefused (depth : ℕ) (tokens : List Token) (fault : Fault) : Type 0 where
   pub count : ℕ
   pub place : fault.place ≡ first_place (drop count tokens)
-  pub why : IsUnitFault tokens fault.kind count ⊎ ((fault.kind ≡ M2) × IsUnitNested depth tokens count)
+  pub why : IsUnitFault tokens fault.kind count ⊎ ((fault.kind ≡ NestingTooDeep) × IsUnitNested depth tokens count)
 
 abbrev pub UnitRefused : ℕ → List Token → ParseError → Type 0
 UnitRefused depth tokens (errors.Fault fault) = IsUnitRefused depth tokens fault

@@ -1,13 +1,13 @@
 -- What the parts of the code are as answers of the grammar.
 use Rattle.std.specs.Prelude.{ℕ, Bool, List, [], ◌∷◌}
 use Rattle.sp_tree.specs.declared.token.Token.{Token}
-use Rattle.sp_syntax.specs.View.{external_of}
-use Rattle.sp_grammar.specs.CTokens as tokens
-use Rattle.sp_grammar.specs.CTokens.{Sort, view}
-use Rattle.sp_grammar.specs.CTable as grammar
-use Rattle.sp_c_tokens.specs.Sorts.{sort_of}
-use Rattle.sp_c_tokens.specs.Makers.{SpecifierAt}
-use Rattle.sp_c_tokens.specs.SyntaxTrees.{syntax_trees}
+use Rattle.sp_parse_trees.specs.View.{external_of}
+use Rattle.sp_parse_grammar.specs.CTokens as tokens
+use Rattle.sp_parse_grammar.specs.CTokens.{Sort, view}
+use Rattle.sp_parse_grammar.specs.CTable as grammar
+use Rattle.sp_parse_tokens.specs.Sorts.{sort_of}
+use Rattle.sp_parse_tokens.specs.Makers.{SpecifierAt}
+use Rattle.sp_parse_tokens.specs.SyntaxTrees.{syntax_trees}
 use Rattle.sp_decl_parser.specs.declared.externals.ExternalPart.{ExternalPart}
 
 -- an external declaration, and the names that it makes type names

@@ -2,19 +2,19 @@
 use Rattle.std.specs.Prelude.{◌≡◌, ℕ, ◌≤◌, List, [], ◌∷◌, ⊤}
 use Rattle.sp_tree.specs.declared.token.Token.{Token}
 use Rattle.sp_tree.specs.declared.token.Kind.TheVariants.{End}
-use Rattle.sp_syntax.specs.Syntax.{External}
-use Rattle.sp_syntax.specs.Depth.{unit_depth}
-use Rattle.sp_grammar.specs.CTable.{unit, whole}
-use Rattle.sp_grammar.specs.Table.{ask, Reads, Fails}
-use Rattle.sp_grammar.specs.Depth.{Nests}
-use Rattle.sp_c_tokens.specs.Sorts.{c_tokens}
-use Rattle.sp_c_tokens.specs.SyntaxTrees.{c_table}
-use Rattle.sp_c_tokens.specs.Depths.{c_depths}
-use Rattle.sp_c_tokens.specs.Faults.{Wanted}
-use Rattle.sp_c_tokens.specs.Ended.{IsEnded}
-use Rattle.sp_c_tokens.specs.declared.part.ReadError.{ReadError}
-use Rattle.sp_c_tokens.specs.declared.part.ReadError.TheVariants as stops
-use Rattle.sp_c_steps.specs.Reading.{kind_at}
+use Rattle.sp_parse_trees.specs.Syntax.{External}
+use Rattle.sp_parse_trees.specs.Depth.{unit_depth}
+use Rattle.sp_parse_grammar.specs.CTable.{unit, whole}
+use Rattle.sp_parse_grammar.specs.Table.{ask, Reads, Fails}
+use Rattle.sp_parse_grammar.specs.Depth.{Nests}
+use Rattle.sp_parse_tokens.specs.Sorts.{c_tokens}
+use Rattle.sp_parse_tokens.specs.SyntaxTrees.{c_table}
+use Rattle.sp_parse_tokens.specs.Depths.{c_depths}
+use Rattle.sp_parse_tokens.specs.Faults.{Wanted}
+use Rattle.sp_parse_tokens.specs.Ended.{IsEnded}
+use Rattle.sp_parse_tokens.specs.declared.part.ReadError.{ReadError}
+use Rattle.sp_parse_tokens.specs.declared.part.ReadError.TheVariants as stops
+use Rattle.sp_parse_expr_steps.specs.Reading.{kind_at}
 
 -- External declarations are read up to the end of the text.
 pub record IsUnitRead (depth : ℕ) (text : List Token) (es : List External) (reached : ℕ) : Type 0 where

@@ -1,27 +1,27 @@
 //! The readers of external declarations (C90 6.7).
 ghost use Rattle.std.specs.Prelude.{◌≡◌, ◌≤◌, ◌&&◌, List, [], max, not, map, option_map, IfOk, if◌then◌else◌, true, false};
-ghost use Rattle.sp_grammar.specs.CTokens.{is_mark};
-ghost use Rattle.sp_grammar.specs.CTokens as sorts_there;
-ghost use Rattle.sp_grammar.specs.CTable as grammar;
-ghost use Rattle.sp_syntax.specs.Syntax as syntax;
-ghost use Rattle.sp_syntax.specs.View.{external_of, specifiers_of, declarator_of, statement_of, init_declarators};
-ghost use Rattle.sp_syntax.specs.Depth.{specifiers_depth, declarator_depth};
-ghost use Rattle.sp_c_tokens.specs.Ended.{IsEnded};
-ghost use Rattle.sp_c_tokens.specs.Makers.{SpecifierAt, all_specifiers, place_of_first};
-ghost use Rattle.sp_c_tokens.specs.Scopes.{context_of};
-ghost use Rattle.sp_c_steps.specs.Reading.{Answers};
-ghost use Rattle.sp_c_steps.specs.Declaring.{declared_seen, shape_seen, item_seen};
-ghost use Rattle.sp_c_declarations.specs.Taking.{Takes};
+ghost use Rattle.sp_parse_grammar.specs.CTokens.{is_mark};
+ghost use Rattle.sp_parse_grammar.specs.CTokens as sorts_there;
+ghost use Rattle.sp_parse_grammar.specs.CTable as grammar;
+ghost use Rattle.sp_parse_trees.specs.Syntax as syntax;
+ghost use Rattle.sp_parse_trees.specs.View.{external_of, specifiers_of, declarator_of, statement_of, init_declarators};
+ghost use Rattle.sp_parse_trees.specs.Depth.{specifiers_depth, declarator_depth};
+ghost use Rattle.sp_parse_tokens.specs.Ended.{IsEnded};
+ghost use Rattle.sp_parse_tokens.specs.Makers.{SpecifierAt, all_specifiers, place_of_first};
+ghost use Rattle.sp_parse_tokens.specs.Scopes.{context_of};
+ghost use Rattle.sp_parse_expr_steps.specs.Reading.{Answers};
+ghost use Rattle.sp_parse_expr_steps.specs.Declaring.{declared_seen, shape_seen, item_seen};
+ghost use Rattle.sp_parse_declarations.specs.Taking.{Takes};
 ghost use Rattle.sp_decl_parser.specs.Seen.{external_part, specified, sort_of_first};
 
-use sp_c_declarations::{ItemList, first_item, read_initial, read_more_items, read_named};
-use sp_c_reader::read_specifiers;
-use sp_c_statements::read_compound;
-use sp_c_tokens::{
+use sp_parse_declarations::{ItemList, first_item, read_initial, read_more_items, read_named};
+use sp_parse_expr_reader::read_specifiers;
+use sp_parse_statements::read_compound;
+use sp_parse_tokens::{
     Context, Declared, DeclaredShape, Mark, Part, ReadError, Scope, SpecifierList, expect, is_mark,
     next_token, sort_at,
 };
-use sp_syntax::{Declaration, Declarator, External, InitDeclarator, Specifier, Statement};
+use sp_parse_trees::{Declaration, Declarator, External, InitDeclarator, Specifier, Statement};
 use sp_tree::{Place, Token};
 use std::alloc::{AllocError, Global};
 

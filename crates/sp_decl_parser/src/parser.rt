@@ -1,14 +1,14 @@
 //! The parser of units.
 ghost use Rattle.std.specs.Prelude.{◌≡◌, ◌-◌, ◌≤◌, length, take};
-ghost use Rattle.sp_c_tokens.specs.Ended.{IsEnded};
+ghost use Rattle.sp_parse_tokens.specs.Ended.{IsEnded};
 ghost use Rattle.sp_decl_parser.specs.Parsing.{UnitAnswers, UnitRefused};
 ghost use Rattle.sp_decl_parser.specs.Units.{IsUnitStop};
 
 use crate::units::read_unit;
-use sp_c_tokens::{ReadError, next_token, refined};
-use sp_c_units::units_are_parsed;
 use sp_expr_parser::ParseError;
-use sp_syntax::Unit;
+use sp_parse_laws::units_are_parsed;
+use sp_parse_tokens::{ReadError, next_token, refined};
+use sp_parse_trees::Unit;
 use sp_tree::{Fault, FaultKind, Token};
 use std::alloc::Global;
 
@@ -18,8 +18,8 @@ pub const MAX_DEPTH: u32 = 200;
 
 /// The one levelled unit (C90 6.7) that the tokens spell, with its places.
 ///
-/// Else the failing token, the first with which no unit goes on, with `F7` or one of `U4` to `U10`;
-/// or `M2` at a token up to which, itself included, units go on, each of them deeper than
+/// Else the failing token, the first with which no unit goes on, with `UnexpectedToken` or one of `OldStyleParameters` to `LongLong`;
+/// or `NestingTooDeep` at a token up to which, itself included, units go on, each of them deeper than
 /// [`MAX_DEPTH`]; or want of memory. The tokens end with `End`, which is nowhere else
 /// ([`crate::is_ended`]).
 pub fn parse_unit(alloc: Global, tokens: &[Token]) -> Result<Unit, ParseError>
@@ -59,7 +59,7 @@ fn error_of(tokens: &[Token], stop: ReadError<'_>) -> ParseError
         ReadError::TooDeep(rest) => {
             let (bad, _) = next_token(rest);
             ParseError::Fault(Fault {
-                kind: FaultKind::M2,
+                kind: FaultKind::NestingTooDeep,
                 place: bad.place,
             })
         }

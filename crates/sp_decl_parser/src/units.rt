@@ -1,19 +1,19 @@
 //! The reader of units (C90 6.7).
 ghost use Rattle.std.specs.Prelude.{◌≡◌, ◌++◌, ◌||◌, [], MatchResult, true, false, OnOk};
-ghost use Rattle.sp_grammar.specs.CTokens.{is_mark};
-ghost use Rattle.sp_grammar.specs.CTokens as sorts_there;
-ghost use Rattle.sp_grammar.specs.CTable as grammar;
-ghost use Rattle.sp_syntax.specs.View.{externals_of};
-ghost use Rattle.sp_c_tokens.specs.Codes.{sort_seen};
-ghost use Rattle.sp_c_tokens.specs.Ended.{IsEnded};
+ghost use Rattle.sp_parse_grammar.specs.CTokens.{is_mark};
+ghost use Rattle.sp_parse_grammar.specs.CTokens as sorts_there;
+ghost use Rattle.sp_parse_grammar.specs.CTable as grammar;
+ghost use Rattle.sp_parse_trees.specs.View.{externals_of};
+ghost use Rattle.sp_parse_tokens.specs.Codes.{sort_seen};
+ghost use Rattle.sp_parse_tokens.specs.Ended.{IsEnded};
 ghost use Rattle.sp_decl_parser.specs.Units.{IsUnitRead, IsUnitStop};
 
 use crate::externals::{ExternalPart, read_external};
-use sp_c_tokens::{
+use sp_parse_tokens::{
     AlsoAllowed, Context, Mark, Part, ReadError, Scope, Sort, TypeNames, begins_specifiers, fault,
     is_mark, next_token, sort_at,
 };
-use sp_syntax::External;
+use sp_parse_trees::External;
 use sp_tree::Token;
 use std::alloc::{AllocError, Global};
 

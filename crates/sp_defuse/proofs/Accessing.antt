@@ -3,11 +3,11 @@ use Rattle.std.proofs.Common.{◌≡◌, ◌⊎◌, ◌↔◌, inl, inr, ℕ, ze
 use Rattle.std.specs.Prelude.{slice_get}
 use Rattle.sp_ir.specs.Commands.{Node}
 use Rattle.sp_ir.specs.Programs.{Lowered}
-use Rattle.sp_sets.specs.Sets.{has}
-use Rattle.sp_sets.specs.Reached.{row, Reached, start, onward as further}
+use Rattle.sp_base_sets.specs.Sets.{has}
+use Rattle.sp_base_sets.specs.Reached.{row, Reached, start, onward as further}
 use Rattle.sp_graph.specs.Calls.{Callees, CallsTo, Leads, direct, onward, IsReached, function_of, function_in}
 use Rattle.sp_graph.specs.Supergraph.{InGraph, InFunction}
-use Rattle.sp_scenes.specs.Analysed.{Analysed}
+use Rattle.sp_effect_scene.specs.Analysed.{Analysed}
 use Rattle.sp_transfer.specs.Effects.{defined_at, used_at}
 use Rattle.sp_transfer.specs.Accesses.{Accesses}
 use Rattle.sp_defuse.specs.Accessed.{is_of, AreAccessed}

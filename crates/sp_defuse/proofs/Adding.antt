@@ -8,10 +8,10 @@ use Rattle.std.proofs.lemmas.List.Folds.{list_any_more}
 use Rattle.sp_ir.specs.Commands.{Node}
 use Rattle.sp_ir.specs.Programs.{Lowered}
 use Rattle.sp_ir.specs.Formed.{IsFormed}
-use Rattle.sp_sets.specs.Sets.{has}
-use Rattle.sp_sets.specs.Reached.{row}
+use Rattle.sp_base_sets.specs.Sets.{has}
+use Rattle.sp_base_sets.specs.Reached.{row}
 use Rattle.sp_graph.specs.Calls.{function_of, function_in}
-use Rattle.sp_updates.proofs.Numbers.{which, same_number, apart_numbers}
+use Rattle.sp_effect_rows.proofs.Numbers.{which, same_number, apart_numbers}
 use Rattle.sp_defuse.specs.Accessed.{is_of, AddsTo}
 
 -- ---- rows

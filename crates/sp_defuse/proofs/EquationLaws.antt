@@ -5,13 +5,13 @@ use Rattle.std.proofs.Props.{props}
 use Rattle.std.proofs.Math.Logic.{∥∥₁_elim}
 use Rattle.std.proofs.lemmas.List.{length-map, get_or-map}
 use Rattle.sp_lattice.specs.System.{has, AllBelow}
-use Rattle.sp_sets.specs.Reached.{row}
+use Rattle.sp_base_sets.specs.Reached.{row}
 use Rattle.sp_graph.specs.Supergraph.{Graph, InGraph, IsSupergraph}
-use Rattle.sp_rows.specs.Setting.{count}
-use Rattle.sp_scenes.proofs.Few.{ascending-few}
-use Rattle.sp_scenes.specs.Cells.{rising}
-use Rattle.sp_scenes.specs.Whole.{IsAnalysed}
-use Rattle.sp_scenes.specs.Analysed.{Analysed, setting_of}
+use Rattle.sp_effect_rows.specs.Setting.{count}
+use Rattle.sp_effect_scene.proofs.Few.{ascending-few}
+use Rattle.sp_effect_scene.specs.Cells.{rising}
+use Rattle.sp_effect_scene.specs.Whole.{IsAnalysed}
+use Rattle.sp_effect_scene.specs.Analysed.{Analysed, setting_of}
 use Rattle.sp_transfer.specs.Effects.{defined_at, used_at}
 use Rattle.sp_transfer.specs.Equations.{number_of, passes_between, AreLocations, AreEquations}
 use Rattle.sp_defuse.specs.declared.nodes.Node.{Node}

@@ -3,7 +3,7 @@ use Rattle.std.proofs.Common.{◌≡◌, ◌≢◌, ◌⊎◌, inl, inr, ℕ, ze
 use Rattle.std.specs.List.Sorted.{IsStrictlyIncreasing}
 use Rattle.std.proofs.lemmas.Bool.Decides.{nat_tests}
 use Rattle.std.proofs.lemmas.List.Kept.{AllPairs-from_increasing}
-use Rattle.sp_updates.proofs.Numbers.{which, side, same_number, apart_numbers}
+use Rattle.sp_effect_rows.proofs.Numbers.{which, side, same_number, apart_numbers}
 use Rattle.sp_defuse.specs.Sources.{stands_at}
 
 pub is-lower : (k n : ℕ) → k < n → nat_lt k n ≡ true

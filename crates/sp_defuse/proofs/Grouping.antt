@@ -5,10 +5,10 @@ use Rattle.std.proofs.lemmas.Bool.{false≢true}
 use Rattle.std.proofs.lemmas.List.{append-nil, length-replicate, get_or-replicate}
 use Rattle.std.proofs.lemmas.List.Elements.{filter_more}
 use Rattle.std.proofs.lemmas.List.Kept.{AllPairs-from_increasing}
-use Rattle.sp_sets.specs.Sets.{has}
-use Rattle.sp_sets.proofs.Members.{has_there}
+use Rattle.sp_base_sets.specs.Sets.{has}
+use Rattle.sp_base_sets.proofs.Members.{has_there}
 use Rattle.sp_graph.specs.declared.edge.Edge.{Edge}
-use Rattle.sp_updates.proofs.Numbers.{which, side, same_number, apart_numbers}
+use Rattle.sp_effect_rows.proofs.Numbers.{which, side, same_number, apart_numbers}
 use Rattle.sp_defuse.specs.Sources.{number_at, edges_from, AreGroups}
 
 distinct : (xs : List ℕ) → IsStrictlyIncreasing xs → (i j : ℕ) → i < length xs → j < length xs → i ≢ j → get_or xs i 0 ≢ get_or xs j 0

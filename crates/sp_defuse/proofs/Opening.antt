@@ -6,7 +6,7 @@ use Rattle.std.proofs.Math.Logic.{∥∥₁_elim}
 use Rattle.std.proofs.lemmas.Bool.{false≢true}
 use Rattle.std.proofs.lemmas.List.{get_or_append_left, get_or_push, get_or-append_right}
 use Rattle.sp_lattice.specs.System.{has}
-use Rattle.sp_sets.specs.Reached.{row}
+use Rattle.sp_base_sets.specs.Reached.{row}
 use Rattle.sp_graph.specs.declared.edge.Pass.{Pass}
 use Rattle.sp_graph.specs.declared.edge.Pass.TheVariants.{All, Inside, Beside}
 use Rattle.sp_graph.specs.declared.edge.Edge.{Edge}

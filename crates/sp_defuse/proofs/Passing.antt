@@ -3,7 +3,7 @@ use Rattle.std.proofs.Common.{◌≡◌, ℕ, ◌<◌, Bool, true, false, cond, 
 use Rattle.std.specs.Prelude.{filter}
 use Rattle.std.specs.List.{list_any}
 use Rattle.std.proofs.lemmas.Bool.{false≢true}
-use Rattle.sp_sets.specs.Sets.{has}
+use Rattle.sp_base_sets.specs.Sets.{has}
 use Rattle.sp_graph.specs.declared.edge.Edge.{Edge}
 use Rattle.sp_graph.specs.Supergraph.{Graph, edges_at, passes_by}
 use Rattle.sp_transfer.specs.Equations.{is_joined, passes_between}

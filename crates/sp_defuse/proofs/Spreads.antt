@@ -3,13 +3,13 @@ use Rattle.std.proofs.Common.{◌≡◌, ◌≢◌, ◌⊎◌, ◌↔◌, inl, i
 use Rattle.std.proofs.lemmas.Bool.{false≢true}
 use Rattle.std.proofs.lemmas.List.{append-nil, append_assoc, map-set, length-map, length-replicate}
 use Rattle.std.proofs.lemmas.List.Folds.{list_any_more, list_any-append}
-use Rattle.sp_sets.specs.Sets.{has}
-use Rattle.sp_sets.specs.Marks.{IsMarked}
-use Rattle.sp_sets.specs.Reached.{row, Reached, start, onward}
-use Rattle.sp_sets.proofs.Members.{has_there}
-use Rattle.sp_sets.proofs.Images.{or-cases, or-left, or-right, place_of}
-use Rattle.sp_sets.proofs.Marking.{marked_pushed, marked_none, marked_few, mark_low}
-use Rattle.sp_updates.proofs.Numbers.{which, side, same_number, apart_numbers}
+use Rattle.sp_base_sets.specs.Sets.{has}
+use Rattle.sp_base_sets.specs.Marks.{IsMarked}
+use Rattle.sp_base_sets.specs.Reached.{row, Reached, start, onward}
+use Rattle.sp_base_sets.proofs.Members.{has_there}
+use Rattle.sp_base_sets.proofs.Images.{or-cases, or-left, or-right, place_of}
+use Rattle.sp_base_sets.proofs.Marking.{marked_pushed, marked_none, marked_few, mark_low}
+use Rattle.sp_effect_rows.proofs.Numbers.{which, side, same_number, apart_numbers}
 use Rattle.sp_defuse.specs.declared.spreading.Spread.{Spread}
 use Rattle.sp_defuse.specs.Spreading.{marks_of, IsListed, Keeps, Comes}
 use Rattle.sp_defuse.proofs.Adding.{nothing-there}

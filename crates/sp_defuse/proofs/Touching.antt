@@ -5,18 +5,18 @@ use Rattle.std.proofs.Props.{props}
 use Rattle.std.proofs.Math.Logic.{∥∥₁_elim}
 use Rattle.std.proofs.lemmas.List.{length-replicate}
 use Rattle.std.proofs.lemmas.List.Folds.{list_any_more}
-use Rattle.sp_sets.specs.Sets.{has}
-use Rattle.sp_sets.specs.Reached.{row}
+use Rattle.sp_base_sets.specs.Sets.{has}
+use Rattle.sp_base_sets.specs.Reached.{row}
 use Rattle.sp_graph.specs.Calls.{function_of}
-use Rattle.sp_rows.specs.Setting.{count}
+use Rattle.sp_effect_rows.specs.Setting.{count}
 use Rattle.sp_ir.specs.Regions.{is_cell}
-use Rattle.sp_scenes.specs.Analysed.{Analysed, setting_of, locations_of}
-use Rattle.sp_scenes.specs.Cells.{numbers-few}
-use Rattle.sp_scenes.specs.Whole.{IsAnalysed}
-use Rattle.sp_calls.proofs.StoringSteps.{low-member}
+use Rattle.sp_effect_scene.specs.Analysed.{Analysed, setting_of, locations_of}
+use Rattle.sp_effect_scene.specs.Cells.{numbers-few}
+use Rattle.sp_effect_scene.specs.Whole.{IsAnalysed}
+use Rattle.sp_effect_call.proofs.StoringSteps.{low-member}
 use Rattle.sp_transfer.specs.Effects.{defined_at, used_at}
 use Rattle.sp_transfer.specs.Equations.{AreLocations}
-use Rattle.sp_accesses.proofs.Steps.{take-whole}
+use Rattle.sp_effect_uses.proofs.Steps.{take-whole}
 use Rattle.sp_defuse.specs.declared.nodes.Node.{Node}
 use Rattle.sp_defuse.specs.Nodes.{IsNode, AreNodes}
 use Rattle.sp_defuse.specs.Accessed.{is_of, is_touched, is_called, AddsTo}

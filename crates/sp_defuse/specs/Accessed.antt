@@ -3,10 +3,10 @@ use Rattle.std.specs.Prelude.{◌≡◌, ◌↔◌, ℕ, nat_eq, Bool, true, ◌
 use Rattle.std.specs.List.{list_any}
 use Rattle.std.specs.Option.{option_eq}
 use Rattle.sp_ir.specs.Programs.{Lowered}
-use Rattle.sp_sets.specs.Sets.{has}
-use Rattle.sp_sets.specs.Reached.{row, Reached}
+use Rattle.sp_base_sets.specs.Sets.{has}
+use Rattle.sp_base_sets.specs.Reached.{row, Reached}
 use Rattle.sp_graph.specs.Calls.{function_of}
-use Rattle.sp_scenes.specs.Analysed.{Analysed}
+use Rattle.sp_effect_scene.specs.Analysed.{Analysed}
 use Rattle.sp_transfer.specs.Effects.{defined_at, used_at}
 
 abbrev pub is_of : Lowered → ℕ → ℕ → Bool

@@ -1,6 +1,6 @@
 -- What is kept of each node of the supergraph.
 use Rattle.std.specs.Prelude.{◌≡◌, ℕ, List}
-use Rattle.sp_scenes.specs.Analysed.{Analysed}
+use Rattle.sp_effect_scene.specs.Analysed.{Analysed}
 use Rattle.sp_transfer.specs.Effects.{defined_at, used_at}
 use Rattle.sp_transfer.specs.Equations.{AreLocations}
 use Rattle.sp_defuse.specs.Lists.{Each}

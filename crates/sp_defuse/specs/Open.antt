@@ -1,12 +1,12 @@
 -- Nodes into which everything passes.
 use Rattle.std.specs.Prelude.{◌≡◌, ◌<◌, ℕ, Bool, true, false, List, length, slice_index_or}
 use Rattle.sp_lattice.specs.System.{has}
-use Rattle.sp_sets.specs.Reached.{row}
+use Rattle.sp_base_sets.specs.Reached.{row}
 use Rattle.sp_graph.specs.declared.edge.Pass.{Pass}
 use Rattle.sp_graph.specs.declared.edge.Pass.TheVariants.{All, Inside, Beside}
 use Rattle.sp_graph.specs.declared.edge.Edge.{Edge}
-use Rattle.sp_rows.specs.Setting.{count}
-use Rattle.sp_scenes.specs.Analysed.{setting_of}
+use Rattle.sp_effect_rows.specs.Setting.{count}
+use Rattle.sp_effect_scene.specs.Analysed.{setting_of}
 use Rattle.sp_transfer.specs.Equations.{Equations, nodes_of, number_of, passes_between}
 
 abbrev pub is_all : Pass → Bool

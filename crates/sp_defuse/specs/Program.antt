@@ -1,5 +1,5 @@
 -- The equations of a program, as the layers above name them.
-use Rattle.sp_scenes.specs.View.{analysed_of}
+use Rattle.sp_effect_scene.specs.View.{analysed_of}
 use Rattle.sp_transfer.specs.Equations.{Equations}
 use Rattle.sp_defuse.specs.View.{equations_of}
 use Rattle.sp_defuse.specs.declared.programs.CProgram.{CProgram}

@@ -1,7 +1,7 @@
 -- The edges that lead into a node, by the nodes that they lead from.
 use Rattle.std.specs.Prelude.{◌≡◌, ◌<◌, ℕ, nat_eq, nat_lt, Bool, ◌&&◌, List, [], filter, length, slice_index_or}
 use Rattle.std.specs.List.{list_any}
-use Rattle.sp_sets.specs.Sets.{has}
+use Rattle.sp_base_sets.specs.Sets.{has}
 use Rattle.sp_graph.specs.declared.edge.Edge.{Edge}
 use Rattle.sp_graph.specs.Supergraph.{Graph, edges_at}
 use Rattle.sp_defuse.specs.Lists.{Each}

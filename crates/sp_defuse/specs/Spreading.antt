@@ -1,8 +1,8 @@
 -- A location comes to the sets of functions, from each to its callers.
 use Rattle.std.specs.Prelude.{◌≡◌, ◌≢◌, ◌||◌, ◌++◌, ℕ, Bool, List, map, length}
-use Rattle.sp_sets.specs.Sets.{has}
-use Rattle.sp_sets.specs.Reached.{row}
-use Rattle.sp_sets.specs.Marks.{IsMarked}
+use Rattle.sp_base_sets.specs.Sets.{has}
+use Rattle.sp_base_sets.specs.Reached.{row}
+use Rattle.sp_base_sets.specs.Marks.{IsMarked}
 use Rattle.sp_defuse.specs.declared.spreading.Spread.{Spread}
 
 -- which sets have a location

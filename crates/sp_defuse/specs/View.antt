@@ -1,7 +1,7 @@
 -- The equations that what is kept stands for.
 use Rattle.std.specs.Prelude.{List, map}
 use Rattle.sp_graph.specs.Supergraph.{Graph}
-use Rattle.sp_scenes.specs.Analysed.{Analysed}
+use Rattle.sp_effect_scene.specs.Analysed.{Analysed}
 use Rattle.sp_transfer.specs.Equations.{Equations}
 use Rattle.sp_defuse.specs.declared.nodes.Node.{Node}
 use Rattle.sp_defuse.specs.declared.sources.Sources.{Sources}

@@ -2,19 +2,19 @@
 ghost use Rattle.std.specs.Prelude.{◌≡◌, ◌↔◌, ◌<◌, ◌^◌, ◌&&◌, ◌||◌, ℕ, nat_eq, true, Some, length, IfOk, OnOk};
 ghost use Rattle.std.specs.Option.{option_eq};
 ghost use Rattle.sp_ir.specs.Programs.{lowered_of};
-ghost use Rattle.sp_sets.specs.Sets.{has};
-ghost use Rattle.sp_sets.specs.Reached.{row, Reached};
+ghost use Rattle.sp_base_sets.specs.Sets.{has};
+ghost use Rattle.sp_base_sets.specs.Reached.{row, Reached};
 ghost use Rattle.sp_graph.specs.Calls.{function_of};
-ghost use Rattle.sp_scenes.specs.Analysed.{locations_of};
-ghost use Rattle.sp_scenes.specs.View.{analysed_of};
+ghost use Rattle.sp_effect_scene.specs.Analysed.{locations_of};
+ghost use Rattle.sp_effect_scene.specs.View.{analysed_of};
 ghost use Rattle.sp_defuse.specs.Nodes.{AreNodes};
 ghost use Rattle.sp_defuse.specs.Accessed.{is_touched, is_called, AddsTo, AreAccessed};
 
 use crate::nodes::Node;
 use crate::spreading::spread_all;
+use sp_base_sets::NumberSet;
+use sp_effect_scene::Analysis;
 use sp_ir::Lowered;
-use sp_scenes::Analysis;
-use sp_sets::NumberSet;
 use std::alloc::{AllocError, Global};
 
 fn function_of(lowered: &Lowered, node: u32) -> Option<u32>

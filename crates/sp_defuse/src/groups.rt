@@ -1,13 +1,13 @@
 //! The edges into a node, in groups by where they lead from.
 ghost use Rattle.std.specs.Prelude.{◌≡◌, ◌<◌, ◌^◌, ◌++◌, ◌∷◌, [], cond, ℕ, nat_eq, true, length, slice_index_or, IfOk, OnOk};
 ghost use Rattle.std.specs.List.Sorted.{IsStrictlyIncreasing};
-ghost use Rattle.sp_sets.specs.Sets.{has};
+ghost use Rattle.sp_base_sets.specs.Sets.{has};
 ghost use Rattle.sp_graph.specs.Supergraph.{edges_at};
 ghost use Rattle.sp_defuse.specs.Sources.{number_at, AreGroups};
 
 use crate::edges::Edges;
+use sp_effect_rows::find_place;
 use sp_graph::{Edge, Flow};
-use sp_updates::find_place;
 use std::alloc::{AllocError, Global};
 
 /// Adds an edge to the group of the place from which it leads.

@@ -1,12 +1,12 @@
 //! The nodes of the system.
 ghost use Rattle.std.specs.Prelude.{◌≡◌, IfOk};
-ghost use Rattle.sp_scenes.specs.View.{analysed_of};
-ghost use Rattle.sp_accesses.specs.Locals.{AreLocals};
+ghost use Rattle.sp_effect_scene.specs.View.{analysed_of};
+ghost use Rattle.sp_effect_uses.specs.Locals.{AreLocals};
 ghost use Rattle.sp_defuse.specs.Nodes.{IsNode, AreNodes};
 
-use sp_accesses::{definitions, local_cells, uses};
-use sp_scenes::Analysis;
-use sp_sets::NumberSet;
+use sp_base_sets::NumberSet;
+use sp_effect_scene::Analysis;
+use sp_effect_uses::{definitions, local_cells, uses};
 use std::alloc::{AllocError, Global};
 
 /// A node of the supergraph.

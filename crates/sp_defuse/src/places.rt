@@ -1,13 +1,13 @@
 //! The places of the nodes from which edges lead into a node.
 ghost use Rattle.std.specs.Prelude.{◌≡◌, ◌<◌, ◌^◌, ◌||◌, ℕ, length, IfOk, OnOk};
 ghost use Rattle.std.specs.List.Sorted.{IsStrictlyIncreasing};
-ghost use Rattle.sp_sets.specs.Sets.{has};
+ghost use Rattle.sp_base_sets.specs.Sets.{has};
 ghost use Rattle.sp_graph.specs.Supergraph.{edges_at};
 ghost use Rattle.sp_defuse.specs.Sources.{stands_at, is_source};
 
+use sp_base_sets::NumberSet;
+use sp_effect_rows::find_place;
 use sp_graph::Flow;
-use sp_sets::NumberSet;
-use sp_updates::find_place;
 use std::alloc::{AllocError, Global};
 
 /// Adds the place of a node, where it is in the list.

@@ -1,7 +1,7 @@
 //! An analysed program as a system of equations.
 ghost use Rattle.std.specs.Prelude.{◌≡◌, ◌<◌, ◌^◌, length, map};
 ghost use Rattle.std.proofs.Props.{props};
-ghost use Rattle.sp_scenes.specs.View.{analysed_of};
+ghost use Rattle.sp_effect_scene.specs.View.{analysed_of};
 ghost use Rattle.sp_transfer.specs.Equations.{AreEquations};
 ghost use Rattle.sp_defuse.specs.Sources.{AreSources};
 ghost use Rattle.sp_defuse.specs.View.{equations_of};
@@ -10,11 +10,11 @@ ghost use Rattle.sp_defuse.specs.declared.nodes.Node.{Node};
 use crate::accessed::accessed;
 use crate::nodes::{Node, nodes_of};
 use crate::sources::Sources;
+use sp_effect_rows::GivenAt;
+use sp_effect_scene::Analysis;
 use sp_graph::{Flow, localise};
 use sp_lattice::{Steps, System};
-use sp_scenes::Analysis;
 use sp_transfer::effect;
-use sp_updates::GivenAt;
 use sp_value::Slot;
 use std::alloc::{AllocError, Global};
 use std::sync::ledger::Ledger;
@@ -37,7 +37,7 @@ pub struct CProgram {
 
 impl CProgram {
     ghost use Rattle.std.specs.Prelude.{◌≡◌, map, IfOk};
-    ghost use Rattle.sp_scenes.specs.View.{analysed_of};
+    ghost use Rattle.sp_effect_scene.specs.View.{analysed_of};
 
     /// The system of an analysed program.
     pub fn new(alloc: Global, analysis: Analysis) -> Result<CProgram, AllocError>

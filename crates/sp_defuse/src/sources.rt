@@ -4,9 +4,9 @@ ghost use Rattle.std.specs.Prelude.{◌≡◌, ◌<◌, ◌^◌, length};
 use crate::edges::Edges;
 use crate::groups::groups_of;
 use crate::places::places_into;
+use sp_base_sets::NumberSet;
+use sp_effect_rows::find_place;
 use sp_graph::Flow;
-use sp_sets::NumberSet;
-use sp_updates::find_place;
 use std::alloc::{AllocError, Global};
 
 /// The nodes from which edges lead into a node, by their places in the graph, ascending, and for

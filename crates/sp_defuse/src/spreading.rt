@@ -4,11 +4,11 @@
 //! a worklist. So a set grows at its end, and the time is about that of the sets' sizes and of the
 //! calls between functions that have a location, whatever the number of functions.
 ghost use Rattle.std.specs.Prelude.{◌≡◌, ◌↔◌, ◌<◌, ◌^◌, ◌∷◌, ℕ, [], true, false, length, IfOk, OnOk};
-ghost use Rattle.sp_sets.specs.Sets.{has};
-ghost use Rattle.sp_sets.specs.Reached.{row, Reached};
+ghost use Rattle.sp_base_sets.specs.Sets.{has};
+ghost use Rattle.sp_base_sets.specs.Reached.{row, Reached};
 ghost use Rattle.sp_defuse.specs.Spreading.{IsListed, Keeps, Comes};
 
-use sp_sets::NumberSet;
+use sp_base_sets::NumberSet;
 use std::alloc::{AllocError, Global};
 
 /// The locations that each function has so far, and the functions to which the last one came, in

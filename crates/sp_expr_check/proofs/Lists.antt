@@ -3,11 +3,11 @@ use Rattle.std.proofs.Common.{◌≡◌}
 use Rattle.std.specs.Prelude.{Err}
 use Rattle.sp_tree.specs.declared.fault.FaultKind.{FaultKind}
 use Rattle.sp_tree.specs.declared.fault.Place.{Place}
-use Rattle.sp_operands.specs.Answers.{Checked, refused, AnswersIn}
-use Rattle.sp_operands.specs.declared.error.CheckError.{CheckError}
-use Rattle.sp_operands.specs.declared.error.CheckError.TheVariants.{Fault as Faulty, NoMemory}
-use Rattle.sp_env.specs.Declaring.{LeadsTo}
-use Rattle.sp_expr_steps.proofs.Lists.{list_form}
+use Rattle.sp_base_checked.specs.Answers.{Checked, refused, AnswersIn}
+use Rattle.sp_base_checked.specs.declared.error.CheckError.{CheckError}
+use Rattle.sp_base_checked.specs.declared.error.CheckError.TheVariants.{Fault as Faulty, NoMemory}
+use Rattle.sp_check_env.specs.Declaring.{LeadsTo}
+use Rattle.sp_check_expr_steps.proofs.Lists.{list_form}
 
 pub ruleset lists = (list_form)
 

@@ -1,25 +1,25 @@
 //! The calls from above, each outside the cycle of the walk.
-ghost use Rattle.sp_syntax.specs.View.{tree_of, declarator_of, specifiers_of};
+ghost use Rattle.sp_parse_trees.specs.View.{tree_of, declarator_of, specifiers_of};
 ghost use Rattle.sp_types.specs.View.{type_of};
 ghost use Rattle.sp_types.specs.TypedView.{boxed_of};
-ghost use Rattle.sp_operands.specs.Answers.{AnswersIn};
-ghost use Rattle.sp_env.specs.Views.{env_of};
-ghost use Rattle.sp_expr_steps.specs.Expressions.{
+ghost use Rattle.sp_base_checked.specs.Answers.{AnswersIn};
+ghost use Rattle.sp_check_env.specs.Views.{env_of};
+ghost use Rattle.sp_check_expr_steps.specs.Expressions.{
   value_checked,
   declared_type,
   specifiers_checked,
   length_checked,
   list_checked,
 };
-ghost use Rattle.sp_expr_steps.specs.SyntaxView.{declarator_form_of};
-ghost use Rattle.sp_type_rules.specs.DerivationView.{parameters_seen};
+ghost use Rattle.sp_check_expr_steps.specs.SyntaxView.{declarator_form_of};
+ghost use Rattle.sp_check_type_names.specs.DerivationView.{parameters_seen};
 
 use crate::expressions::{
     declared_type, length_checked, list_checked, specifiers_checked, value_checked,
 };
-use sp_env::Env;
-use sp_operands::CheckError;
-use sp_syntax::{Declarator, DeclaratorForm, Expr, Specifier};
+use sp_base_checked::CheckError;
+use sp_check_env::Env;
+use sp_parse_trees::{Declarator, DeclaratorForm, Expr, Specifier};
 use sp_tree::{Names, Place};
 use sp_types::{CType, TypedExpr};
 use std::alloc::Global;
@@ -42,7 +42,7 @@ pub fn check_expression(
 
 /// The type that specifiers name, or their fault. `alone` says that no declarator follows, so that
 /// `struct s;` declares a tag of the innermost scope. `at` is the place of what they stand in, at which
-/// F8 stands where a name of a type is none here.
+/// UndeclaredName stands where a name of a type is none here.
 ///
 /// The tags, structs and enumeration constants that they declare go to the environment.
 pub fn check_specifiers(

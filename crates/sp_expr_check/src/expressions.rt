@@ -1,6 +1,6 @@
 //! The typing of expressions, type names and declarators: one walk from left to right.
 ghost use Rattle.std.specs.Prelude.{◌≡◌, [], map, true, pos, unwrap_or};
-ghost use Rattle.sp_syntax.specs.View.{
+ghost use Rattle.sp_parse_trees.specs.View.{
   tree_of,
   type_name_of,
   declarator_of,
@@ -13,21 +13,21 @@ ghost use Rattle.sp_syntax.specs.View.{
 ghost use Rattle.sp_types.specs.Types.{parameters_of};
 ghost use Rattle.sp_types.specs.View.{type_of, signature_of};
 ghost use Rattle.sp_types.specs.TypedView.{boxed_of, typed_list, typed_of};
-ghost use Rattle.sp_operands.specs.Answers.{AnswersIn};
-ghost use Rattle.sp_rules.specs.Rules.{told};
-ghost use Rattle.sp_env.specs.Declaring.{LeadsTo};
-ghost use Rattle.sp_env.specs.Views.{env_of};
-ghost use Rattle.sp_type_rules.specs.DerivationView.{derivation_of, parameters_seen};
-ghost use Rattle.sp_expr_steps.specs.Parameters.{params_of, is_alone_in};
-ghost use Rattle.sp_expr_steps.specs.SyntaxView.{
+ghost use Rattle.sp_base_checked.specs.Answers.{AnswersIn};
+ghost use Rattle.sp_check_binary_rules.specs.Rules.{told};
+ghost use Rattle.sp_check_env.specs.Declaring.{LeadsTo};
+ghost use Rattle.sp_check_env.specs.Views.{env_of};
+ghost use Rattle.sp_check_type_names.specs.DerivationView.{derivation_of, parameters_seen};
+ghost use Rattle.sp_check_expr_steps.specs.Parameters.{params_of, is_alone_in};
+ghost use Rattle.sp_check_expr_steps.specs.SyntaxView.{
   form_of,
   declarator_form_of,
   struct_spec_of,
   enum_spec_of,
   init_declarator_of,
 };
-ghost use Rattle.sp_operands.specs.Balances.{members_seen};
-ghost use Rattle.sp_expr_steps.specs.Expressions.{
+ghost use Rattle.sp_check_operands.specs.Balances.{members_seen};
+ghost use Rattle.sp_check_expr_steps.specs.Expressions.{
   checked,
   value_checked,
   form_checked,
@@ -59,28 +59,28 @@ ghost use Rattle.sp_expr_steps.specs.Expressions.{
   one_checked,
 };
 
-use sp_env::Env;
-use sp_expr_steps::{
+use sp_base_checked::{CheckError, fault};
+use sp_base_kept::{keeping, pushed};
+use sp_check_env::Env;
+use sp_check_expr_steps::{
     argument_made, array_derived, as_it_stands, as_value, call_made, callee_declared, cast_of,
     chosen, derived, function_derived, is_alone_in, length_told, list_told, made_of, member_added,
     names_type, next_enumerator, operated, paired, param_told, size_of_type, struct_closed,
     struct_opened,
 };
-use sp_kept::{keeping, pushed};
-use sp_member_rules::{
+use sp_check_members::{
     MemberList, declared_name, enumerator, has_parameter_storage, is_lone_void, reserved,
     with_enum_tag,
 };
-use sp_names::{character_checked, name_checked, number_checked, text_checked};
-use sp_operands::{CheckError, fault};
-use sp_syntax::{
+use sp_check_primaries::{character_checked, name_checked, number_checked, text_checked};
+use sp_check_type_names::{Derivation, enum_referred, named_checked, struct_referred, words_type};
+use sp_check_unary_rules::{called_signature, takes_object};
+use sp_parse_trees::{
     Declaration, Declarator, DeclaratorForm, EnumSpec, Expr, ExprForm, InitDeclarator, Param,
     Specifier, StructSpec, TypeName,
 };
 use sp_tree::{FaultKind, Names, Place};
-use sp_type_rules::{Derivation, enum_referred, named_checked, struct_referred, words_type};
 use sp_types::{CType, IntKind, Signature, TypedExpr};
-use sp_unary_rules::{called_signature, takes_object};
 use std::alloc::Global;
 
 /// An expression as it stands.
@@ -183,7 +183,7 @@ fn indexed_or_called(
             let arguments = arguments_checked(alloc, form, env, names, &signature);
             call_made(alloc, env, place, mark, signature, callee, arguments)
         }
-        _ => fault(FaultKind::F14, place),
+        _ => fault(FaultKind::BadOperand, place),
     }
 }
 
@@ -239,7 +239,7 @@ fn operation(
             let e = value_checked(alloc, env, names, e);
             cast_of(alloc, to, place, mark, at, e)
         }
-        _ => fault(FaultKind::F14, place),
+        _ => fault(FaultKind::BadOperand, place),
     }
 }
 
@@ -281,7 +281,7 @@ fn joined(
             let b = value_checked(alloc, env, names, b);
             paired(alloc, env, form, place, mark, a, b)
         }
-        _ => fault(FaultKind::F14, place),
+        _ => fault(FaultKind::BadOperand, place),
     }
 }
 
@@ -486,7 +486,7 @@ fn param_checked(
 {
     let at = param.declarator.place;
     if !has_parameter_storage(&param.specifiers) {
-        return fault(FaultKind::F14, at);
+        return fault(FaultKind::BadOperand, at);
     }
     let name = declared_name(&param.declarator);
     let number = reserved(alloc, env, name)?;

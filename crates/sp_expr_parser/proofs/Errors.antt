@@ -3,23 +3,23 @@ use Rattle.std.proofs.Common.{◌≡◌, ◌≢◌, ℕ, zero, suc, ◌+◌, ◌
 use Rattle.std.proofs.lemmas.List.{append_assoc, take-append-drop}
 use Rattle.sp_tree.specs.declared.fault.Fault.{Fault}
 use Rattle.sp_tree.specs.declared.fault.FaultKind.{FaultKind}
-use Rattle.sp_tree.specs.declared.fault.FaultKind.TheVariants.{M2}
+use Rattle.sp_tree.specs.declared.fault.FaultKind.TheVariants.{NestingTooDeep}
 use Rattle.sp_tree.specs.declared.token.Kind.{Kind}
 use Rattle.sp_tree.specs.declared.token.Kind.TheVariants.{End}
 use Rattle.sp_tree.specs.declared.token.Token.{Token}
-use Rattle.sp_grammar.specs.Table.{ask, Reads, Fails}
-use Rattle.sp_grammar.specs.Depth.{Nests}
-use Rattle.sp_grammar.proofs.Readings.{at_tokens, fault_at_tokens}
-use Rattle.sp_c_tokens.specs.Sorts.{c_tokens}
-use Rattle.sp_c_tokens.specs.SyntaxTrees.{c_table}
-use Rattle.sp_c_tokens.specs.Depths.{c_depths}
-use Rattle.sp_c_tokens.specs.Makers.{first_place}
-use Rattle.sp_c_tokens.specs.Ended.{IsEnded}
-use Rattle.sp_c_tokens.specs.Faults.{Wanted}
-use Rattle.sp_c_grammar.specs.Answers.{Language, kinds_of, BeginsTree, IsTree, IsFirstBad, IsNested}
-use Rattle.sp_c_grammar.proofs.Lifts.{Reader, longest_tree, first_bad, nested_begins, nested_tree}
-use Rattle.sp_c_grammar.proofs.Calls.{expression_reader, type_name_reader, specifiers_reader, declarator_reader}
-use Rattle.sp_c_grammar.proofs.Instead.{Split, longer, same as alike, shorter, split, read_on, failed_later, failed_there, not_before, nested_later, within}
+use Rattle.sp_parse_grammar.specs.Table.{ask, Reads, Fails}
+use Rattle.sp_parse_grammar.specs.Depth.{Nests}
+use Rattle.sp_parse_grammar.proofs.Readings.{at_tokens, fault_at_tokens}
+use Rattle.sp_parse_tokens.specs.Sorts.{c_tokens}
+use Rattle.sp_parse_tokens.specs.SyntaxTrees.{c_table}
+use Rattle.sp_parse_tokens.specs.Depths.{c_depths}
+use Rattle.sp_parse_tokens.specs.Makers.{first_place}
+use Rattle.sp_parse_tokens.specs.Ended.{IsEnded}
+use Rattle.sp_parse_tokens.specs.Faults.{Wanted}
+use Rattle.sp_parse_laws.specs.Answers.{Language, kinds_of, BeginsTree, IsTree, IsFirstBad, IsNested}
+use Rattle.sp_parse_laws.proofs.Lifts.{Reader, longest_tree, first_bad, nested_begins, nested_tree}
+use Rattle.sp_parse_laws.proofs.Calls.{expression_reader, type_name_reader, specifiers_reader, declarator_reader}
+use Rattle.sp_parse_laws.proofs.Instead.{Split, longer, same as alike, shorter, split, read_on, failed_later, failed_there, not_before, nested_later, within}
 use Rattle.sp_expr_parser.specs.declared.call.Call.{Call}
 use Rattle.sp_expr_parser.specs.declared.call.Call.TheVariants as calls
 use Rattle.sp_expr_parser.specs.declared.error.ParseError.{ParseError}
@@ -151,7 +151,7 @@ module _ (call : Call) (types : List ℕ) (front : List Token) (x e : Token) (to
   could_deep d rest h ended less = deep_by d rest h rest refl ended less
 
   -- it was passed before
-  pub passed_before : (d : ℕ) (rest : List Token) → Nests c_table c_depths (ask_of call types) d (c_tokens tokens) (c_tokens rest) → (bad : Token) (more : List Token) → rest ≡ bad ∷ more → 2 < length rest → IsPassed (language_of call) types d front (errors.Fault (record { kind = M2; place = bad.place }))
+  pub passed_before : (d : ℕ) (rest : List Token) → Nests c_table c_depths (ask_of call types) d (c_tokens tokens) (c_tokens rest) → (bad : Token) (more : List Token) → rest ≡ bad ∷ more → 2 < length rest → IsPassed (language_of call) types d front (errors.Fault (record { kind = NestingTooDeep; place = bad.place }))
   passed_before d rest h bad more same less =
       let n = ask_of call types in
       let f = nests_front n d tokens rest h in
@@ -166,7 +166,7 @@ module _ (call : Call) (types : List ℕ) (front : List Token) (x e : Token) (to
         bad = deep.bad;
         after = in_front.0;
         whole = in_front.1;
-        same = ap (λ (v : Token). errors.Fault (record { kind = M2; place = v.place })) one;
+        same = ap (λ (v : Token). errors.Fault (record { kind = NestingTooDeep; place = v.place })) one;
         goes_on = deep.goes_on;
         deeper = deep.deeper;
       }
@@ -192,7 +192,7 @@ module _ (call : Call) (types : List ℕ) (depth : ℕ) (before text : List Toke
         why = inl (record { front = front; bad = bad; more = more; whole = whole; counted = refl; failing = first; want = w; fails = fails; kind = is });
       }
 
-  pub deep_refused : (rest : List Token) → Nests c_table c_depths (ask_of call types) depth (c_tokens text) (c_tokens rest) → (bad : Token) (more : List Token) → rest ≡ bad ∷ more → IsRefused (language_of call) (ask_of call types) types depth before text (record { kind = M2; place = bad.place })
+  pub deep_refused : (rest : List Token) → Nests c_table c_depths (ask_of call types) depth (c_tokens text) (c_tokens rest) → (bad : Token) (more : List Token) → rest ≡ bad ∷ more → IsRefused (language_of call) (ask_of call types) types depth before text (record { kind = NestingTooDeep; place = bad.place })
   deep_refused rest h bad more same =
       let n = ask_of call types in
       let f = nests_front n depth text rest h in
@@ -210,7 +210,7 @@ module _ (call : Call) (types : List ℕ) (depth : ℕ) (before text : List Toke
   passed_refused front bad more whole errors.NoMemory h = tt
   passed_refused front bad more whole (errors.Fault fault) h =
       let all : text ≡ h.before ++ h.bad ∷ (h.after ++ bad ∷ more) = whole ∙ whole_front front h.before h.after more h.bad bad h.whole in
-      let is : fault ≡ record { kind = M2; place = h.bad.place } = fault_is fault (record { kind = M2; place = h.bad.place }) h.same in
+      let is : fault ≡ record { kind = NestingTooDeep; place = h.bad.place } = fault_is fault (record { kind = NestingTooDeep; place = h.bad.place }) h.same in
       record {
         count = length h.before;
         place = ap (λ (v : Fault). v.place) is ∙ placed h.before h.bad (h.after ++ bad ∷ more) all;

@@ -3,38 +3,38 @@ use Rattle.std.proofs.Common.{◌≡◌, ℕ, zero, suc, ◌+◌, ◌-◌, ◌�
 use Rattle.std.proofs.lemmas.List.{map-append}
 use Rattle.std.specs.Prelude.{Option, is_some, if◌then◌else◌}
 use Rattle.sp_tree.specs.declared.token.Token.{Token}
-use Rattle.sp_c_tokens.specs.declared.scope.Scope.{Scope}
-use Rattle.sp_c_tokens.specs.declared.scope.AlsoAllowed.TheVariants as purposes
-use Rattle.sp_c_tokens.specs.declared.part.ReadError.{ReadError}
-use Rattle.sp_grammar.specs.CTokens as tokens
-use Rattle.sp_grammar.specs.CTokens.{Sort, Seen, view, is_mark, add, nothing_seen}
-use Rattle.sp_grammar.specs.CTable as grammar
-use Rattle.sp_grammar.specs.CTable.{Ask, Answer, Context, Item, at, outside, plan, next, get, c_symbols, specifiers_plan}
-use Rattle.sp_grammar.specs.CTrees.{TokenOf}
-use Rattle.sp_grammar.specs.Table.{Plan, ask, done, Reads, Fails, asked, Opens, open_take, open_call}
-use Rattle.sp_grammar.specs.Depth.{Nests, nests, deep_here}
-use Rattle.sp_grammar.proofs.Readings.{front_of, fault_front, spelled, fault_spelled, at_tokens}
-use Rattle.sp_grammar.proofs.Nesting.{deep_front, deep_spelled}
-use Rattle.sp_c_tokens.specs.Sorts.{Terminal, terminal, sort_of, c_tokens}
-use Rattle.sp_c_tokens.specs.SyntaxTrees.{syntax_trees, c_table}
-use Rattle.sp_c_tokens.specs.Depths.{c_depths}
-use Rattle.sp_c_tokens.specs.Depths as deep
-use Rattle.sp_c_tokens.specs.Makers.{first_place}
-use Rattle.sp_c_tokens.specs.Faults.{Wanted, begins_declarator}
-use Rattle.sp_c_tokens.specs.Ended.{IsEnded}
-use Rattle.sp_c_grammar.specs.Answers.{Language, IsLongest}
-use Rattle.sp_c_grammar.proofs.Lifts.{Reader, longest_tree}
-use Rattle.sp_c_tokens.specs.Scopes.{there}
-use Rattle.sp_c_steps.specs.Reading.{IsStop, IsStep}
-use Rattle.sp_c_tokens.specs.Expecting.{IsFaultFor}
+use Rattle.sp_parse_tokens.specs.declared.scope.Scope.{Scope}
+use Rattle.sp_parse_tokens.specs.declared.scope.AlsoAllowed.TheVariants as purposes
+use Rattle.sp_parse_tokens.specs.declared.part.ReadError.{ReadError}
+use Rattle.sp_parse_grammar.specs.CTokens as tokens
+use Rattle.sp_parse_grammar.specs.CTokens.{Sort, Seen, view, is_mark, add, nothing_seen}
+use Rattle.sp_parse_grammar.specs.CTable as grammar
+use Rattle.sp_parse_grammar.specs.CTable.{Ask, Answer, Context, Item, at, outside, plan, next, get, c_symbols, specifiers_plan}
+use Rattle.sp_parse_grammar.specs.CTrees.{TokenOf}
+use Rattle.sp_parse_grammar.specs.Table.{Plan, ask, done, Reads, Fails, asked, Opens, open_take, open_call}
+use Rattle.sp_parse_grammar.specs.Depth.{Nests, nests, deep_here}
+use Rattle.sp_parse_grammar.proofs.Readings.{front_of, fault_front, spelled, fault_spelled, at_tokens}
+use Rattle.sp_parse_grammar.proofs.Nesting.{deep_front, deep_spelled}
+use Rattle.sp_parse_tokens.specs.Sorts.{Terminal, terminal, sort_of, c_tokens}
+use Rattle.sp_parse_tokens.specs.SyntaxTrees.{syntax_trees, c_table}
+use Rattle.sp_parse_tokens.specs.Depths.{c_depths}
+use Rattle.sp_parse_tokens.specs.Depths as deep
+use Rattle.sp_parse_tokens.specs.Makers.{first_place}
+use Rattle.sp_parse_tokens.specs.Faults.{Wanted, begins_declarator}
+use Rattle.sp_parse_tokens.specs.Ended.{IsEnded}
+use Rattle.sp_parse_laws.specs.Answers.{Language, IsLongest}
+use Rattle.sp_parse_laws.proofs.Lifts.{Reader, longest_tree}
+use Rattle.sp_parse_tokens.specs.Scopes.{there}
+use Rattle.sp_parse_expr_steps.specs.Reading.{IsStop, IsStep}
+use Rattle.sp_parse_tokens.specs.Expecting.{IsFaultFor}
 use Rattle.sp_expr_parser.specs.Parsing.{IsParsed}
 use Rattle.sp_expr_parser.specs.Calling.{sort_of_first}
-use Rattle.sp_c_steps.specs.Declaring.{head_name}
-use Rattle.sp_c_steps.proofs.Steps.{begun, unread, part_fails, last, finished}
-use Rattle.sp_c_steps.proofs.ExpressionSteps.{first_same}
-use Rattle.sp_c_steps.proofs.Faulting.{stop_at}
-use Rattle.sp_c_steps.proofs.DeclaratorSteps.{type_on, direct_on}
-use Rattle.sp_c_steps.proofs.GroupSteps.{direct_begins_none}
+use Rattle.sp_parse_expr_steps.specs.Declaring.{head_name}
+use Rattle.sp_parse_expr_steps.proofs.Steps.{begun, unread, part_fails, last, finished}
+use Rattle.sp_parse_expr_steps.proofs.ExpressionSteps.{first_same}
+use Rattle.sp_parse_expr_steps.proofs.Faulting.{stop_at}
+use Rattle.sp_parse_expr_steps.proofs.DeclaratorSteps.{type_on, direct_on}
+use Rattle.sp_parse_expr_steps.proofs.GroupSteps.{direct_begins_none}
 
 -- ---- the tokens before some others
 

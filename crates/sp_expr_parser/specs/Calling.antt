@@ -1,23 +1,23 @@
 -- What the parts of the four calls answer.
 use Rattle.std.specs.Prelude.{◌≡◌, ◌≢◌, ◌↔◌, IsTrue, ℕ, ◌≤◌, ◌<◌, List, [], ◌∷◌, ◌++◌, length, Bool, true, false, if◌then◌else◌, Result, MatchResult, ⊤}
 use Rattle.sp_tree.specs.declared.fault.FaultKind.{FaultKind}
-use Rattle.sp_tree.specs.declared.fault.FaultKind.TheVariants.{F7, M2, U4, U5, U6, U7, U8, U9}
+use Rattle.sp_tree.specs.declared.fault.FaultKind.TheVariants.{UnexpectedToken, NestingTooDeep, OldStyleParameters, ImplicitInt, VariadicDefinition, BitField, GnuWord, TypedefAsOrdinaryName}
 use Rattle.sp_tree.specs.declared.token.Kind.{Kind}
 use Rattle.sp_tree.specs.declared.token.Kind.TheVariants as kinds
 use Rattle.sp_tree.specs.declared.token.Token.{Token}
-use Rattle.sp_syntax.specs.declared.tree.Specifier.{Specifier}
-use Rattle.sp_syntax.specs.View.{specifiers_of}
-use Rattle.sp_syntax.specs.Depth.{specifiers_depth}
-use Rattle.sp_grammar.specs.CTokens.{Sort, mark, end, view}
-use Rattle.sp_grammar.specs.CTable as grammar
-use Rattle.sp_grammar.specs.CTable.{Answer, at}
-use Rattle.sp_grammar.specs.Table.{ask, Reads}
-use Rattle.sp_c_tokens.specs.Sorts.{c_tokens, sort_of}
-use Rattle.sp_c_tokens.specs.SyntaxTrees.{syntax_trees, c_table}
-use Rattle.sp_c_tokens.specs.Makers.{all_specifiers}
-use Rattle.sp_c_tokens.specs.Ended.{IsEnded}
-use Rattle.sp_c_tokens.specs.Refined.{refine}
-use Rattle.sp_c_grammar.specs.Answers.{Language, kinds_of, BeginsTree, IsTree}
+use Rattle.sp_parse_trees.specs.declared.tree.Specifier.{Specifier}
+use Rattle.sp_parse_trees.specs.View.{specifiers_of}
+use Rattle.sp_parse_trees.specs.Depth.{specifiers_depth}
+use Rattle.sp_parse_grammar.specs.CTokens.{Sort, mark, end, view}
+use Rattle.sp_parse_grammar.specs.CTable as grammar
+use Rattle.sp_parse_grammar.specs.CTable.{Answer, at}
+use Rattle.sp_parse_grammar.specs.Table.{ask, Reads}
+use Rattle.sp_parse_tokens.specs.Sorts.{c_tokens, sort_of}
+use Rattle.sp_parse_tokens.specs.SyntaxTrees.{syntax_trees, c_table}
+use Rattle.sp_parse_tokens.specs.Makers.{all_specifiers}
+use Rattle.sp_parse_tokens.specs.Ended.{IsEnded}
+use Rattle.sp_parse_tokens.specs.Refined.{refine}
+use Rattle.sp_parse_laws.specs.Answers.{Language, kinds_of, BeginsTree, IsTree}
 use Rattle.sp_expr_parser.specs.declared.call.Call.{Call}
 use Rattle.sp_expr_parser.specs.declared.error.ParseError.{ParseError}
 use Rattle.sp_expr_parser.specs.declared.error.ParseError.TheVariants as errors
@@ -54,7 +54,7 @@ pub record IsPassed (L : Language) (types : List ℕ) (depth : ℕ) (front : Lis
   pub bad : Token
   pub after : List Token
   pub whole : front ≡ before ++ bad ∷ after
-  pub same : error ≡ errors.Fault (record { kind = M2; place = bad.place })
+  pub same : error ≡ errors.Fault (record { kind = NestingTooDeep; place = bad.place })
   pub goes_on : BeginsTree L types (kinds_of before ++ bad.kind ∷ [])
   pub deeper : (tree : L.Tree) (rest : List Kind) → L.Levelled types tree → L.kinds tree ≡ (kinds_of before ++ bad.kind ∷ []) ++ rest → depth < L.depth tree
 
@@ -72,26 +72,26 @@ NoEnd (x ∷ xs) = (x.kind ≢ kinds.End) × NoEnd xs
 abbrev pub Tells : (L : Language) → List ℕ → ℕ → List Token → Type 0 → Result Bool ParseError → Type 0
 Tells L types depth front Holds result = MatchResult result (λ yes. IsTrue yes ↔ Holds) (IsUnanswered L types depth front)
 
--- U4, U6 or U7, which what the grammar wanted tells
+-- OldStyleParameters, VariadicDefinition or BitField, which what the grammar wanted tells
 abbrev pub is_wanted : FaultKind → Bool
-is_wanted U4 = true
-is_wanted U6 = true
-is_wanted U7 = true
+is_wanted OldStyleParameters = true
+is_wanted VariadicDefinition = true
+is_wanted BitField = true
 is_wanted _ = false
 
--- U8, U10 or F7, by the tokens alone
+-- GnuWord, LongLong or UnexpectedToken, by the tokens alone
 abbrev pub is_block : FaultKind → Bool
-is_block U8 = true
+is_block GnuWord = true
 is_block _ = false
 
--- the first of U5, U8, U9 and U10 that holds
+-- the first of ImplicitInt, GnuWord, TypedefAsOrdinaryName and LongLong that holds
 abbrev pub choose : Bool → Bool → FaultKind → FaultKind
-choose implicit ordinary last = if implicit then U5 else if is_block last then U8 else if ordinary then U9 else last
+choose implicit ordinary last = if implicit then ImplicitInt else if is_block last then GnuWord else if ordinary then TypedefAsOrdinaryName else last
 
--- The kind of a fault that is none of U4, U6, U7.
+-- The kind of a fault that is none of OldStyleParameters, VariadicDefinition, BitField.
 pub record IsTold (L : Language) (types : List ℕ) (before front : List Token) (bad : Token) (kind : FaultKind) : Type 0 where
   pub implicit : Bool
   pub implicit_is : IsTrue implicit ↔ IsImplicitInt L types front bad
   pub ordinary : Bool
   pub ordinary_is : IsTrue ordinary ↔ IsTypeForName L types front bad
-  pub same : kind ≡ choose implicit ordinary (refine F7 before bad)
+  pub same : kind ≡ choose implicit ordinary (refine UnexpectedToken before bad)

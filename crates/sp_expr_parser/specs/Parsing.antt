@@ -4,30 +4,30 @@ use Rattle.std.specs.List.{list_any}
 use Rattle.std.specs.declared.alloc.Global.{Global}
 use Rattle.sp_tree.specs.declared.fault.Fault.{Fault}
 use Rattle.sp_tree.specs.declared.fault.FaultKind.{FaultKind}
-use Rattle.sp_tree.specs.declared.fault.FaultKind.TheVariants.{M2, F7, U4, U5, U6, U7, U8, U9, U10}
+use Rattle.sp_tree.specs.declared.fault.FaultKind.TheVariants.{NestingTooDeep, UnexpectedToken, OldStyleParameters, ImplicitInt, VariadicDefinition, BitField, GnuWord, TypedefAsOrdinaryName, LongLong}
 use Rattle.sp_tree.specs.declared.token.Keyword.TheVariants.{Void}
 use Rattle.sp_tree.specs.declared.token.Kind.{Kind}
 use Rattle.sp_tree.specs.declared.token.Kind.TheVariants as kinds
 use Rattle.sp_tree.specs.declared.token.Token.{Token}
-use Rattle.sp_syntax.specs.declared.tree.Expr.{Expr}
-use Rattle.sp_syntax.specs.declared.tree.TypeName.{TypeName}
-use Rattle.sp_syntax.specs.declared.tree.Specifier.{Specifier}
-use Rattle.sp_syntax.specs.declared.tree.Declarator.{Declarator}
-use Rattle.sp_syntax.specs.View.{tree_of, type_name_of, specifiers_of, declarator_of}
+use Rattle.sp_parse_trees.specs.declared.tree.Expr.{Expr}
+use Rattle.sp_parse_trees.specs.declared.tree.TypeName.{TypeName}
+use Rattle.sp_parse_trees.specs.declared.tree.Specifier.{Specifier}
+use Rattle.sp_parse_trees.specs.declared.tree.Declarator.{Declarator}
+use Rattle.sp_parse_trees.specs.View.{tree_of, type_name_of, specifiers_of, declarator_of}
 use Rattle.sp_expr_parser.specs.declared.error.ParseError.{ParseError}
 use Rattle.sp_expr_parser.specs.declared.error.ParseError.TheVariants as errors
 use Rattle.sp_expr_parser.specs.declared.call.Call.{Call}
 use Rattle.sp_expr_parser.specs.declared.call.Call.TheVariants as calls
-use Rattle.sp_grammar.specs.CTokens as tokens
-use Rattle.sp_grammar.specs.CTokens.{Sort, is_mark, is_name, view}
-use Rattle.sp_grammar.specs.CTable as grammar
-use Rattle.sp_grammar.specs.CTable.{Ask, Item, at}
-use Rattle.sp_grammar.specs.Table.{ask, Fails}
-use Rattle.sp_c_tokens.specs.Sorts.{c_tokens, sort_of}
-use Rattle.sp_c_tokens.specs.SyntaxTrees.{syntax_trees, c_table}
-use Rattle.sp_c_tokens.specs.Makers.{first_place}
-use Rattle.sp_c_tokens.specs.Faults.{Wanted, context_of, sort_there, begins_parameter, ends_with_dots, begins_declarator, is_type_name, is_long, ends_with_opening, ends_with_long}
-use Rattle.sp_c_grammar.specs.Answers.{Language, kinds_of, expressions, type_names, specifier_lists, declarators, BeginsTree, IsFirstBad, IsLongest, IsNested, expression_ask, type_name_ask, specifiers_ask, declarator_ask}
+use Rattle.sp_parse_grammar.specs.CTokens as tokens
+use Rattle.sp_parse_grammar.specs.CTokens.{Sort, is_mark, is_name, view}
+use Rattle.sp_parse_grammar.specs.CTable as grammar
+use Rattle.sp_parse_grammar.specs.CTable.{Ask, Item, at}
+use Rattle.sp_parse_grammar.specs.Table.{ask, Fails}
+use Rattle.sp_parse_tokens.specs.Sorts.{c_tokens, sort_of}
+use Rattle.sp_parse_tokens.specs.SyntaxTrees.{syntax_trees, c_table}
+use Rattle.sp_parse_tokens.specs.Makers.{first_place}
+use Rattle.sp_parse_tokens.specs.Faults.{Wanted, context_of, sort_there, begins_parameter, ends_with_dots, begins_declarator, is_type_name, is_long, ends_with_opening, ends_with_long}
+use Rattle.sp_parse_laws.specs.Answers.{Language, kinds_of, expressions, type_names, specifier_lists, declarators, BeginsTree, IsFirstBad, IsLongest, IsNested, expression_ask, type_name_ask, specifiers_ask, declarator_ask}
 
 -- ---- the kind of a fault
 
@@ -83,16 +83,16 @@ pub record IsTypeForName (L : Language) (types : List ℕ) (front : List Token) 
 abbrev pub IsLongLong : Failing → Type 0
 IsLongLong f = (ends_with_long false (f.before ++ f.front) && is_long (sort_of f.bad.kind)) ≡ true
 
--- The kind is that of the first of these that holds, else F7.
+-- The kind is that of the first of these that holds, else UnexpectedToken.
 abbrev pub IsKind : Language → List ℕ → Failing → FaultKind → Type 0
-IsKind L types f U4 = IsOldParameter f
-IsKind L types f U5 = (¬ IsOldParameter f) × IsImplicitInt L types f.front f.bad
-IsKind L types f U6 = (¬ IsOldParameter f) × (¬ IsImplicitInt L types f.front f.bad) × IsVariadicBody f
-IsKind L types f U7 = (¬ IsOldParameter f) × (¬ IsImplicitInt L types f.front f.bad) × (¬ IsVariadicBody f) × IsBitField f
-IsKind L types f U8 = (¬ IsOldParameter f) × (¬ IsImplicitInt L types f.front f.bad) × (¬ IsVariadicBody f) × (¬ IsBitField f) × IsBlock f
-IsKind L types f U9 = (¬ IsOldParameter f) × (¬ IsImplicitInt L types f.front f.bad) × (¬ IsVariadicBody f) × (¬ IsBitField f) × (¬ IsBlock f) × IsTypeForName L types f.front f.bad
-IsKind L types f U10 = (¬ IsOldParameter f) × (¬ IsImplicitInt L types f.front f.bad) × (¬ IsVariadicBody f) × (¬ IsBitField f) × (¬ IsBlock f) × (¬ IsTypeForName L types f.front f.bad) × IsLongLong f
-IsKind L types f F7 = (¬ IsOldParameter f) × (¬ IsImplicitInt L types f.front f.bad) × (¬ IsVariadicBody f) × (¬ IsBitField f) × (¬ IsBlock f) × (¬ IsTypeForName L types f.front f.bad) × (¬ IsLongLong f)
+IsKind L types f OldStyleParameters = IsOldParameter f
+IsKind L types f ImplicitInt = (¬ IsOldParameter f) × IsImplicitInt L types f.front f.bad
+IsKind L types f VariadicDefinition = (¬ IsOldParameter f) × (¬ IsImplicitInt L types f.front f.bad) × IsVariadicBody f
+IsKind L types f BitField = (¬ IsOldParameter f) × (¬ IsImplicitInt L types f.front f.bad) × (¬ IsVariadicBody f) × IsBitField f
+IsKind L types f GnuWord = (¬ IsOldParameter f) × (¬ IsImplicitInt L types f.front f.bad) × (¬ IsVariadicBody f) × (¬ IsBitField f) × IsBlock f
+IsKind L types f TypedefAsOrdinaryName = (¬ IsOldParameter f) × (¬ IsImplicitInt L types f.front f.bad) × (¬ IsVariadicBody f) × (¬ IsBitField f) × (¬ IsBlock f) × IsTypeForName L types f.front f.bad
+IsKind L types f LongLong = (¬ IsOldParameter f) × (¬ IsImplicitInt L types f.front f.bad) × (¬ IsVariadicBody f) × (¬ IsBitField f) × (¬ IsBlock f) × (¬ IsTypeForName L types f.front f.bad) × IsLongLong f
+IsKind L types f UnexpectedToken = (¬ IsOldParameter f) × (¬ IsImplicitInt L types f.front f.bad) × (¬ IsVariadicBody f) × (¬ IsBitField f) × (¬ IsBlock f) × (¬ IsTypeForName L types f.front f.bad) × (¬ IsLongLong f)
 IsKind L types f _ = ⊥
 
 -- ---- faults
@@ -113,7 +113,7 @@ pub record IsFault (L : Language) (n : Ask syntax_trees) (types : List ℕ) (bef
 pub record IsRefused (L : Language) (n : Ask syntax_trees) (types : List ℕ) (depth : ℕ) (before tokens : List Token) (fault : Fault) : Type 0 where
   pub count : ℕ
   pub place : fault.place ≡ first_place (drop count tokens)
-  pub why : IsFault L n types before tokens fault.kind count ⊎ ((fault.kind ≡ M2) × IsNested L types depth tokens count)
+  pub why : IsFault L n types before tokens fault.kind count ⊎ ((fault.kind ≡ NestingTooDeep) × IsNested L types depth tokens count)
 
 abbrev pub Refused : (L : Language) → Ask syntax_trees → List ℕ → ℕ → List Token → List Token → ParseError → Type 0
 Refused L n types depth before tokens (errors.Fault fault) = IsRefused L n types depth before tokens fault

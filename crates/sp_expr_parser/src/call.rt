@@ -1,22 +1,22 @@
 //! The four kinds of trees, each read from outside of functions and structures.
 ghost use Rattle.std.specs.Prelude.{◌≡◌, MatchResult};
-ghost use Rattle.sp_grammar.specs.CTable as grammar;
-ghost use Rattle.sp_syntax.specs.View.{type_name_of};
-ghost use Rattle.sp_c_tokens.specs.Ended.{IsEnded};
-ghost use Rattle.sp_c_tokens.specs.Faults.{begins_declarator};
-ghost use Rattle.sp_c_tokens.specs.Codes.{sort_seen};
-ghost use Rattle.sp_c_steps.specs.Reading.{IsStop, IsTypeName};
-ghost use Rattle.sp_c_steps.specs.Declaring.{IsDeclared};
+ghost use Rattle.sp_parse_grammar.specs.CTable as grammar;
+ghost use Rattle.sp_parse_trees.specs.View.{type_name_of};
+ghost use Rattle.sp_parse_tokens.specs.Ended.{IsEnded};
+ghost use Rattle.sp_parse_tokens.specs.Faults.{begins_declarator};
+ghost use Rattle.sp_parse_tokens.specs.Codes.{sort_seen};
+ghost use Rattle.sp_parse_expr_steps.specs.Reading.{IsStop, IsTypeName};
+ghost use Rattle.sp_parse_expr_steps.specs.Declaring.{IsDeclared};
 ghost use Rattle.sp_expr_parser.specs.Parsing.{item_of};
 ghost use Rattle.sp_expr_parser.specs.Calling.{AreListed, IsEnd, sort_of_first};
 
-use sp_c_reader::{read_declarator, read_level, read_specifiers, read_type_name};
-use sp_c_steps::COMMA;
-use sp_c_tokens::{
+use sp_parse_expr_reader::{read_declarator, read_level, read_specifiers, read_type_name};
+use sp_parse_expr_steps::COMMA;
+use sp_parse_tokens::{
     AlsoAllowed, Context, DeclaratorKind, Declared, Mark, Part, ReadError, Scope, Sort,
     TypeNamePart, TypeNames, begins_specifiers, fault, next_token, sort_at,
 };
-use sp_syntax::Specifier;
+use sp_parse_trees::Specifier;
 use sp_tree::Token;
 use std::alloc::Global;
 

@@ -1,33 +1,33 @@
 //! Where and why no tree was read.
 //!
 //! Most kinds of faults are told by asking again: the failing token is taken for another one, and
-//! the reader tells whether some tree goes on. So `U5` comes where a word of a type could be, and
-//! `U9` at a type name in whose place a name that is none could be.
+//! the reader tells whether some tree goes on. So `ImplicitInt` comes where a word of a type could be, and
+//! `TypedefAsOrdinaryName` at a type name in whose place a name that is none could be.
 ghost use Rattle.std.specs.Prelude.{◌≡◌, ◌≢◌, ◌≤◌, ◌<◌, ◌^◌, ◌-◌, ◌++◌, ◌∷◌, [], ◌==◌, ℕ, length, take, drop, true, IfOk, MatchOption, MatchResult};
 ghost use Rattle.std.specs.List.{list_any};
 ghost use Rattle.sp_tree.specs.declared.token.Kind.TheVariants.{End};
-ghost use Rattle.sp_grammar.specs.CTable as grammar;
-ghost use Rattle.sp_c_tokens.specs.Sorts.{sort_of};
-ghost use Rattle.sp_grammar.specs.CTokens.{view};
-ghost use Rattle.sp_c_tokens.specs.Ended.{IsEnded};
-ghost use Rattle.sp_c_tokens.specs.Faults.{is_type_name};
-ghost use Rattle.sp_c_steps.specs.Reading.{IsStop};
+ghost use Rattle.sp_parse_grammar.specs.CTable as grammar;
+ghost use Rattle.sp_parse_tokens.specs.Sorts.{sort_of};
+ghost use Rattle.sp_parse_grammar.specs.CTokens.{view};
+ghost use Rattle.sp_parse_tokens.specs.Ended.{IsEnded};
+ghost use Rattle.sp_parse_tokens.specs.Faults.{is_type_name};
+ghost use Rattle.sp_parse_expr_steps.specs.Reading.{IsStop};
 ghost use Rattle.sp_expr_parser.specs.Parsing.{language_of, item_of, ask_of, CouldBe, IsFree, IsImplicitInt, IsTypeForName, Refused};
 ghost use Rattle.sp_expr_parser.specs.Calling.{IsFront, IsTold, IsUnanswered, NoEnd, Tells, choose, is_wanted};
-ghost use Rattle.sp_c_tokens.specs.declared.part.ReadError.TheVariants as stops;
+ghost use Rattle.sp_parse_tokens.specs.declared.part.ReadError.TheVariants as stops;
 
 use crate::call::{Call, begins_declarator, end_of};
 use crate::parts::{count_before, first_tokens, part_of};
-use sp_c_tokens::{ReadError, Sort, TypeNames, next_token, refined, sort_at};
+use sp_parse_tokens::{ReadError, Sort, TypeNames, next_token, refined, sort_at};
 use sp_tree::{Fault, FaultKind, Keyword, Kind, Place, Token};
 use std::alloc::{AllocError, Global};
 
 /// Why no tree was read.
 #[derive(Clone, Copy, PartialEq, Eq, Debug)]
 pub enum ParseError {
-    /// `M2`: at a token up to which, itself included, trees of the kind go on, each of them too
+    /// `NestingTooDeep`: at a token up to which, itself included, trees of the kind go on, each of them too
     /// deep. Else the failing token: the first with which none goes on, where none ends before it.
-    /// It is `F7`, or one of `U4` to `U10` by what could be there.
+    /// It is `UnexpectedToken`, or one of `OldStyleParameters` to `LongLong` by what could be there.
     Fault(Fault),
     /// Memory ran out.
     NoMemory,
@@ -99,7 +99,7 @@ fn could_be(
                 return Ok(true);
             }
             let (bad, _) = next_token(rest);
-            let kind = FaultKind::M2;
+            let kind = FaultKind::NestingTooDeep;
             let place = bad.place;
             Err(ParseError::Fault(Fault { kind, place }))
         }
@@ -177,21 +177,27 @@ fn is_type_for_name(
     }
 }
 
-/// The first of `U5`, `U8`, `U9` and `U10` that holds, else `F7`. The last are told by the tokens
+/// The first of `ImplicitInt`, `GnuWord`, `TypedefAsOrdinaryName` and `LongLong` that holds, else `UnexpectedToken`. The last are told by the tokens
 /// before.
 fn choose(implicit: bool, ordinary: bool, last: FaultKind) -> FaultKind
     ensures { result ≡ choose implicit ordinary last }
 {
     if implicit {
-        return FaultKind::U5;
+        return FaultKind::ImplicitInt;
     }
     match last {
-        FaultKind::U8 => FaultKind::U8,
-        _ => { if ordinary { FaultKind::U9 } else { last } }
+        FaultKind::GnuWord => FaultKind::GnuWord,
+        _ => {
+            if ordinary {
+                FaultKind::TypedefAsOrdinaryName
+            } else {
+                last
+            }
+        }
     }
 }
 
-/// The kind of a fault that is none of `U4`, `U6` and `U7`. `before` are all tokens before the
+/// The kind of a fault that is none of `OldStyleParameters`, `VariadicDefinition` and `BitField`. `before` are all tokens before the
 /// failing one, `front` those of them from the first that was read.
 fn kind_told(
     call: Call,
@@ -209,14 +215,21 @@ fn kind_told(
 {
     let implicit = is_implicit_int(call, alloc, types, front, bad, depth)?;
     let ordinary = is_type_for_name(call, alloc, types, front, bad, depth)?;
-    Ok(choose(implicit, ordinary, refined(FaultKind::F7, before, bad)))
+    Ok(choose(
+        implicit,
+        ordinary,
+        refined(FaultKind::UnexpectedToken, before, bad),
+    ))
 }
 
 /// Whether the kind is one that what the grammar wanted tells.
 fn is_wanted(kind: FaultKind) -> bool
     ensures { result ≡ is_wanted kind }
 {
-    matches!(kind, FaultKind::U4 | FaultKind::U6 | FaultKind::U7)
+    matches!(
+        kind,
+        FaultKind::OldStyleParameters | FaultKind::VariadicDefinition | FaultKind::BitField
+    )
 }
 
 /// The error at a failing token.
@@ -272,7 +285,7 @@ pub(crate) fn error_of(
         ),
         ReadError::TooDeep(rest) => {
             let (bad, _) = next_token(rest);
-            let kind = FaultKind::M2;
+            let kind = FaultKind::NestingTooDeep;
             let place = bad.place;
             ParseError::Fault(Fault { kind, place })
         }

@@ -1,15 +1,15 @@
 //! The four parsers.
 ghost use Rattle.std.specs.Prelude.{◌≤◌, ◌<◌, length};
-ghost use Rattle.sp_c_tokens.specs.Ended.{IsEnded};
+ghost use Rattle.sp_parse_tokens.specs.Ended.{IsEnded};
 ghost use Rattle.sp_expr_parser.specs.Parsing.{ExpressionAnswers, TypeNameAnswers, SpecifierAnswers, DeclaratorAnswers};
 
 use crate::call::{Call, OUTSIDE, declarator_part, specifiers_part, type_name_part};
 use crate::error::{ParseError, error_of};
 use crate::parts::{count_before, tokens_from};
-use sp_c_reader::read_level;
-use sp_c_steps::COMMA;
-use sp_c_tokens::{Context, TypeNames};
-use sp_syntax::{Declarator, Expr, Specifier, TypeName};
+use sp_parse_expr_reader::read_level;
+use sp_parse_expr_steps::COMMA;
+use sp_parse_tokens::{Context, TypeNames};
+use sp_parse_trees::{Declarator, Expr, Specifier, TypeName};
 use sp_tree::Token;
 use std::alloc::Global;
 

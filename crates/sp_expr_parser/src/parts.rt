@@ -1,6 +1,6 @@
 //! Some of a text's tokens.
 ghost use Rattle.std.specs.Prelude.{◌≡◌, ◌≤◌, ◌<◌, ◌+◌, ◌-◌, length, take, drop};
-ghost use Rattle.sp_c_tokens.specs.Ended.{IsEnded};
+ghost use Rattle.sp_parse_tokens.specs.Ended.{IsEnded};
 
 use sp_tree::Token;
 

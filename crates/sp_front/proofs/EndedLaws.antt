@@ -7,7 +7,7 @@ use Rattle.sp_tree.specs.declared.token.Kind.TheVariants.{End}
 use Rattle.sp_tree.specs.declared.token.Token.{Token}
 use Rattle.sp_lexer.specs.declared.spot.Spot.{Spot}
 use Rattle.sp_lexer.specs.Scan.{Lexeme, identifier, keyword, integer, character, string, punctuator, IsKind, Step, over_blank, over_line_comment, over_block_comment, over_pragma_line, over_marker_line, over_last_line, over_spelling, Passes, here, past, onward, IsAnswer, scanned, refused, past_room, end_token}
-use Rattle.sp_c_tokens.specs.Ended.{IsEnded}
+use Rattle.sp_parse_tokens.specs.Ended.{IsEnded}
 
 lexed : (names : List (List ℕ)) (x : Lexeme) (k : Kind) → IsKind names x k → k ≢ End
 lexed names (identifier bytes) k h e = let is = h.2 in absurd cc

@@ -3,13 +3,13 @@ use Rattle.std.proofs.Common.{◌≡◌, ◌+◌, ◌≤◌, ℕ, List, [], ◌�
 use Rattle.std.proofs.lemmas.List.{map-append}
 use Rattle.sp_tree.specs.declared.fault.Fault.{Fault}
 use Rattle.sp_tree.specs.declared.token.Token.{Token}
-use Rattle.sp_syntax.specs.Syntax.{External}
-use Rattle.sp_c_units.specs.Answers.{IsUnit}
-use Rattle.sp_operands.specs.Answers.{Answers}
-use Rattle.sp_operands.specs.declared.error.CheckError.{CheckError}
-use Rattle.sp_operands.specs.declared.error.CheckError.TheVariants as check
-use Rattle.sp_units.specs.Units.{CheckedUnit, checked_unit_of}
-use Rattle.sp_units.specs.declared.unit.CheckedUnit.{CheckedUnit as CodeUnit}
+use Rattle.sp_parse_trees.specs.Syntax.{External}
+use Rattle.sp_parse_laws.specs.UnitAnswers.{IsUnit}
+use Rattle.sp_base_checked.specs.Answers.{Answers}
+use Rattle.sp_base_checked.specs.declared.error.CheckError.{CheckError}
+use Rattle.sp_base_checked.specs.declared.error.CheckError.TheVariants as check
+use Rattle.sp_base_checked.specs.Units.{CheckedUnit, checked_unit_of}
+use Rattle.sp_base_checked.specs.declared.unit.CheckedUnit.{CheckedUnit as CodeUnit}
 use Rattle.sp_decl_check.specs.Units.{unit_checked}
 use Rattle.sp_front.specs.declared.front.FrontError.{FrontError}
 use Rattle.sp_front.specs.declared.front.FrontError.TheVariants as errors

@@ -1,11 +1,11 @@
 -- The program of files, and its lowering.
 use Rattle.std.proofs.Common.{◌≡◌, ℕ, List, Err, inr, subst}
 use Rattle.sp_types.specs.Programs.{Program}
-use Rattle.sp_operands.specs.Answers.{accepted, refused}
-use Rattle.sp_operands.specs.declared.error.CheckError.{CheckError}
-use Rattle.sp_operands.specs.declared.error.CheckError.TheVariants as check
-use Rattle.sp_units.specs.Units.{CheckedUnit}
-use Rattle.sp_program.specs.Links.{Links, LinksTo}
+use Rattle.sp_base_checked.specs.Answers.{accepted, refused}
+use Rattle.sp_base_checked.specs.declared.error.CheckError.{CheckError}
+use Rattle.sp_base_checked.specs.declared.error.CheckError.TheVariants as check
+use Rattle.sp_base_checked.specs.Units.{CheckedUnit}
+use Rattle.sp_link_units.specs.Links.{Links, LinksTo}
 use Rattle.sp_lower.specs.declared.program.LowerError.{LowerError}
 use Rattle.sp_lower.specs.declared.program.LowerError.TheVariants as lower
 use Rattle.sp_lower.specs.Programs.{start_place}

@@ -4,12 +4,12 @@ use Rattle.std.proofs.lemmas.List.Elements.{All-nil, All-cons, All-append}
 use Rattle.sp_tree.specs.Names.{with_name}
 use Rattle.sp_lexer.specs.Scan.{start}
 use Rattle.sp_types.specs.Programs.{Program}
-use Rattle.sp_units.specs.Units.{CheckedUnit}
-use Rattle.sp_typing.specs.Programs.{IsTypedProgram}
+use Rattle.sp_base_checked.specs.Units.{CheckedUnit}
+use Rattle.sp_check_typing.specs.Programs.{IsTypedProgram}
 use Rattle.sp_lower.specs.Programs.{start_place}
-use Rattle.sp_written_laws.specs.Laws.{UnitsAreWritten, AreByteNames, NamesAreBytes}
-use Rattle.sp_written_laws.proofs.Named.{with_bytes}
-use Rattle.sp_program_laws.specs.Programs.{IsChecked, ProgramsAreTyped}
+use Rattle.sp_check_written_laws.specs.Laws.{UnitsAreWritten, AreByteNames, NamesAreBytes}
+use Rattle.sp_check_written_laws.proofs.Named.{with_bytes}
+use Rattle.sp_front_laws.specs.Programs.{IsChecked, ProgramsAreTyped}
 use Rattle.sp_front.specs.Sources.{Source}
 use Rattle.sp_front.specs.Files.{Progress, beginning, IsFileOf, AreFilesOf, none, another}
 use Rattle.sp_front.specs.Answers.{IsProgramOf}

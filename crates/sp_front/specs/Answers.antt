@@ -2,9 +2,9 @@
 use Rattle.std.specs.Prelude.{◌≡◌, ℕ, List, ◌∷◌, ◌++◌, Result, Ok, Err, ⊤}
 use Rattle.sp_tree.specs.declared.fault.Fault.{Fault}
 use Rattle.sp_types.specs.Programs.{Program}
-use Rattle.sp_operands.specs.Answers.{accepted, refused}
-use Rattle.sp_units.specs.Units.{CheckedUnit}
-use Rattle.sp_program.specs.Links.{Links}
+use Rattle.sp_base_checked.specs.Answers.{accepted, refused}
+use Rattle.sp_base_checked.specs.Units.{CheckedUnit}
+use Rattle.sp_link_units.specs.Links.{Links}
 use Rattle.sp_ir.specs.Programs.{Lowered, lowered_of}
 use Rattle.sp_ir.specs.Formed.{IsFormed}
 use Rattle.sp_ir.specs.declared.program.Lowered.{Lowered as CodeLowered}

@@ -6,11 +6,11 @@ use Rattle.sp_tree.specs.declared.token.Token.{Token}
 use Rattle.sp_lexer.specs.Scan.{start}
 use Rattle.sp_lexer.specs.Named.{CollectsAll}
 use Rattle.sp_lexer.specs.Answers.{IsOnlyAnswer}
-use Rattle.sp_syntax.specs.Syntax.{External}
-use Rattle.sp_c_units.specs.Answers.{IsUnit}
+use Rattle.sp_parse_trees.specs.Syntax.{External}
+use Rattle.sp_parse_laws.specs.UnitAnswers.{IsUnit}
 use Rattle.sp_decl_parser.specs.Parsing.{IsUnitRefused}
-use Rattle.sp_operands.specs.Answers.{accepted, refused}
-use Rattle.sp_units.specs.Units.{CheckedUnit}
+use Rattle.sp_base_checked.specs.Answers.{accepted, refused}
+use Rattle.sp_base_checked.specs.Units.{CheckedUnit}
 use Rattle.sp_decl_check.specs.Units.{unit_checked}
 use Rattle.sp_front.specs.Sources.{Source, IsOfBytes}
 

@@ -1,16 +1,16 @@
 //! Files: each is scanned, parsed and checked before the next.
 ghost use Rattle.std.specs.Prelude.{◌+◌, ◌-◌, ◌^◌, ◌<◌, ◌≤◌, ◌≡◌, [], length, map, All, IfOk};
-ghost use Rattle.sp_c_tokens.specs.Ended.{IsEnded};
+ghost use Rattle.sp_parse_tokens.specs.Ended.{IsEnded};
 ghost use Rattle.sp_front.specs.Sources.{source_of, IsOfBytes, AreWithin};
 ghost use Rattle.sp_front.specs.inner.Steps.{Scans, GivesUnit, ReadsFile, ReadsFiles};
 
 use crate::front::FrontError;
 use crate::sources::Source;
+use sp_base_checked::CheckedUnit;
 use sp_decl_check::check_unit;
 use sp_decl_parser::parse_unit;
 use sp_lexer::scan;
 use sp_tree::{Names, Token};
-use sp_units::CheckedUnit;
 use std::alloc::Global;
 
 /// The most tokens of all files, their ends not counted.

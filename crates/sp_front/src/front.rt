@@ -3,10 +3,10 @@ ghost use Rattle.std.specs.Prelude.{◌≡◌};
 ghost use Rattle.sp_front.specs.declared.front.FrontError.TheVariants.{NoMemory};
 ghost use Rattle.sp_front.specs.inner.Errors.{of_scan, of_parse, of_check, of_lower};
 
+use sp_base_checked::CheckError;
 use sp_expr_parser::ParseError;
 use sp_lexer::ScanError;
 use sp_lower::LowerError;
-use sp_operands::CheckError;
 use sp_tree::Fault;
 use std::alloc::{AllocError, AllocFailed};
 

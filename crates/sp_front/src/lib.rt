@@ -5,7 +5,7 @@
 //! program is lowered. Out comes the lowered program, which is formed, or the first fault: that of
 //! the first file that is refused, else one of the whole program. That stands at a declaration that
 //! doesn't agree with another file's, else where the first file begins. That the program is formed
-//! isn't tested: it is a law (`sp_program_laws`). The *room* is how many tokens the files that are
+//! isn't tested: it is a law (`sp_front_laws`). The *room* is how many tokens the files that are
 //! left may have.
 //!
 //! So the files a.c, `int x[3];`, and b.c, `int main(void) { return 1; }`, are one program. Without

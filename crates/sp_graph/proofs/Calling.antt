@@ -8,10 +8,10 @@ use Rattle.std.proofs.lemmas.List.{length-replicate}
 use Rattle.sp_ir.specs.Commands.{Node}
 use Rattle.sp_ir.specs.Programs.{Lowered}
 use Rattle.sp_ir.specs.Formed.{IsFormed}
-use Rattle.sp_sets.specs.Sets.{has, Ascends}
-use Rattle.sp_sets.specs.Reached.{row, Reached, start, onward as go_on, Leads as Follows}
-use Rattle.sp_sets.proofs.Members.{eqb-refl}
-use Rattle.sp_sets.proofs.Images.{or-cases, or-left}
+use Rattle.sp_base_sets.specs.Sets.{has, Ascends}
+use Rattle.sp_base_sets.specs.Reached.{row, Reached, start, onward as go_on, Leads as Follows}
+use Rattle.sp_base_sets.proofs.Members.{eqb-refl}
+use Rattle.sp_base_sets.proofs.Images.{or-cases, or-left}
 use Rattle.sp_graph.specs.Calls.{Callees, AreCallees, CallsTo, Leads, direct, onward, IsReached, IsRecursive, function_of, function_in}
 use Rattle.sp_graph.specs.Supergraph.{IsSupergraph, InGraph, InFunction, InFlow, edges_at}
 use Rattle.sp_graph.specs.Rows.{Grows, AreLists, AreEdges, CallsAt, is_inside}

@@ -5,10 +5,10 @@ use Rattle.std.specs.List.{Contains}
 use Rattle.std.proofs.lemmas.Bool.{false≢true}
 use Rattle.sp_ir.specs.Commands.{Node}
 use Rattle.sp_ir.specs.Programs.{Lowered}
-use Rattle.sp_sets.specs.Sets.{has}
-use Rattle.sp_sets.specs.Reached.{row}
-use Rattle.sp_sets.proofs.Members.{has_there}
-use Rattle.sp_sets.proofs.Images.{place_of}
+use Rattle.sp_base_sets.specs.Sets.{has}
+use Rattle.sp_base_sets.specs.Reached.{row}
+use Rattle.sp_base_sets.proofs.Members.{has_there}
+use Rattle.sp_base_sets.proofs.Images.{place_of}
 use Rattle.sp_graph.specs.Calls.{Callees, call_of, call_in, entry_of, exit_of}
 use Rattle.sp_graph.specs.Supergraph.{edges_at, crossing, IsEdge, inside, starts, enters, leaves, beside}
 use Rattle.sp_graph.specs.Rows.{Joins, Between, IsInside, IsBeginning, ReturnsFrom, Crosses, AreEdges}

@@ -4,7 +4,7 @@ use Rattle.std.specs.List.{Contains}
 use Rattle.std.proofs.lemmas.List.Elements.{Contains-append_left, Contains-append_right, Contains-append_cases}
 use Rattle.std.proofs.lemmas.List.{get_or_default}
 use Rattle.sp_ir.specs.Programs.{Lowered}
-use Rattle.sp_sets.specs.Reached.{row}
+use Rattle.sp_base_sets.specs.Reached.{row}
 use Rattle.sp_graph.specs.Calls.{Callees, call_of, entry_of, exit_of}
 use Rattle.sp_graph.specs.Supergraph.{edges_at, crossing}
 use Rattle.sp_graph.specs.Rows.{Joins, Between, IsEntering, IsLeaving, IsBeside, IsInside, IsBeginning, ReturnsFrom, ComesBack, Crosses}

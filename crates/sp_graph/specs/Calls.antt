@@ -2,8 +2,8 @@
 use Rattle.std.specs.Prelude.{◌≡◌, ◌⊎◌, ◌<◌, ℕ, true, List, length, Option, Some, None, slice_get}
 use Rattle.sp_ir.specs.Commands.{Command, start, entry, exit, skip, assign, copy, init, assume, eval, call, return, library, outside, Node}
 use Rattle.sp_ir.specs.Programs.{Lowered, Code}
-use Rattle.sp_sets.specs.Sets.{has}
-use Rattle.sp_sets.specs.Reached.{row}
+use Rattle.sp_base_sets.specs.Sets.{has}
+use Rattle.sp_base_sets.specs.Reached.{row}
 
 -- the functions that each node calls: a list for each node
 abbrev pub Callees : Type 0

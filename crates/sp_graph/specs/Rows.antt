@@ -1,8 +1,8 @@
 -- The rows of edges, while edges are added.
 use Rattle.std.specs.Prelude.{◌≡◌, ◌⊎◌, ◌↔◌, ◌<◌, ℕ, Bool, true, false, List, length, Option, None, Some, slice_index, slice_index_or, Contains}
 use Rattle.sp_ir.specs.Programs.{Lowered}
-use Rattle.sp_sets.specs.Sets.{has}
-use Rattle.sp_sets.specs.Reached.{row}
+use Rattle.sp_base_sets.specs.Sets.{has}
+use Rattle.sp_base_sets.specs.Reached.{row}
 use Rattle.sp_graph.specs.Calls.{Callees, CallsTo, function_of, call_of, entry_of, exit_of}
 use Rattle.sp_graph.specs.Supergraph.{edges_at, crossing, IsEdge}
 use Rattle.sp_graph.specs.declared.edge.Pass.TheVariants.{All, Beside}

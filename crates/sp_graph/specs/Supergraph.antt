@@ -3,8 +3,8 @@
 use Rattle.std.specs.Prelude.{◌≡◌, ◌↔◌, ◌<◌, ℕ, Bool, true, not, cond, List, [], length, Option, Some, None, slice_index_or, Contains}
 use Rattle.std.specs.List.{list_any}
 use Rattle.sp_ir.specs.Programs.{Lowered}
-use Rattle.sp_sets.specs.Sets.{has, Ascends}
-use Rattle.sp_sets.specs.Reached.{row}
+use Rattle.sp_base_sets.specs.Sets.{has, Ascends}
+use Rattle.sp_base_sets.specs.Reached.{row}
 use Rattle.sp_graph.specs.Calls.{Callees, function_of, call_of, entry_of, exit_of, IsReached}
 use Rattle.sp_graph.specs.declared.edge.Pass.{Pass}
 use Rattle.sp_graph.specs.declared.edge.Pass.TheVariants.{All, Inside, Beside}

@@ -3,8 +3,8 @@ ghost use Rattle.std.specs.Prelude.{◌≡◌, ◌↔◌, ◌<◌, ◌≤◌, �
 ghost use Rattle.std.specs.List.{list_any};
 ghost use Rattle.sp_ir.specs.Programs.{lowered_of};
 ghost use Rattle.sp_ir.specs.Formed.{IsFormed};
-ghost use Rattle.sp_sets.specs.Sets.{has, Ascends};
-ghost use Rattle.sp_sets.specs.Reached.{row};
+ghost use Rattle.sp_base_sets.specs.Sets.{has, Ascends};
+ghost use Rattle.sp_base_sets.specs.Reached.{row};
 ghost use Rattle.sp_graph.specs.Calls.{AreCallees, function_of};
 ghost use Rattle.sp_graph.specs.Supergraph.{IsSupergraph, edges_at, passes_by};
 ghost use Rattle.sp_graph.specs.Rows.{is_inside};
@@ -13,8 +13,8 @@ use crate::edge::{Edge, Pass};
 use crate::functions::{CallGraph, lists_of};
 use crate::lookups::function_of;
 use crate::rows::{Edges, edges_of};
+use sp_base_sets::{NumberSet, reached};
 use sp_ir::Lowered;
-use sp_sets::{NumberSet, reached};
 use std::alloc::{AllocError, Global};
 use std::marker::Model;
 

@@ -2,13 +2,13 @@
 ghost use Rattle.std.specs.Prelude.{◌≡◌, ◌↔◌, ◌<◌, ◌≤◌, ◌^◌, ℕ, true, false, length, Some, slice_index_or, IfOk, OnOk};
 ghost use Rattle.sp_ir.specs.Programs.{lowered_of};
 ghost use Rattle.sp_ir.specs.Formed.{IsFormed};
-ghost use Rattle.sp_sets.specs.Sets.{has};
+ghost use Rattle.sp_base_sets.specs.Sets.{has};
 ghost use Rattle.sp_graph.specs.Calls.{Callees, AreCallees, function_of, IsRecursive};
 ghost use Rattle.sp_graph.specs.Rows.{Grows, AreLists};
 
 use crate::lookups::function_of;
+use sp_base_sets::{NumberSet, in_circles};
 use sp_ir::Lowered;
-use sp_sets::{NumberSet, in_circles};
 use std::alloc::{AllocError, Global};
 use std::marker::Model;
 
@@ -27,8 +27,8 @@ impl Model for CallGraph {
 }
 
 impl CallGraph {
-    ghost use Rattle.sp_sets.specs.Sets.{Ascends};
-    ghost use Rattle.sp_sets.specs.Reached.{row};
+    ghost use Rattle.sp_base_sets.specs.Sets.{Ascends};
+    ghost use Rattle.sp_base_sets.specs.Reached.{row};
 
     /// From a set of functions for each node.
     pub fn new(callees: Vec<NumberSet>) -> CallGraph

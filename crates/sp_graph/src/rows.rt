@@ -1,16 +1,16 @@
 //! The edges that end at each node, while they are gathered.
 ghost use Rattle.std.specs.Prelude.{◌≡◌, ◌<◌, ◌++◌, ◌∷◌, ℕ, [], true, false, length, Option, Some, replicate, IfOk, OnOk, Contains, List, slice_index, slice_index_or, ◌^◌};
 ghost use Rattle.sp_ir.specs.Programs.{lowered_of};
-ghost use Rattle.sp_sets.specs.Sets.{has};
-ghost use Rattle.sp_sets.specs.Reached.{row};
+ghost use Rattle.sp_base_sets.specs.Sets.{has};
+ghost use Rattle.sp_base_sets.specs.Reached.{row};
 ghost use Rattle.sp_graph.specs.Calls.{call_of, entry_of, exit_of};
 ghost use Rattle.sp_graph.specs.Supergraph.{crossing};
 ghost use Rattle.sp_graph.specs.Rows.{Between, Joins, IsEntering, IsLeaving, IsBeside, ComesBack, ReturnsFrom, Crosses, IsInside, IsBeginning, AreEdges};
 
 use crate::edge::{Edge, Pass};
 use crate::lookups::{call_of, entry_of, exit_of};
+use sp_base_sets::NumberSet;
 use sp_ir::Lowered;
-use sp_sets::NumberSet;
 use std::alloc::{AllocError, Global};
 use std::marker::Model;
 

@@ -3,7 +3,7 @@ use Rattle.std.proofs.Common.{◌≡◌, ℕ, ◌+◌, ◌^◌, ◌<◌, ◌≤�
 use Rattle.sp_tree.specs.declared.fault.Place.{Place}
 use Rattle.sp_tree.specs.declared.fault.Fault.{Fault}
 use Rattle.sp_tree.specs.declared.fault.FaultKind.{FaultKind}
-use Rattle.sp_tree.specs.declared.fault.FaultKind.TheVariants.{M1}
+use Rattle.sp_tree.specs.declared.fault.FaultKind.TheVariants.{TooManyTokens}
 use Rattle.sp_tree.specs.declared.token.Token.{Token}
 use Rattle.sp_tree.specs.declared.token.Kind.{Kind}
 use Rattle.sp_tree.specs.Names.{AreDistinct, Extends}
@@ -124,12 +124,12 @@ module _ (names : List (List ℕ)) (distinct : AreDistinct names) (text : List �
       by (inl c) = let s = stays names r q e f c.more (stuck_at_fault names r e k a) c.run in token_and_fault q f k begun (subst (λ z. StandsAt q z k) s.spot_is (subst (λ z. StandsAt z e k) s.text_is a))
       by (inr c) = let s = waits names q r f e c.more begun (no_more_tokens ts us c.more room c.all few full) c.run in token_and_fault r e k (subst (λ z. TokenBegins r z) s.spot_is (subst (λ z. TokenBegins z f) s.text_is begun)) a
 
-  both_past : (ts us : List Token) (e f : Spot) (r q : List ℕ) → Passes names text from ts r e → length ts ≡ room → TokenBegins r e → Passes names text from us q f → length us ≡ room → TokenBegins q f → fault_at M1 e.place ≡ fault_at M1 f.place
+  both_past : (ts us : List Token) (e f : Spot) (r q : List ℕ) → Passes names text from ts r e → length ts ≡ room → TokenBegins r e → Passes names text from us q f → length us ≡ room → TokenBegins q f → fault_at TooManyTokens e.place ≡ fault_at TooManyTokens f.place
   both_past ts us e f r q h full a i full_too b = by (meet names distinct text r q from e f ts us h i)
     where
-      by : Ahead names r q e f ts us ⊎ Ahead names q r f e us ts → fault_at M1 e.place ≡ fault_at M1 f.place
-      by (inl c) = let s = waits names r q e f c.more a (no_more_tokens us ts c.more room c.all (omega (arith, full_too)) full) c.run in ap (λ z. fault_at M1 z.place) s.spot_is
-      by (inr c) = let s = waits names q r f e c.more b (no_more_tokens ts us c.more room c.all (omega (arith, full)) full_too) c.run in ap (λ z. fault_at M1 z.place) (sym s.spot_is)
+      by : Ahead names r q e f ts us ⊎ Ahead names q r f e us ts → fault_at TooManyTokens e.place ≡ fault_at TooManyTokens f.place
+      by (inl c) = let s = waits names r q e f c.more a (no_more_tokens us ts c.more room c.all (omega (arith, full_too)) full) c.run in ap (λ z. fault_at TooManyTokens z.place) s.spot_is
+      by (inr c) = let s = waits names q r f e c.more b (no_more_tokens ts us c.more room c.all (omega (arith, full)) full_too) c.run in ap (λ z. fault_at TooManyTokens z.place) (sym s.spot_is)
 
   pub one_answer : (a b : Result (List Token) Fault) → IsAnswer names text from room a → IsAnswer names text from room b → a ≡ b
   one_answer a b (scanned ts e h few is) (scanned us f k all it) = is ∙ ap (λ z. Ok z) (both_scanned ts us e f h k) ∙ sym it
@@ -252,7 +252,7 @@ module _ (old names now : List (List ℕ)) (text : List ℕ) (from : Spot) (room
   answer_stop (stops.Fault kind) fault = only _ (refused tokens rest spot kind run_now so_far.few fault refl)
   answer_stop stops.NoMemory fault = tt
 
-  pub answer_past : (token : Token) (next : List ℕ) (beyond : Spot) → Step now rest spot (Some token) next beyond → length tokens ≡ room → IsOnlyAnswer now text from room (Err (record { kind = M1; place = spot.place }))
+  pub answer_past : (token : Token) (next : List ℕ) (beyond : Spot) → Step now rest spot (Some token) next beyond → length tokens ≡ room → IsOnlyAnswer now text from room (Err (record { kind = TooManyTokens; place = spot.place }))
   answer_past token next beyond step full = only _ (past_room tokens rest spot run_now full (token_begins now rest spot token next beyond step) refl)
 
   pub answer_end : rest ≡ [] → IsOnlyAnswer now text from room (Ok (tokens ++ end_token spot ∷ []))

@@ -3,7 +3,7 @@ use Rattle.std.proofs.Common.{◌≡◌, true, false, Some, None, Ok, Err, refl}
 use Rattle.std.specs.Prelude.{codes, negsuc}
 use Rattle.sp_tree.specs.declared.token.Keyword.TheVariants.{While}
 use Rattle.sp_tree.specs.declared.token.Punct.TheVariants.{ShiftLeftAssign}
-use Rattle.sp_tree.specs.declared.fault.FaultKind.TheVariants.{F4, F5, U1, U3, U8, U10}
+use Rattle.sp_tree.specs.declared.fault.FaultKind.TheVariants.{MalformedLiteral, LiteralPast64Bits, FloatingType, InlineAssembly, GnuWord, LongLong}
 use Rattle.sp_lexer.specs.declared.spot.Piece.TheVariants.{BlockComment, MarkerLine, Spelling}
 use Rattle.sp_lexer.specs.Bytes.{is_between, is_digit, is_octal, is_hexadecimal, is_letter, is_word_byte, is_blank, is_gap, is_sign, is_exponent_letter}
 use Rattle.sp_lexer.specs.Spelling.{is_run, is_literal}
@@ -24,19 +24,19 @@ hexadecimal : number_of (codes "0xfFuL") ≡ Ok (record { value = 255; decimal =
 unfolding is_digit is_between is_hexadecimal is_digit_in is_x digit_value is_u is_l is_exponent_letter
 hexadecimal = refl
 
-no_octal : number_of (codes "08") ≡ Err F4
+no_octal : number_of (codes "08") ≡ Err MalformedLiteral
 unfolding is_digit is_between is_octal is_digit_in is_x is_u is_l is_exponent_letter
 no_octal = refl
 
-floating : number_of (codes "08.e-1f") ≡ Err U1
+floating : number_of (codes "08.e-1f") ≡ Err FloatingType
 unfolding is_digit is_between is_exponent_letter is_sign is_floating_letter
 floating = refl
 
-long_long : number_of (codes "99999999999999999999LLu") ≡ Err U10
+long_long : number_of (codes "99999999999999999999LLu") ≡ Err LongLong
 unfolding is_digit is_between is_digit_in is_x is_u is_l is_exponent_letter
 long_long = refl
 
-past_64_bits : number_of (codes "18446744073709551616") ≡ Err F5
+past_64_bits : number_of (codes "18446744073709551616") ≡ Err LiteralPast64Bits
 unfolding is_digit is_between is_digit_in is_x digit_value is_u is_l is_exponent_letter
 past_64_bits = refl
 
@@ -76,11 +76,11 @@ while_word : keyword_of (codes "while") ≡ Some While
 unfolding keyword_of
 while_word = refl
 
-assembly : refused_word (codes "__asm__") ≡ Some U3
+assembly : refused_word (codes "__asm__") ≡ Some InlineAssembly
 unfolding refused_word assembly_words
 assembly = refl
 
-built_in : refused_word (codes "__builtin_") ≡ Some U8
+built_in : refused_word (codes "__builtin_") ≡ Some GnuWord
 unfolding refused_word assembly_words is_gnu_word gnu_words
 built_in = refl
 

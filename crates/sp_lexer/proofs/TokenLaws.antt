@@ -6,7 +6,7 @@ use Rattle.sp_lexer.specs.Bytes.{is_letter, is_word_byte, is_quote, begins, fron
 use Rattle.sp_lexer.specs.Spelling.{is_word, is_run, IsSpelling, BeginsWith}
 use Rattle.sp_lexer.specs.Extents.{before_quote, run_len, starts_run}
 use Rattle.sp_lexer.specs.Scan.{Lexeme, IsKind, Reads}
-use Rattle.sp_tree.specs.declared.fault.FaultKind.TheVariants.{F1, F3}
+use Rattle.sp_tree.specs.declared.fault.FaultKind.TheVariants.{BadByte, OpenLiteral}
 use Rattle.sp_tree.specs.declared.token.Punct.{Punct}
 use Rattle.sp_tree.specs.Spellings.{mark_spelling}
 use Rattle.sp_lexer.specs.Marks.{marks, mark_among}
@@ -63,7 +63,7 @@ pub first-literal : (q n : ℕ) (bs : List ℕ) → is_quote q ≡ true → Some
 first-literal q n bs quote at = literal-begins q bs n quote (sym at)
 
 -- no literal, and nothing else
-pub no-literal : (q : ℕ) (bs : List ℕ) → is_quote q ≡ true → None ≡ before_quote false q bs → IsFaulty (q ∷ bs) F3
+pub no-literal : (q : ℕ) (bs : List ℕ) → is_quote q ≡ true → None ≡ before_quote false q bs → IsFaulty (q ∷ bs) OpenLiteral
 no-literal q bs quote none = no_quote quote (no-literal-begins q bs quote (sym none)) refl
 
 pub literal-size : (q n : ℕ) (bs : List ℕ) → n < length bs → length (q ∷ take n bs ++ q ∷ []) ≡ n + 2
@@ -74,6 +74,6 @@ pub first-mark : (text : List ℕ) (m : Punct) → 0 < length text → begins is
 first-mark [] m some letter run quote at = absurd (omega (arith, some))
 first-mark (b ∷ bs) m some letter run quote at = mark-begins b bs m letter run quote (sym at)
 
-pub no-mark : (text : List ℕ) → 0 < length text → begins is_letter text ≡ false → starts_run text ≡ false → begins is_quote text ≡ false → None ≡ mark_among text marks → IsFaulty text F1
+pub no-mark : (text : List ℕ) → 0 < length text → begins is_letter text ≡ false → starts_run text ≡ false → begins is_quote text ≡ false → None ≡ mark_among text marks → IsFaulty text BadByte
 no-mark [] some letter run quote none = absurd (omega (arith, some))
 no-mark (b ∷ bs) some letter run quote none = no_spelling quote (nothing-begins b bs letter run quote (sym none)) refl

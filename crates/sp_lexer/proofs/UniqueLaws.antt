@@ -4,7 +4,7 @@ use Rattle.std.specs.Prelude.{◌==◌}
 use Rattle.std.proofs.lemmas.List.{take_at, drop_at, append_cancel_right}
 use Rattle.std.proofs.lemmas.Bool.{eqb-true}
 use Rattle.sp_tree.specs.declared.fault.FaultKind.{FaultKind}
-use Rattle.sp_tree.specs.declared.fault.FaultKind.TheVariants.{F4}
+use Rattle.sp_tree.specs.declared.fault.FaultKind.TheVariants.{MalformedLiteral}
 use Rattle.sp_tree.specs.declared.token.Punct.{Punct}
 use Rattle.sp_tree.specs.Spellings.{mark_spelling}
 use Rattle.sp_lexer.specs.Bytes.{is_between, is_digit, is_letter, is_quote, begins}
@@ -50,11 +50,11 @@ sort_of front = cond (is_word front) a_word (cond (is_run front) a_number (cond 
 -- the reading of a literal's body
 data StringReads (body : List ℕ) (verdict : Result Lexeme FaultKind) : Type 0 where
   stands_for : (values : List ℕ) → StandsFor body values → verdict ≡ Ok (string values) → StringReads body verdict
-  stands_for_none : ((values : List ℕ) → StandsFor body values → ⊥) → verdict ≡ Err F4 → StringReads body verdict
+  stands_for_none : ((values : List ℕ) → StandsFor body values → ⊥) → verdict ≡ Err MalformedLiteral → StringReads body verdict
 
 data CharacterReads (body : List ℕ) (verdict : Result Lexeme FaultKind) : Type 0 where
   stands_for_one : (value : ℕ) → StandsFor body (value ∷ []) → verdict ≡ Ok (character (signed_char value)) → CharacterReads body verdict
-  stands_for_no_one : ((value : ℕ) → StandsFor body (value ∷ []) → ⊥) → verdict ≡ Err F4 → CharacterReads body verdict
+  stands_for_no_one : ((value : ℕ) → StandsFor body (value ∷ []) → ⊥) → verdict ≡ Err MalformedLiteral → CharacterReads body verdict
 
 abbrev Reading : Sort → List ℕ → List ℕ → Result Lexeme FaultKind → Type 0
 Reading a_word front next verdict = verdict ≡ word_of front next

@@ -2,7 +2,7 @@
 use Rattle.std.specs.Prelude.{ℕ, ◌+◌, ◌-◌, ◌*◌, ◌^◌, Bool, true, false, ◌&&◌, ◌||◌, ◌==◌, nat_lt, nat_le, List, [], ◌∷◌, Option, Some, None, Result, Ok, Err, if◌then◌else◌}
 use Rattle.sp_tree.specs.declared.token.Number.{Number}
 use Rattle.sp_tree.specs.declared.fault.FaultKind.{FaultKind}
-use Rattle.sp_tree.specs.declared.fault.FaultKind.TheVariants.{F4, F5, U1, U10}
+use Rattle.sp_tree.specs.declared.fault.FaultKind.TheVariants.{MalformedLiteral, LiteralPast64Bits, FloatingType, LongLong}
 use Rattle.sp_lexer.specs.declared.numbers.Suffix.{Suffix}
 use Rattle.sp_lexer.specs.Bytes.{is_digit, is_octal, is_hexadecimal, is_sign, is_exponent_letter, begins, front, after}
 
@@ -93,16 +93,16 @@ is_digit_in base b = if base == 16 then is_hexadecimal b else if base == 8 then 
 
 -- what digits with a suffix stand for
 abbrev pub integer_of : ℕ → List ℕ → Option Suffix → Result Number FaultKind
-integer_of base digits None = Err F4
-integer_of base [] (Some s) = Err F4
+integer_of base digits None = Err MalformedLiteral
+integer_of base [] (Some s) = Err MalformedLiteral
 integer_of base (d ∷ ds) (Some s) =
-    if s.long_long then Err U10
+    if s.long_long then Err LongLong
     else if nat_lt (value_of base (d ∷ ds)) (2 ^ 64)
     then Ok (record { value = value_of base (d ∷ ds); decimal = base == 10; unsigned = s.unsigned; long = s.long })
-    else Err F5
+    else Err LiteralPast64Bits
 
 -- what a number run stands for, or the fault that it is
 abbrev pub number_of : List ℕ → Result Number FaultKind
 number_of run =
-    if is_floating run then Err U1
+    if is_floating run then Err FloatingType
     else integer_of (base_of run) (front (is_digit_in (base_of run)) (body_of run)) (suffix_of (after (is_digit_in (base_of run)) (body_of run)))

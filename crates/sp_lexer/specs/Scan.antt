@@ -6,7 +6,7 @@ use Rattle.std.specs.Prelude.{◌≡◌, ℕ, ◌+◌, ◌-◌, ◌≤◌, ◌<�
 use Rattle.sp_tree.specs.declared.fault.Place.{Place}
 use Rattle.sp_tree.specs.declared.fault.Fault.{Fault}
 use Rattle.sp_tree.specs.declared.fault.FaultKind.{FaultKind}
-use Rattle.sp_tree.specs.declared.fault.FaultKind.TheVariants.{F1, F2, F3, F4, F6, U11, M1}
+use Rattle.sp_tree.specs.declared.fault.FaultKind.TheVariants.{BadByte, OpenComment, OpenLiteral, MalformedLiteral, BadMarker, WideLiteral, TooManyTokens}
 use Rattle.sp_tree.specs.declared.token.Token.{Token}
 use Rattle.sp_tree.specs.declared.token.Kind.{Kind}
 use Rattle.sp_tree.specs.declared.token.Kind.TheVariants as kinds
@@ -52,7 +52,7 @@ is_wide (b ∷ c ∷ bs) next = false
 
 abbrev pub unless_refused : Option FaultKind → Bool → List ℕ → Result Lexeme FaultKind
 unless_refused (Some kind) wide front = Err kind
-unless_refused None wide front = if wide then Err U11 else Ok (identifier front)
+unless_refused None wide front = if wide then Err WideLiteral else Ok (identifier front)
 
 abbrev pub unless_keyword : Option Keyword → Result Lexeme FaultKind → Result Lexeme FaultKind
 unless_keyword (Some k) other = Ok (keyword k)
@@ -75,13 +75,13 @@ pub data Reads (front next : List ℕ) (verdict : Result Lexeme FaultKind) : Typ
       → Reads front next verdict
   bad_text :
       (body : List ℕ) → front ≡ 34 ∷ body ++ 34 ∷ [] → ((values : List ℕ) → StandsFor body values → ⊥)
-      → verdict ≡ Err F4 → Reads front next verdict
+      → verdict ≡ Err MalformedLiteral → Reads front next verdict
   reads_character :
       (body : List ℕ) (value : ℕ) → front ≡ 39 ∷ body ++ 39 ∷ [] → StandsFor body (value ∷ [])
       → verdict ≡ Ok (character (signed_char value)) → Reads front next verdict
   bad_character :
       (body : List ℕ) → front ≡ 39 ∷ body ++ 39 ∷ [] → ((value : ℕ) → StandsFor body (value ∷ []) → ⊥)
-      → verdict ≡ Err F4 → Reads front next verdict
+      → verdict ≡ Err MalformedLiteral → Reads front next verdict
   reads_mark : (punct : Punct) → front ≡ mark_spelling punct → verdict ≡ Ok (punctuator punct) → Reads front next verdict
 
 -- ---- pieces, and the spots after them
@@ -189,15 +189,15 @@ pub data StandsAt (text : List ℕ) (spot : Spot) (kind : FaultKind) : Type 0 wh
       (front next : List ℕ) → piece_at spot.fresh text ≡ Some Spelling → BeginsWith text front next
       → Reads front next (Err kind) → StandsAt text spot kind
   open_literal :
-      piece_at spot.fresh text ≡ Some Spelling → begins is_quote text ≡ true → BeginsWithNone text → kind ≡ F3
+      piece_at spot.fresh text ≡ Some Spelling → begins is_quote text ≡ true → BeginsWithNone text → kind ≡ OpenLiteral
       → StandsAt text spot kind
   bad_byte :
-      piece_at spot.fresh text ≡ Some Spelling → begins is_quote text ≡ false → BeginsWithNone text → kind ≡ F1
+      piece_at spot.fresh text ≡ Some Spelling → begins is_quote text ≡ false → BeginsWithNone text → kind ≡ BadByte
       → StandsAt text spot kind
   open_comment :
-      piece_at spot.fresh text ≡ Some BlockComment → ((n : ℕ) → IsBlockComment text n → ⊥) → kind ≡ F2
+      piece_at spot.fresh text ≡ Some BlockComment → ((n : ℕ) → IsBlockComment text n → ⊥) → kind ≡ OpenComment
       → StandsAt text spot kind
-  bad_marker : piece_at spot.fresh text ≡ Some MarkerLine → marker_of (line_of text) ≡ None → kind ≡ F6 → StandsAt text spot kind
+  bad_marker : piece_at spot.fresh text ≡ Some MarkerLine → marker_of (line_of text) ≡ None → kind ≡ BadMarker → StandsAt text spot kind
 
 -- a token begins at a spot
 pub record TokenBegins (text : List ℕ) (spot : Spot) : Type 0 where
@@ -223,5 +223,5 @@ pub data IsAnswer (names : List (List ℕ)) (text : List ℕ) (from : Spot) (roo
       → IsAnswer names text from room answer
   past_room :
       (tokens : List Token) (rest : List ℕ) (end : Spot) → Passes names text from tokens rest end
-      → length tokens ≡ room → TokenBegins rest end → answer ≡ Err (record { kind = M1; place = end.place })
+      → length tokens ≡ room → TokenBegins rest end → answer ≡ Err (record { kind = TooManyTokens; place = end.place })
       → IsAnswer names text from room answer

@@ -2,7 +2,7 @@
 use Rattle.std.specs.Prelude.{◌≡◌, ℕ, ◌+◌, ◌^◌, ◌<◌, ◌≤◌, true, false, List, length, drop, Option, Some, None, Result, Ok, Err}
 use Rattle.sp_tree.specs.declared.fault.Place.{Place}
 use Rattle.sp_tree.specs.declared.fault.FaultKind.{FaultKind}
-use Rattle.sp_tree.specs.declared.fault.FaultKind.TheVariants.{F1, F3}
+use Rattle.sp_tree.specs.declared.fault.FaultKind.TheVariants.{BadByte, OpenLiteral}
 use Rattle.sp_tree.specs.declared.token.Token.{Token}
 use Rattle.sp_tree.specs.declared.token.Kind.{Kind}
 use Rattle.sp_tree.specs.Names.{AreDistinct, Extends}
@@ -41,8 +41,8 @@ pub record TokenAt (names : List (List ℕ)) (text : List ℕ) (kind : Kind) (n 
 -- no token begins a text that has something other than blanks, comments and marker lines there
 pub data IsFaulty (text : List ℕ) (kind : FaultKind) : Type 0 where
   bad_spelling : (front next : List ℕ) → BeginsWith text front next → Reads front next (Err kind) → IsFaulty text kind
-  no_quote : begins is_quote text ≡ true → BeginsWithNone text → kind ≡ F3 → IsFaulty text kind
-  no_spelling : begins is_quote text ≡ false → BeginsWithNone text → kind ≡ F1 → IsFaulty text kind
+  no_quote : begins is_quote text ≡ true → BeginsWithNone text → kind ≡ OpenLiteral → IsFaulty text kind
+  no_spelling : begins is_quote text ≡ false → BeginsWithNone text → kind ≡ BadByte → IsFaulty text kind
 
 abbrev pub IfFaulty : List ℕ → Stop → Type 0
 IfFaulty text (stops.Fault kind) = IsFaulty text kind

@@ -7,7 +7,7 @@ use Rattle.sp_tree.specs.declared.token.Keyword.TheVariants.{Auto, Break, Case, 
 use Rattle.sp_lexer.specs.Bytes.{begins}
 use Rattle.sp_tree.specs.Spellings.{keyword_spelling}
 use Rattle.sp_tree.specs.declared.fault.FaultKind.{FaultKind}
-use Rattle.sp_tree.specs.declared.fault.FaultKind.TheVariants.{U3, U8}
+use Rattle.sp_tree.specs.declared.fault.FaultKind.TheVariants.{InlineAssembly, GnuWord}
 
 abbrev pub keywords : List Keyword
 keywords = Auto ∷ Break ∷ Case ∷ Char ∷ Const ∷ Continue ∷ Default ∷ Do ∷ Double ∷ Else ∷ Enum ∷ Extern ∷ Float ∷ For ∷ Goto ∷ If ∷ Int ∷ Long ∷ Register ∷ Return ∷ Short ∷ Signed ∷ Sizeof ∷ Static ∷ Struct ∷ Switch ∷ Typedef ∷ Union ∷ Unsigned ∷ Void ∷ Volatile ∷ While ∷ []
@@ -37,6 +37,6 @@ is_gnu_word word = list_any (bytes_eq word) gnu_words || starts_with nat_eq word
 -- the fault that a word is by itself
 unfoldable pub refused_word : List ℕ → Option FaultKind
 refused_word word =
-    if list_any (bytes_eq word) assembly_words then Some U3
-    else if is_gnu_word word then Some U8
+    if list_any (bytes_eq word) assembly_words then Some InlineAssembly
+    else if is_gnu_word word then Some GnuWord
     else None

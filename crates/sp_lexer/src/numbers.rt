@@ -163,13 +163,13 @@ pub(crate) fn read_number(run: &[u8]) -> Result<Number, FaultKind>
     ensures { result ≡ number_of run.now }
 {
     if is_floating_constant(run) {
-        return Err(FaultKind::U1);
+        return Err(FaultKind::FloatingType);
     }
     let (base, body) = base_and_body(run);
     let (digits, rest) = split_digits_in(base, body);
     match read_suffix(rest) {
         Some(suffix) if !digits.is_empty() => integer(base, digits, suffix),
-        _ => Err(FaultKind::F4),
+        _ => Err(FaultKind::MalformedLiteral),
     }
 }
 
@@ -180,10 +180,10 @@ fn integer(base: u64, digits: &[u8], suffix: Suffix) -> Result<Number, FaultKind
     ensures { result ≡ integer_of base digits.now (Some suffix) }
 {
     if suffix.long_long {
-        return Err(FaultKind::U10);
+        return Err(FaultKind::LongLong);
     }
     let Some(value) = value(base, digits) else {
-        return Err(FaultKind::F5);
+        return Err(FaultKind::LiteralPast64Bits);
     };
     Ok(Number {
         value,

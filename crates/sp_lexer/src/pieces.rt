@@ -48,7 +48,7 @@ fn pass_block_comment(text: &[u8], spot: Spot) -> Result<(&[u8], Spot), Stop>
     ensures fault { IfErr result (IfStands text.now spot) }
 {
     let Some(length) = comment_length(text) else {
-        return Err(Stop::Fault(FaultKind::F2));
+        return Err(Stop::Fault(FaultKind::OpenComment));
     };
     let (comment, next) = text.split_at(length);
     Ok((next, spot.after_comment(comment)))
@@ -72,7 +72,7 @@ fn pass_marker_line<'a>(
 {
     let (line, rest) = split_line(text);
     let Some(marker) = read_marker(line) else {
-        return Err(Stop::Fault(FaultKind::F6));
+        return Err(Stop::Fault(FaultKind::BadMarker));
     };
     let beyond = spot.along(line.len());
     let Marker::Named { line, name } = marker else {

@@ -32,7 +32,7 @@ fn error_at(stop: Stop, place: Place) -> ScanError
 
 /// The tokens of a text, with `End` last, where it has at most `room` others.
 ///
-/// A `Fault` is the first fault of the text, or `M1` at the first token past `room` where that stands before it. `name` is the
+/// A `Fault` is the first fault of the text, or `TooManyTokens` at the first token past `room` where that stands before it. `name` is the
 /// number of the text's name. A text that is scanned adds its own names to `names`, each once, in the order in which they
 /// stand in it: its identifiers, the bytes that its string literals stand for, and the names that marker lines give the line
 /// after them. A text that is refused may add names too. The old ones keep their numbers.
@@ -69,7 +69,7 @@ pub fn scan(
         if let Some(kind) = kind {
             let place = spot.place;
             if tokens.len() as u64 == room {
-                let kind = FaultKind::M1;
+                let kind = FaultKind::TooManyTokens;
                 return Err(ScanError::Fault(Fault { kind, place }));
             }
             let Ok(()) = tokens.push(Token { kind, place }) else {

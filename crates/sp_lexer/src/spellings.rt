@@ -44,7 +44,7 @@ fn word_kind(word: &[u8], next: &[u8], names: &mut Names) -> Result<Kind, Stop>
         return Err(Stop::Fault(kind));
     }
     if is_wide(word, next) {
-        return Err(Stop::Fault(FaultKind::U11));
+        return Err(Stop::Fault(FaultKind::WideLiteral));
     }
     match names.add(word) {
         Ok(number) => Ok(Kind::Name(number)),
@@ -64,7 +64,7 @@ fn string_kind(alloc: Global, body: &[u8], names: &mut Names) -> Result<Kind, St
             Ok(number) => Ok(Kind::Text(number)),
             Err(_) => Err(Stop::NoMemory),
         },
-        Ok(None) => Err(Stop::Fault(FaultKind::F4)),
+        Ok(None) => Err(Stop::Fault(FaultKind::MalformedLiteral)),
         Err(_) => Err(Stop::NoMemory),
     }
 }
@@ -76,7 +76,7 @@ fn character_kind(body: &[u8]) -> Result<Kind, Stop>
 {
     match read_character(body) {
         Some(value) => Ok(Kind::Char(value)),
-        None => Err(Stop::Fault(FaultKind::F4)),
+        None => Err(Stop::Fault(FaultKind::MalformedLiteral)),
     }
 }
 
@@ -139,7 +139,7 @@ fn literal_token(
     ensures named { IfOk result (λ r. AddsKind names.old names.new r.0) }
 {
     let Some(length) = before_quote(quote, rest) else {
-        return Err(Stop::Fault(FaultKind::F3));
+        return Err(Stop::Fault(FaultKind::OpenLiteral));
     };
     let kind = literal_kind(alloc, quote, &rest[..length], names)?;
     Ok((kind, length + 2))
@@ -157,7 +157,7 @@ fn mark_token(text: &[u8]) -> Result<(Kind, usize), Stop>
 {
     match mark_at(text) {
         Some(mark) => Ok((Kind::Mark(mark), mark.spelling().len())),
-        None => Err(Stop::Fault(FaultKind::F1)),
+        None => Err(Stop::Fault(FaultKind::BadByte)),
     }
 }
 

@@ -116,9 +116,9 @@ pub(crate) fn refused(word: &[u8]) -> Option<FaultKind>
     ensures { result ≡ refused_word word.now }
 {
     if is_assembly_word(word) {
-        Some(FaultKind::U3)
+        Some(FaultKind::InlineAssembly)
     } else if is_gnu_word(word) {
-        Some(FaultKind::U8)
+        Some(FaultKind::GnuWord)
     } else {
         None
     }

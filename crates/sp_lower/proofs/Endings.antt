@@ -4,9 +4,9 @@ use Rattle.std.specs.Prelude.{IfOk}
 use Rattle.sp_types.specs.Programs.{Program}
 use Rattle.sp_ir.specs.declared.command.Routine.{Routine}
 use Rattle.sp_ir.specs.Programs.{Object}
-use Rattle.sp_draft.specs.Context.{Context}
-use Rattle.sp_draft.specs.Draft.{Left}
-use Rattle.sp_lower_bodies.specs.Frames.{Initial}
+use Rattle.sp_lower_draft.specs.Context.{Context}
+use Rattle.sp_lower_draft.specs.Draft.{Left}
+use Rattle.sp_lower_body.specs.Frames.{Initial}
 use Rattle.sp_lower_functions.specs.Functions.{Part, lower_functions, temporary_counts}
 use Rattle.sp_lower_objects.specs.Initials.{initials_from}
 use Rattle.sp_lower.specs.Programs.{beginning, defined, first_local, context_with, program_context, start_due, first_site, lowering, counts_in, site_with, lowering_at, counts_with, objects_with, lowered_with, context_of_lowered, lowered_program, IsNumbered, IsNumberedBy}

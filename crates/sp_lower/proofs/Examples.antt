@@ -14,7 +14,7 @@ use Rattle.sp_types.specs.Statements.{TypedStatement, typed_statement, TypedStat
 use Rattle.sp_ir.specs.Programs.{Code}
 use Rattle.sp_ir.specs.Regions.{Region}
 use Rattle.sp_ir.specs.Shapes.{region}
-use Rattle.sp_draft.specs.Draft.{Left}
+use Rattle.sp_lower_draft.specs.Draft.{Left}
 use Rattle.sp_lower_functions.specs.Functions.{Part}
 use Rattle.sp_lower.specs.Programs.{lowering, lowered_program, IsNumbered}
 

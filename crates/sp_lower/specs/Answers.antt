@@ -1,7 +1,7 @@
 -- How the lowering of a program ends.
 use Rattle.std.specs.Prelude.{◌≡◌, ℕ, ◌<◌, ◌≤◌, List, length, Result, Ok, Err, ⊤}
 use Rattle.sp_tree.specs.declared.fault.FaultKind.{FaultKind}
-use Rattle.sp_tree.specs.declared.fault.FaultKind.TheVariants.{M4, M5}
+use Rattle.sp_tree.specs.declared.fault.FaultKind.TheVariants.{TooManyNodes, TooManyRegions}
 use Rattle.sp_types.specs.Programs.{Program}
 use Rattle.sp_ir.specs.Programs.{Lowered, lowered_of}
 use Rattle.sp_ir.specs.declared.program.Lowered.{Lowered as CodeLowered}
@@ -25,8 +25,8 @@ Fits l = (length l.nodes ≤ most_nodes) × (length l.regions ≤ most_regions)
 
 -- past the limit of nodes, or past that of regions and not of nodes
 abbrev pub IsPast : Lowered → FaultKind → Type 0
-IsPast l M4 = most_nodes < length l.nodes
-IsPast l M5 = (length l.nodes ≤ most_nodes) × (most_regions < length l.regions)
+IsPast l TooManyNodes = most_nodes < length l.nodes
+IsPast l TooManyRegions = (length l.nodes ≤ most_nodes) × (most_regions < length l.regions)
 IsPast l kind = ⊥
 
 -- a program that is past a limit

@@ -5,10 +5,10 @@ use Rattle.sp_types.specs.Programs.{Program, Function}
 use Rattle.sp_ir.specs.declared.command.Routine.{Routine}
 use Rattle.sp_ir.specs.Commands.{Node, start}
 use Rattle.sp_ir.specs.Programs.{Object, Lowered}
-use Rattle.sp_layouts.specs.Layouts.{pointers_of}
-use Rattle.sp_draft.specs.Context.{Context}
-use Rattle.sp_draft.specs.Draft.{Draft, Left}
-use Rattle.sp_lower_bodies.specs.Frames.{Initial}
+use Rattle.sp_base_layouts.specs.Layouts.{pointers_of}
+use Rattle.sp_lower_draft.specs.Context.{Context}
+use Rattle.sp_lower_draft.specs.Draft.{Draft, Left}
+use Rattle.sp_lower_body.specs.Frames.{Initial}
 use Rattle.sp_lower_functions.specs.Functions.{Part, result_count, functions_at, lower_functions, temporary_counts}
 use Rattle.sp_lower_objects.specs.Codes.{known_number, number_in, codes_from}
 use Rattle.sp_lower_objects.specs.Initials.{initials_from}

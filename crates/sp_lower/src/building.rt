@@ -3,9 +3,9 @@ ghost use Rattle.std.specs.Prelude.{◌≡◌, ◌++◌, length, map, option_map
 ghost use Rattle.sp_types.specs.View.{type_of, struct_of};
 ghost use Rattle.sp_types.specs.Programs.{program_of};
 ghost use Rattle.sp_ir.specs.Programs.{object_of, code_of, lowered_of};
-ghost use Rattle.sp_draft.specs.Draft.{left};
-ghost use Rattle.sp_draft.specs.View.{context_of, draft_of};
-ghost use Rattle.sp_lower_bodies.specs.View.{initial_view};
+ghost use Rattle.sp_lower_draft.specs.Draft.{left};
+ghost use Rattle.sp_lower_draft.specs.View.{context_of, draft_of};
+ghost use Rattle.sp_lower_body.specs.View.{initial_view};
 ghost use Rattle.sp_lower_functions.specs.View.{part_of};
 ghost use Rattle.sp_lower_objects.specs.Objects.{takes_pointer};
 ghost use Rattle.sp_lower_objects.specs.Owners.{codes_of, mark_at};
@@ -14,8 +14,8 @@ ghost use Rattle.sp_lower.specs.Seen.{seen_members};
 ghost use Rattle.sp_lower.specs.Programs.{context_with, defined, first_local, declared_with, made_with, objects_with, lowered_with};
 
 use crate::passes::{Known, end_scope, first_local, scope_of};
-use sp_draft::{Scope, number_behind};
 use sp_ir::{Code, Lowered, Object};
+use sp_lower_draft::{Scope, number_behind};
 use sp_lower_functions::{Functions, Part};
 use sp_lower_objects::{
     add_functions, add_locals, add_program_objects, add_sites, codes_from, codes_of, defined,

@@ -2,8 +2,8 @@
 ghost use Rattle.std.specs.Prelude.{◌≡◌, map, IfOk};
 ghost use Rattle.sp_types.specs.Programs.{program_of};
 ghost use Rattle.sp_ir.specs.Programs.{object_of};
-ghost use Rattle.sp_draft.specs.Draft.{left};
-ghost use Rattle.sp_draft.specs.View.{draft_of};
+ghost use Rattle.sp_lower_draft.specs.Draft.{left};
+ghost use Rattle.sp_lower_draft.specs.View.{draft_of};
 ghost use Rattle.sp_lower_functions.specs.View.{part_of};
 ghost use Rattle.sp_lower.specs.Programs.{lowered_with};
 ghost use Rattle.sp_lower.specs.Answers.{EndsAt};
@@ -42,7 +42,7 @@ pub fn ended(
         (left (map part_of functions.parts.items) (draft_of functions.draft))) o) }
 {
     if functions.draft.nodes.len() > MAX_NODES {
-        return Ok(Outcome::Past(FaultKind::M4));
+        return Ok(Outcome::Past(FaultKind::TooManyNodes));
     }
     if !regions_fit(
         alloc,
@@ -50,7 +50,7 @@ pub fn ended(
         objects.as_slice(),
         MAX_REGIONS,
     )? {
-        return Ok(Outcome::Past(FaultKind::M5));
+        return Ok(Outcome::Past(FaultKind::TooManyRegions));
     }
     Ok(Outcome::Whole(whole(alloc, program, objects, functions)?))
 }

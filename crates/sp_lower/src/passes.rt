@@ -2,10 +2,10 @@
 ghost use Rattle.std.specs.Prelude.{◌≡◌, ◌+◌, IsTrue, map, length, IfOk};
 ghost use Rattle.sp_types.specs.View.{struct_of};
 ghost use Rattle.sp_types.specs.Programs.{program_of, object_of, function_of};
-ghost use Rattle.sp_layouts.specs.Layouts.{pointers_of};
-ghost use Rattle.sp_draft.specs.Draft.{left};
-ghost use Rattle.sp_draft.specs.View.{context_of, draft_of};
-ghost use Rattle.sp_lower_bodies.specs.View.{initial_view};
+ghost use Rattle.sp_base_layouts.specs.Layouts.{pointers_of};
+ghost use Rattle.sp_lower_draft.specs.Draft.{left};
+ghost use Rattle.sp_lower_draft.specs.View.{context_of, draft_of};
+ghost use Rattle.sp_lower_body.specs.View.{initial_view};
 ghost use Rattle.sp_lower_functions.specs.Functions.{lower_functions, temporary_counts, result_count};
 ghost use Rattle.sp_lower_functions.specs.View.{part_of};
 ghost use Rattle.sp_lower_objects.specs.Codes.{number_in};
@@ -14,10 +14,10 @@ ghost use Rattle.sp_lower_objects.specs.Initials.{initials_from};
 ghost use Rattle.sp_lower_objects.specs.Routines.{routines_of};
 ghost use Rattle.sp_lower.specs.Programs.{beginning, defined, first_local, local_count, context_with};
 
-use sp_draft::{Draft, Scope, is_void, number_behind};
+use sp_base_layouts::pointer_flags;
 use sp_ir::{Command, Node, Routine};
-use sp_layouts::pointer_flags;
-use sp_lower_bodies::Initial;
+use sp_lower_body::Initial;
+use sp_lower_draft::{Draft, Scope, is_void, number_behind};
 use sp_lower_functions::{Functions, Part, lower_functions};
 use sp_lower_objects::{defined, initials_of, routines_of};
 use sp_tree::{Names, Place};

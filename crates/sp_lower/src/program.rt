@@ -1,9 +1,9 @@
 //! The lowering of a program.
 ghost use Rattle.std.specs.Prelude.{◌≡◌, ℕ, ◌+◌, map, IfOk};
 ghost use Rattle.sp_types.specs.Programs.{program_of};
-ghost use Rattle.sp_draft.specs.Draft.{left};
-ghost use Rattle.sp_draft.specs.View.{draft_of};
-ghost use Rattle.sp_lower_bodies.specs.View.{initial_view};
+ghost use Rattle.sp_lower_draft.specs.Draft.{left};
+ghost use Rattle.sp_lower_draft.specs.View.{draft_of};
+ghost use Rattle.sp_lower_body.specs.View.{initial_view};
 ghost use Rattle.sp_lower_functions.specs.Functions.{lower_functions};
 ghost use Rattle.sp_lower_functions.specs.View.{part_of};
 ghost use Rattle.sp_lower_objects.specs.Initials.{initials_from};

@@ -9,10 +9,10 @@ use Rattle.sp_types.specs.declared.typed.TypedExpr.{TypedExpr}
 use Rattle.sp_ir.specs.Commands.{Expression}
 use Rattle.sp_ir.specs.View.{expression_of}
 use Rattle.sp_ir.specs.declared.expr.Expr.{Expr}
-use Rattle.sp_draft.specs.Context.{Context}
-use Rattle.sp_draft.specs.Draft.{Draft, Left, left, keep}
-use Rattle.sp_draft.specs.Adds.{adds}
-use Rattle.sp_draft.specs.Expressions.{Operand, operand, operands, trees, arguments, callee_and_arguments, value_of}
+use Rattle.sp_lower_draft.specs.Context.{Context}
+use Rattle.sp_lower_draft.specs.Draft.{Draft, Left, left, keep}
+use Rattle.sp_lower_draft.specs.Adds.{adds}
+use Rattle.sp_lower_draft.specs.Expressions.{Operand, operand, operands, trees, arguments, callee_and_arguments, value_of}
 use Rattle.sp_lower_expr.specs.Size.{size, sizes}
 use Rattle.sp_lower_expr.specs.Adding.{adding, adding_behind}
 

@@ -1,7 +1,7 @@
 -- How many of these expressions add nodes.
 use Rattle.std.specs.Prelude.{ℕ, ◌-◌, suc, List, [], ◌∷◌, if◌then◌else◌}
 use Rattle.sp_types.specs.Typed.{Typed}
-use Rattle.sp_draft.specs.Adds.{adds}
+use Rattle.sp_lower_draft.specs.Adds.{adds}
 
 abbrev pub adding : List Typed → ℕ
 adding [] = 0

@@ -6,7 +6,7 @@ use Rattle.sp_ir.specs.declared.expr.Expr.{Expr}
 use Rattle.sp_ir.specs.declared.expr.Lvalue.{Lvalue as CodeLvalue}
 use Rattle.sp_ir.specs.Commands.{Expression, Lvalue}
 use Rattle.sp_ir.specs.View.{expression_of, lvalue_of}
-use Rattle.sp_draft.specs.Draft.{Draft, Left}
+use Rattle.sp_lower_draft.specs.Draft.{Draft, Left}
 
 -- the two values are these
 abbrev pub GivesBoth : Result (Expr × Expr) AllocError → Draft → Left (Expression × Expression)

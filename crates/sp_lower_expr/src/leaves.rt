@@ -7,7 +7,7 @@ ghost use Rattle.sp_types.specs.View.{type_of};
 ghost use Rattle.sp_types.specs.TypedView.{typed_of};
 ghost use Rattle.sp_ir.specs.Commands.{number, direct};
 ghost use Rattle.sp_ir.specs.View.{expression_of, lvalue_of};
-ghost use Rattle.sp_draft.specs.Context.{
+ghost use Rattle.sp_lower_draft.specs.Context.{
   kind_of,
   type_of_object,
   object_type,
@@ -15,10 +15,10 @@ ghost use Rattle.sp_draft.specs.Context.{
   function_type,
   function_object,
 };
-ghost use Rattle.sp_draft.specs.View.{context_of};
+ghost use Rattle.sp_lower_draft.specs.View.{context_of};
 
-use sp_draft::{Scope, kind_of, number_behind};
 use sp_ir::{Expr, Lvalue};
+use sp_lower_draft::{Scope, kind_of, number_behind};
 use sp_types::{CType, FunctionDef, ObjectDef, TypedExpr};
 use std::alloc::{AllocError, Global};
 

@@ -2,7 +2,7 @@
 //!
 //! `value`, `place`, `unused` and `branch` lower an expression by how it is used: they add its
 //! nodes to a draft, and hand back the pure expression, the lvalue, nothing, or the ends of the
-//! condition that is left. What each must be is `meaning` of `sp_draft` (`specs.Expressions`),
+//! condition that is left. What each must be is `meaning` of `sp_lower_draft` (`specs.Expressions`),
 //! one short clause for each form of C90. The contracts say that the draft becomes just that, and
 //! what is left is just that, where no memory is wanted.
 //!

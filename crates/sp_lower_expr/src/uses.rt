@@ -5,9 +5,9 @@ ghost use Rattle.sp_types.specs.View.{type_of};
 ghost use Rattle.sp_types.specs.TypedView.{typed_of, typed_list};
 ghost use Rattle.sp_ir.specs.Commands.{Expression};
 ghost use Rattle.sp_ir.specs.View.{lvalue_of, expression_of};
-ghost use Rattle.sp_draft.specs.Draft.{left, evaluated, fork};
-ghost use Rattle.sp_draft.specs.Steps.{loaded};
-ghost use Rattle.sp_draft.specs.Expressions.{
+ghost use Rattle.sp_lower_draft.specs.Draft.{left, evaluated, fork};
+ghost use Rattle.sp_lower_draft.specs.Steps.{loaded};
+ghost use Rattle.sp_lower_draft.specs.Expressions.{
   meaning,
   operand,
   operands,
@@ -26,24 +26,24 @@ ghost use Rattle.sp_draft.specs.Expressions.{
   called,
   call_place,
 };
-ghost use Rattle.sp_draft.specs.View.{context_of, draft_of};
-ghost use Rattle.sp_draft.specs.Outcome.{Leaves, Gives, GivesEnds};
+ghost use Rattle.sp_lower_draft.specs.View.{context_of, draft_of};
+ghost use Rattle.sp_lower_draft.specs.Outcome.{Leaves, Gives, GivesEnds};
 ghost use Rattle.std.specs.Prelude.{Vec};
 ghost use Rattle.std.specs.declared.alloc.Global.{Global};
 ghost use Rattle.sp_ir.specs.declared.expr.Expr.{Expr};
 ghost use Rattle.sp_ir.specs.Formed.{is_struct};
-ghost use Rattle.sp_draft.specs.Context.{is_void};
-ghost use Rattle.sp_draft.specs.Operators.{prefix_of};
+ghost use Rattle.sp_lower_draft.specs.Context.{is_void};
+ghost use Rattle.sp_lower_draft.specs.Operators.{prefix_of};
 ghost use Rattle.sp_lower_expr.specs.Outcome.{GivesBoth, GivesSides, GivesCall};
 
 use crate::leaves::{constant, function_at, nowhere, object_at};
 use crate::walks::{adding, adding_behind, adds};
-use sp_draft::{
+use sp_ir::{Expr, Lvalue};
+use sp_lower_draft::{
     Circuit, Draft, Ends, Prefix, Scope, circuit_of, evaluated, fork, is_plain_assign, is_struct,
     is_void, joined, keep, keep_place, kind_of, met, operator_of, prefix_of, stored_at, truth,
 };
-use sp_ir::{Expr, Lvalue};
-use sp_lower_steps::{
+use sp_lower_expr_steps::{
     addressed, arrow_taken, assigned, assigned_used, defined_called, followed, indexed, loaded,
     member_taken, negated, operated, result_place, stepped_used, undefined_called,
     undefined_callee, updated, updated_used,

@@ -1,10 +1,10 @@
 //! Whether expressions add nodes.
 ghost use Rattle.std.specs.Prelude.{◌≡◌, map};
 ghost use Rattle.sp_types.specs.TypedView.{typed_of};
-ghost use Rattle.sp_draft.specs.Adds.{adds, adds_unused};
+ghost use Rattle.sp_lower_draft.specs.Adds.{adds, adds_unused};
 ghost use Rattle.sp_lower_expr.specs.Adding.{adding, adding_behind};
 
-use sp_draft::{Prefix, circuit_of, is_void, prefix_of};
+use sp_lower_draft::{Prefix, circuit_of, is_void, prefix_of};
 use sp_types::{TypedExpr, TypedForm};
 
 /// Whether its value has nodes.

@@ -3,9 +3,9 @@ use Rattle.std.proofs.Common.{◌≡◌, ℕ, zero, suc, ◌+◌, ◌≤◌, ◌
 use Rattle.std.proofs.lemmas.List.{map-append, drop_all}
 use Rattle.std.proofs.Math.Seq.{drop-nil}
 use Rattle.sp_types.specs.Programs.{Function}
-use Rattle.sp_draft.specs.Context.{Context}
-use Rattle.sp_draft.specs.Draft.{Draft, Left, left}
-use Rattle.sp_lower_bodies.specs.Frames.{Frame, Initial}
+use Rattle.sp_lower_draft.specs.Context.{Context}
+use Rattle.sp_lower_draft.specs.Draft.{Draft, Left, left}
+use Rattle.sp_lower_body.specs.Frames.{Frame, Initial}
 use Rattle.sp_lower_functions.specs.Functions.{Part, part_of_function, lower_function, result_count, frame_for, first_count, counts_behind, with_function, functions_at, lower_functions}
 use Rattle.sp_lower_functions.specs.View.{part_of}
 use Rattle.sp_lower_functions.specs.declared.functions.Part.{Part as CodePart}

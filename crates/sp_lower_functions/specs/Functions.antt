@@ -4,11 +4,11 @@ use Rattle.sp_types.specs.Types.{CType, result_of}
 use Rattle.sp_types.specs.Programs.{Function}
 use Rattle.sp_types.specs.Statements.{TypedStatement}
 use Rattle.sp_ir.specs.Commands.{entry, exit}
-use Rattle.sp_draft.specs.Context.{Context, is_void}
-use Rattle.sp_draft.specs.Draft.{Draft, Left, left, next, add}
-use Rattle.sp_lower_bodies.specs.Frames.{Frame, Initial}
-use Rattle.sp_lower_bodies.specs.Bodies.{Body}
-use Rattle.sp_lower_bodies.specs.Statements.{lower_statement}
+use Rattle.sp_lower_draft.specs.Context.{Context, is_void}
+use Rattle.sp_lower_draft.specs.Draft.{Draft, Left, left, next, add}
+use Rattle.sp_lower_body.specs.Frames.{Frame, Initial}
+use Rattle.sp_lower_body.specs.Bodies.{Body}
+use Rattle.sp_lower_body.specs.Statements.{lower_statement}
 
 -- ---- gotos (C90 6.6.6.1)
 

@@ -4,10 +4,10 @@ ghost use Rattle.sp_types.specs.Types.{result_of};
 ghost use Rattle.sp_types.specs.View.{type_of, signature_of};
 ghost use Rattle.sp_types.specs.TypedView.{statement_of};
 ghost use Rattle.sp_types.specs.Programs.{function_of};
-ghost use Rattle.sp_draft.specs.Context.{is_void};
-ghost use Rattle.sp_draft.specs.Draft.{left};
-ghost use Rattle.sp_draft.specs.View.{context_of, draft_of};
-ghost use Rattle.sp_lower_bodies.specs.View.{frame_of, body_of, initial_view};
+ghost use Rattle.sp_lower_draft.specs.Context.{is_void};
+ghost use Rattle.sp_lower_draft.specs.Draft.{left};
+ghost use Rattle.sp_lower_draft.specs.View.{context_of, draft_of};
+ghost use Rattle.sp_lower_body.specs.View.{frame_of, body_of, initial_view};
 ghost use Rattle.sp_lower_functions.specs.Functions.{
   begun,
   outside_functions,
@@ -24,9 +24,9 @@ ghost use Rattle.sp_lower_functions.specs.Functions.{
 ghost use Rattle.sp_lower_functions.specs.View.{part_of};
 
 use crate::gotos::ended;
-use sp_draft::{Draft, Scope, is_void, number_behind};
 use sp_ir::Command;
-use sp_lower_bodies::{Body, Frame, Initial};
+use sp_lower_body::{Body, Frame, Initial};
+use sp_lower_draft::{Draft, Scope, is_void, number_behind};
 use sp_lower_statements::statement;
 use sp_types::{CType, FunctionDef, TypedStatement};
 use std::alloc::{AllocError, Global};

@@ -1,13 +1,13 @@
 //! The edges of `goto` (C90 6.6.6.1).
 ghost use Rattle.std.specs.Prelude.{◌≡◌, ℕ, ◌++◌, nat_eq, IfOk, OnOk};
 ghost use Rattle.indexmap.specs.IndexMap.{get};
-ghost use Rattle.sp_draft.specs.View.{draft_of};
-ghost use Rattle.sp_lower_bodies.specs.View.{body_of};
+ghost use Rattle.sp_lower_draft.specs.View.{draft_of};
+ghost use Rattle.sp_lower_body.specs.View.{body_of};
 ghost use Rattle.sp_lower_functions.specs.Functions.{label_node, node_in, goto_edges, ended};
 
 use indexmap::IndexMap;
-use sp_draft::Draft;
-use sp_lower_bodies::Body;
+use sp_lower_body::Body;
+use sp_lower_draft::Draft;
 use std::alloc::{AllocError, Global};
 
 /// The node of each label, by its name. The last is noted first, so that of two labels of one name

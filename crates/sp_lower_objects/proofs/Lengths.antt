@@ -9,7 +9,7 @@ use Rattle.sp_ir.specs.Programs.{Object}
 use Rattle.sp_ir.specs.Terrain.{size_of}
 use Rattle.sp_ir.specs.Formed.{root_count}
 use Rattle.sp_ir.specs.Shapes.{Shape, Shapes, scalar, floating_shape, union_of, array_of, struct_of, no_shapes, next_shape, is_floating_shape, regions, member_regions, region_count, member_region_count}
-use Rattle.sp_layouts.specs.Layouts.{layout_of}
+use Rattle.sp_base_layouts.specs.Layouts.{layout_of}
 use Rattle.sp_lower_objects.specs.Regions.{is_function, object_regions, all_regions, kind_count, all_counts}
 
 kept : (b : Bool) (xs ys : List Region) (n m : ℕ) → length xs ≡ n → length ys ≡ m → length (cond b [] xs ++ ys) ≡ cond b 0 n + m

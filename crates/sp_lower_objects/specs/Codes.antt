@@ -3,7 +3,7 @@ use Rattle.std.specs.Prelude.{ℕ, ◌+◌, List, [], ◌∷◌, Option, Some, N
 use Rattle.sp_types.specs.Types.{result_of}
 use Rattle.sp_types.specs.Programs.{Function}
 use Rattle.sp_ir.specs.Programs.{Code}
-use Rattle.sp_draft.specs.Context.{is_void}
+use Rattle.sp_lower_draft.specs.Context.{is_void}
 use Rattle.sp_lower_functions.specs.Functions.{Part, result_count}
 
 abbrev pub known_part : Option Part → Part

@@ -5,9 +5,9 @@ use Rattle.sp_types.specs.Types.{CType, Struct}
 use Rattle.sp_types.specs.Programs.{Object}
 use Rattle.sp_ir.specs.Shapes.{region_count}
 use Rattle.sp_ir.specs.Terrain.{size_of}
-use Rattle.sp_layouts.specs.Layouts.{layout_of}
-use Rattle.sp_layouts.specs.Leaves.{start_cells, zero_cells}
-use Rattle.sp_lower_bodies.specs.Frames.{Initial}
+use Rattle.sp_base_layouts.specs.Layouts.{layout_of}
+use Rattle.sp_base_layouts.specs.Leaves.{start_cells, zero_cells}
+use Rattle.sp_lower_body.specs.Frames.{Initial}
 
 -- how many regions an object of the program has; one without a layout has one
 abbrev pub object_region_count : List Struct → CType → ℕ

@@ -12,10 +12,10 @@ use Rattle.sp_ir.specs.declared.program.ObjectKind.{ObjectKind}
 use Rattle.sp_ir.specs.declared.program.ObjectKind.TheVariants as kinds
 use Rattle.sp_ir.specs.Commands.{Leaf}
 use Rattle.sp_ir.specs.Programs.{Object}
-use Rattle.sp_draft.specs.Context.{Context, has_pointer, is_void, object_type}
-use Rattle.sp_draft.specs.Draft.{Site}
+use Rattle.sp_lower_draft.specs.Context.{Context, has_pointer, is_void, object_type}
+use Rattle.sp_lower_draft.specs.Draft.{Site}
 use Rattle.sp_lower_starts.specs.Starts.{start_value}
-use Rattle.sp_lower_bodies.specs.Frames.{Initial, known_initial}
+use Rattle.sp_lower_body.specs.Frames.{Initial, known_initial}
 use Rattle.sp_lower_functions.specs.Functions.{Part}
 use Rattle.sp_lower_objects.specs.Codes.{part_at, number_in}
 use Rattle.sp_lower_objects.specs.Names.{name_at, local_name, string_name, temporary_name, result_name, heap_name, foreign_name}

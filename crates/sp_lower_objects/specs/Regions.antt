@@ -8,7 +8,7 @@ use Rattle.sp_ir.specs.Regions.{Region}
 use Rattle.sp_ir.specs.Shapes.{region, regions, region_count}
 use Rattle.sp_ir.specs.Formed.{root_count}
 use Rattle.sp_ir.specs.Terrain.{size_of}
-use Rattle.sp_layouts.specs.Layouts.{layout_of}
+use Rattle.sp_base_layouts.specs.Layouts.{layout_of}
 
 -- of the object n of this type, which isn't a function; without a layout it is kept as bytes
 abbrev pub typed_regions : List Struct → ℕ → Option ℕ → CType → List Region

@@ -6,8 +6,8 @@ ghost use Rattle.sp_lower_functions.specs.View.{part_of};
 ghost use Rattle.sp_lower_objects.specs.Codes.{part_at, number_in, result_object, code_for, codes_from, first_behind};
 ghost use Rattle.sp_lower_objects.specs.Seen.{seen_function};
 
-use sp_draft::{is_void, number_behind};
 use sp_ir::Code;
+use sp_lower_draft::{is_void, number_behind};
 use sp_lower_functions::Part;
 use sp_types::FunctionDef;
 use std::alloc::{AllocError, Global};

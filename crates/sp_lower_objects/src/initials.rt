@@ -2,13 +2,13 @@
 ghost use Rattle.std.specs.Prelude.{◌≡◌, ◌+◌, map, IfOk};
 ghost use Rattle.sp_types.specs.View.{type_of, struct_of};
 ghost use Rattle.sp_types.specs.Programs.{object_of};
-ghost use Rattle.sp_layouts.specs.Summaries.{AreSummaries};
-ghost use Rattle.sp_lower_bodies.specs.View.{initial_view};
+ghost use Rattle.sp_base_layouts.specs.Summaries.{AreSummaries};
+ghost use Rattle.sp_lower_body.specs.View.{initial_view};
 ghost use Rattle.sp_lower_objects.specs.Initials.{object_region_count, initial_at, initials_from};
 
-use sp_draft::size_of;
-use sp_layouts::{Layouts, cells_left, region_count, start_cells, summaries_of};
-use sp_lower_bodies::Initial;
+use sp_base_layouts::{Layouts, cells_left, region_count, start_cells, summaries_of};
+use sp_lower_body::Initial;
+use sp_lower_draft::size_of;
 use sp_types::{ObjectDef, StructType};
 use std::alloc::{AllocError, Global};
 

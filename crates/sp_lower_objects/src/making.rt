@@ -5,9 +5,9 @@ ghost use Rattle.sp_types.specs.View.{type_of, signature_of};
 ghost use Rattle.sp_types.specs.Programs.{function_of};
 ghost use Rattle.sp_ir.specs.Programs.{object_of};
 ghost use Rattle.std.specs.List.{list_any};
-ghost use Rattle.sp_draft.specs.Context.{has_pointer, object_type};
+ghost use Rattle.sp_lower_draft.specs.Context.{has_pointer, object_type};
 ghost use Rattle.sp_lower_objects.specs.Names.{name_at};
-ghost use Rattle.sp_draft.specs.View.{context_of, site_of};
+ghost use Rattle.sp_lower_draft.specs.View.{context_of, site_of};
 ghost use Rattle.sp_lower_functions.specs.View.{part_of};
 ghost use Rattle.sp_lower_objects.specs.Seen.{seen_function};
 ghost use Rattle.sp_lower_objects.specs.Objects.{
@@ -23,8 +23,8 @@ ghost use Rattle.sp_lower_objects.specs.Objects.{
 
 use crate::codes::part_at;
 use crate::naming::{foreign_name, heap_name, name_at, result_name, temporary_name};
-use sp_draft::{Scope, Site, has_pointer, is_void};
 use sp_ir::{Object, ObjectKind};
+use sp_lower_draft::{Scope, Site, has_pointer, is_void};
 use sp_lower_functions::Part;
 use sp_tree::Names;
 use sp_types::{CType, FunctionDef};

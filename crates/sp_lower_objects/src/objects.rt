@@ -8,9 +8,9 @@ ghost use Rattle.sp_types.specs.Programs.{function_of};
 ghost use Rattle.sp_ir.specs.Programs.{object_of};
 ghost use Rattle.sp_ir.specs.declared.program.ObjectKind.TheVariants as kinds;
 ghost use Rattle.sp_ir.specs.View.{leaf_of};
-ghost use Rattle.sp_draft.specs.View.{context_of};
-ghost use Rattle.sp_lower_bodies.specs.Frames.{known_initial};
-ghost use Rattle.sp_lower_bodies.specs.View.{initial_view};
+ghost use Rattle.sp_lower_draft.specs.View.{context_of};
+ghost use Rattle.sp_lower_body.specs.Frames.{known_initial};
+ghost use Rattle.sp_lower_body.specs.View.{initial_view};
 ghost use Rattle.sp_lower_objects.specs.Objects.{
   kind_of_storage,
   is_text,
@@ -37,9 +37,9 @@ ghost use Rattle.sp_lower_objects.specs.Seen.{seen_function};
 use crate::codes::number_in;
 use crate::naming::{local_name, name_at, string_name};
 use crate::owners::mark_at;
-use sp_draft::Scope;
 use sp_ir::{Leaf, Object, ObjectKind};
-use sp_lower_bodies::Initial;
+use sp_lower_body::Initial;
+use sp_lower_draft::Scope;
 use sp_lower_starts::start_value;
 use sp_tree::Names;
 use sp_types::{CType, FunctionDef, ObjectDef, Storage, TypedExpr};

@@ -4,12 +4,12 @@ ghost use Rattle.sp_types.specs.View.{type_of, struct_of};
 ghost use Rattle.sp_ir.specs.Programs.{object_of};
 ghost use Rattle.sp_ir.specs.Regions.{region_of, region_list};
 ghost use Rattle.sp_ir.specs.Formed.{root_count};
-ghost use Rattle.sp_layouts.specs.Summaries.{AreSummaries};
+ghost use Rattle.sp_base_layouts.specs.Summaries.{AreSummaries};
 ghost use Rattle.sp_lower_objects.specs.Regions.{is_function, typed_regions, kind_regions, object_regions, all_regions, kind_count, all_counts};
 
-use sp_draft::size_of;
+use sp_base_layouts::{Layouts, Part, add_regions, push_region, region_count, summaries_of};
 use sp_ir::{Object, ObjectKind, Region, Regions};
-use sp_layouts::{Layouts, Part, add_regions, push_region, region_count, summaries_of};
+use sp_lower_draft::size_of;
 use sp_types::{CType, StructType};
 use std::alloc::{AllocError, Global};
 

@@ -3,13 +3,13 @@
 use Rattle.std.specs.Prelude.{[], Option, Some, None, if◌then◌else◌}
 use Rattle.sp_types.specs.Typed.{Typed, typed, TypedForm, of}
 use Rattle.sp_types.specs.Typed as tree
-use Rattle.sp_constants.specs.Constants.{constant_of}
+use Rattle.sp_check_constants.specs.Constants.{constant_of}
 use Rattle.sp_ir.specs.Commands.{Expression, number, convert, Lvalue}
-use Rattle.sp_draft.specs.Context.{Context, kind_of}
-use Rattle.sp_draft.specs.Draft.{Draft}
-use Rattle.sp_draft.specs.Steps.{addressed, loaded, indexed, member_taken, arrow_taken, followed, operated}
-use Rattle.sp_draft.specs.Expressions.{operand, value_of, meaning}
-use Rattle.sp_draft.specs.Adds.{form_adds}
+use Rattle.sp_lower_draft.specs.Context.{Context, kind_of}
+use Rattle.sp_lower_draft.specs.Draft.{Draft}
+use Rattle.sp_lower_draft.specs.Steps.{addressed, loaded, indexed, member_taken, arrow_taken, followed, operated}
+use Rattle.sp_lower_draft.specs.Expressions.{operand, value_of, meaning}
+use Rattle.sp_lower_draft.specs.Adds.{form_adds}
 
 -- no node yet
 abbrev pub empty : Draft

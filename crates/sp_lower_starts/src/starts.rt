@@ -2,14 +2,16 @@
 ghost use Rattle.std.specs.Prelude.{◌≡◌, IfOk};
 ghost use Rattle.sp_types.specs.TypedView.{typed_of};
 ghost use Rattle.sp_ir.specs.View.{expression_of, lvalue_of};
-ghost use Rattle.sp_draft.specs.View.{context_of, draft_of};
+ghost use Rattle.sp_lower_draft.specs.View.{context_of, draft_of};
 ghost use Rattle.sp_lower_starts.specs.Starts.{empty, plain_value, plain_place, start_value, start_place};
 
-use sp_constants::constant;
-use sp_draft::{Draft, Scope, kind_of};
+use sp_check_constants::constant;
 use sp_ir::{Expr, Lvalue};
+use sp_lower_draft::{Draft, Scope, kind_of};
 use sp_lower_expr::{adds, place, value};
-use sp_lower_steps::{addressed, arrow_taken, followed, indexed, loaded, member_taken, operated};
+use sp_lower_expr_steps::{
+    addressed, arrow_taken, followed, indexed, loaded, member_taken, operated,
+};
 use sp_types::{TypedExpr, TypedForm};
 use std::alloc::{AllocError, Global};
 

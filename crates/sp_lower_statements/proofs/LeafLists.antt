@@ -9,11 +9,11 @@ use Rattle.sp_types.specs.declared.typed.TypedExpr.{TypedExpr}
 use Rattle.sp_ir.specs.Commands.{Expression, Leaf}
 use Rattle.sp_ir.specs.View.{leaf_of}
 use Rattle.sp_ir.specs.declared.command.Leaf.{Leaf as CodeLeaf}
-use Rattle.sp_draft.specs.Context.{Context}
-use Rattle.sp_draft.specs.Draft.{Draft, Left, left, keep}
-use Rattle.sp_draft.specs.Adds.{adds}
-use Rattle.sp_draft.specs.Expressions.{operand, value_of}
-use Rattle.sp_lower_bodies.specs.Declarations.{first_cell, cells_behind, any_start_adds, leaves}
+use Rattle.sp_lower_draft.specs.Context.{Context}
+use Rattle.sp_lower_draft.specs.Draft.{Draft, Left, left, keep}
+use Rattle.sp_lower_draft.specs.Adds.{adds}
+use Rattle.sp_lower_draft.specs.Expressions.{operand, value_of}
+use Rattle.sp_lower_body.specs.Declarations.{first_cell, cells_behind, any_start_adds, leaves}
 use Rattle.sp_lower_statements.specs.Starts.{starts_of, adding_starts, adding_behind}
 
 -- these values before the others

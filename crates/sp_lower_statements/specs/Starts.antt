@@ -3,7 +3,7 @@ use Rattle.std.specs.Prelude.{ℕ, suc, ◌-◌, List, [], ◌∷◌, map, if◌
 use Rattle.sp_types.specs.declared.typed.TypedExpr.{TypedExpr}
 use Rattle.sp_types.specs.Typed.{Typed}
 use Rattle.sp_types.specs.TypedView.{typed_of}
-use Rattle.sp_draft.specs.Adds.{adds}
+use Rattle.sp_lower_draft.specs.Adds.{adds}
 
 abbrev pub starts_of : List (ℕ × TypedExpr) → List (ℕ × Typed)
 starts_of es = map (λ s. (s.0, typed_of s.1)) es

@@ -6,10 +6,10 @@ ghost use Rattle.sp_types.specs.TypedView.{typed_of};
 ghost use Rattle.sp_types.specs.Programs.{object_of};
 ghost use Rattle.sp_ir.specs.View.{leaf_of};
 ghost use Rattle.sp_ir.specs.declared.command.Leaf.{Leaf};
-ghost use Rattle.sp_draft.specs.View.{context_of, draft_of};
-ghost use Rattle.sp_draft.specs.Outcome.{Leaves, Gives};
-ghost use Rattle.sp_lower_bodies.specs.Frames.{initial_of, known_initial};
-ghost use Rattle.sp_lower_bodies.specs.Declarations.{
+ghost use Rattle.sp_lower_draft.specs.View.{context_of, draft_of};
+ghost use Rattle.sp_lower_draft.specs.Outcome.{Leaves, Gives};
+ghost use Rattle.sp_lower_body.specs.Frames.{initial_of, known_initial};
+ghost use Rattle.sp_lower_body.specs.Declarations.{
   first_cell,
   leaves,
   initialised,
@@ -20,12 +20,12 @@ ghost use Rattle.sp_lower_bodies.specs.Declarations.{
   declared,
   declare_all,
 };
-ghost use Rattle.sp_lower_bodies.specs.View.{frame_of, initial_view};
+ghost use Rattle.sp_lower_body.specs.View.{frame_of, initial_view};
 ghost use Rattle.sp_lower_statements.specs.Starts.{starts_of, adding_starts, adding_behind};
 
-use sp_draft::{Draft, Scope, is_scalar, is_struct, keep, stored};
 use sp_ir::{Command, Leaf, Lvalue};
-use sp_lower_bodies::{Frame, Initial};
+use sp_lower_body::{Frame, Initial};
+use sp_lower_draft::{Draft, Scope, is_scalar, is_struct, keep, stored};
 use sp_lower_expr::{adds, value};
 use sp_tree::Place;
 use sp_types::{CType, Storage, TypedExpr};

@@ -1,7 +1,7 @@
 //! The nodes and edges of statements.
 //!
 //! `statement` goes down a statement of C90 and adds its nodes to a body. Its contract says that
-//! the body becomes just `lower_statement` of the tree (`specs.Statements` of `sp_lower_bodies`),
+//! the body becomes just `lower_statement` of the tree (`specs.Statements` of `sp_lower_body`),
 //! where no memory is wanted.
 //!
 //! So `int a = f(); while (a) a--;` adds the call with its return, `a := t`, the `skip` that is
@@ -9,7 +9,7 @@
 //! head.
 //!
 //! The values of expressions come from `sp_lower_expr`; what loops and jumps do around their
-//! parts from `sp_lower_bodies`. Here are declarations with start values, the header of a
+//! parts from `sp_lower_body`. Here are declarations with start values, the header of a
 //! `switch`, and the recursion.
 #![tactic(auto)]
 

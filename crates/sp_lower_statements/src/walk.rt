@@ -1,22 +1,22 @@
 //! The cycle down statements (C90 6.6).
 ghost use Rattle.std.specs.Prelude.{◌≡◌, IfOk, map, option_map, OnOk};
 ghost use Rattle.sp_types.specs.TypedView.{boxed_of, statement_list, statement_of};
-ghost use Rattle.sp_draft.specs.View.{context_of, draft_of};
-ghost use Rattle.sp_draft.specs.Outcome.{Leaves, GivesEnds};
-ghost use Rattle.sp_lower_bodies.specs.Statements.{
+ghost use Rattle.sp_lower_draft.specs.View.{context_of, draft_of};
+ghost use Rattle.sp_lower_draft.specs.Outcome.{Leaves, GivesEnds};
+ghost use Rattle.sp_lower_body.specs.Statements.{
   maybe_unused,
   maybe_branch,
   maybe_returned,
   lower_statement,
   lower_all,
 };
-ghost use Rattle.sp_lower_bodies.specs.View.{frame_of, body_of};
+ghost use Rattle.sp_lower_body.specs.View.{frame_of, body_of};
 
 use crate::declarations::declare_all;
 use crate::switches::{begin_switch, end_switch};
-use sp_draft::{Draft, Ends, Scope, stored};
 use sp_ir::{Command, Lvalue};
-use sp_lower_bodies::{Body, Frame, has_default};
+use sp_lower_body::{Body, Frame, has_default};
+use sp_lower_draft::{Draft, Ends, Scope, stored};
 use sp_lower_expr::{branch, unused, value};
 use sp_tree::Place;
 use sp_types::{TypedExpr, TypedStatement, TypedStatementForm};

@@ -1,8 +1,8 @@
 -- At first no row has anything.
 use Rattle.std.proofs.Common.{◌≡◌, ◌∙◌, ℕ, zero, suc, true, List, [], replicate, refl, sym, ap, subst, arith}
 use Rattle.std.proofs.lemmas.Bool.{false≢true}
-use Rattle.sp_sets.specs.Sets.{has, Ascends}
-use Rattle.sp_sets.specs.Reached.{row}
+use Rattle.sp_base_sets.specs.Sets.{has, Ascends}
+use Rattle.sp_base_sets.specs.Reached.{row}
 
 abbrev Nothing : ℕ → List (List ℕ)
 Nothing count = replicate count []

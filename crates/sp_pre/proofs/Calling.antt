@@ -5,12 +5,12 @@ use Rattle.std.proofs.lemmas.Bool.{false≢true}
 use Rattle.sp_ir.specs.Commands.{Expression}
 use Rattle.sp_ir.specs.Programs.{Lowered, Code}
 use Rattle.sp_ir.specs.Functions.{function_at, taking, with_formals, code_at}
-use Rattle.sp_sets.specs.Sets.{has}
-use Rattle.sp_sets.specs.Reached.{row}
-use Rattle.sp_sets.proofs.Members.{which}
-use Rattle.sp_tables.specs.Tables.{Table}
+use Rattle.sp_base_sets.specs.Sets.{has}
+use Rattle.sp_base_sets.specs.Reached.{row}
+use Rattle.sp_base_sets.proofs.Members.{which}
+use Rattle.sp_points_expr.specs.Tables.{Table}
 use Rattle.sp_graph.specs.Calls.{AreCallees}
-use Rattle.sp_puts.specs.Puts.{CallsBy, as_call, command_at, command_in}
+use Rattle.sp_points_rules.specs.Puts.{CallsBy, as_call, command_at, command_in}
 use Rattle.sp_pre.specs.PointsTo.{AreCalls}
 
 some_same : {x y : ℕ} → Some x ≡ Some y → x ≡ y

@@ -1,10 +1,10 @@
 -- What points-to tells of a program.
 use Rattle.std.specs.Prelude.{◌≡◌, ◌↔◌, ℕ, Bool, true, List, length}
 use Rattle.sp_ir.specs.Programs.{Lowered}
-use Rattle.sp_sets.specs.Sets.{has}
-use Rattle.sp_sets.specs.Reached.{row}
-use Rattle.sp_tables.specs.Tables.{Table}
-use Rattle.sp_puts.specs.Puts.{CallsBy, as_call, command_at}
+use Rattle.sp_base_sets.specs.Sets.{has}
+use Rattle.sp_base_sets.specs.Reached.{row}
+use Rattle.sp_points_expr.specs.Tables.{Table}
+use Rattle.sp_points_rules.specs.Puts.{CallsBy, as_call, command_at}
 use Rattle.sp_graph.specs.Calls.{Callees}
 
 -- the regions to which each cell may point, the functions that each node calls, and a mark for each

@@ -2,16 +2,16 @@
 ghost use Rattle.std.specs.Prelude.{◌≡◌, ◌↔◌, ℕ, length, true, IfOk};
 ghost use Rattle.sp_ir.specs.Programs.{lowered_of};
 ghost use Rattle.sp_ir.specs.Formed.{IsFormed};
-ghost use Rattle.sp_sets.specs.Sets.{has};
-ghost use Rattle.sp_sets.specs.Reached.{row};
-ghost use Rattle.sp_puts.specs.Paths.{AreGroups};
-ghost use Rattle.sp_puts.specs.Puts.{CallsBy, as_call, command_at};
+ghost use Rattle.sp_base_sets.specs.Sets.{has};
+ghost use Rattle.sp_base_sets.specs.Reached.{row};
+ghost use Rattle.sp_points_rules.specs.Paths.{AreGroups};
+ghost use Rattle.sp_points_rules.specs.Puts.{CallsBy, as_call, command_at};
 ghost use Rattle.sp_pre.specs.PointsTo.{AreCalls};
 
+use sp_base_sets::NumberSet;
 use sp_graph::CallGraph;
 use sp_ir::Lowered;
-use sp_puts::{Facts, Groups, callees_of};
-use sp_sets::NumberSet;
+use sp_points_rules::{Facts, Groups, callees_of};
 use std::alloc::{AllocError, Global};
 
 /// The functions that a node calls, by the rows.

@@ -9,7 +9,7 @@
 //! ```
 //!
 //! [`points_to`] is exact: a cell points to a region just where each set that is closed under the
-//! commands says so (`IsLeastClosed` of `sp_tables` for `rules_of` of `sp_puts`). A node calls just
+//! commands says so (`IsLeastClosed` of `sp_points_expr` for `rules_of` of `sp_points_rules`). A node calls just
 //! the functions to which its callee may point and that take as many arguments (`AreCalls` of
 //! `specs.PointsTo`). The table is made by a worklist of nodes (`solve`), in which a node waits
 //! again when a cell grew that it looked at. This is Andersen's analysis ("Program Analysis and

@@ -2,19 +2,19 @@
 ghost use Rattle.std.specs.Prelude.{◌≡◌, ◌↔◌, ℕ, true, false, slice_index_or, IfOk};
 ghost use Rattle.sp_ir.specs.Programs.{lowered_of};
 ghost use Rattle.sp_ir.specs.Formed.{IsFormed};
-ghost use Rattle.sp_sets.specs.Sets.{Ascends};
-ghost use Rattle.sp_sets.specs.Reached.{row};
-ghost use Rattle.sp_tables.specs.Tables.{IsLeastClosed};
-ghost use Rattle.sp_puts.specs.Puts.{rules_of};
+ghost use Rattle.sp_base_sets.specs.Sets.{Ascends};
+ghost use Rattle.sp_base_sets.specs.Reached.{row};
+ghost use Rattle.sp_points_expr.specs.Tables.{IsLeastClosed};
+ghost use Rattle.sp_points_rules.specs.Puts.{rules_of};
 ghost use Rattle.sp_graph.specs.Calls.{AreCallees, IsRecursive};
 ghost use Rattle.sp_pre.specs.PointsTo.{AreCalls};
 
 use crate::calls::calls_of;
 use crate::solve::least;
+use sp_base_sets::NumberSet;
 use sp_graph::{CallGraph, recursive};
 use sp_ir::Lowered;
-use sp_puts::groups_of;
-use sp_sets::NumberSet;
+use sp_points_rules::groups_of;
 use std::alloc::{AllocError, Global};
 use std::marker::Model;
 
@@ -35,8 +35,8 @@ impl Model for PointsTo {
 }
 
 impl PointsTo {
-    ghost use Rattle.sp_sets.specs.Sets.{Ascends};
-    ghost use Rattle.sp_sets.specs.Reached.{row};
+    ghost use Rattle.sp_base_sets.specs.Sets.{Ascends};
+    ghost use Rattle.sp_base_sets.specs.Reached.{row};
     ghost use Rattle.std.specs.Prelude.{slice_index_or, false};
 
     /// Where a cell may point, ascending.

@@ -2,18 +2,18 @@
 ghost use Rattle.std.specs.Prelude.{◌≡◌, ◌⊎◌, ◌<◌, ◌≤◌, ◌^◌, ℕ, List, length, true, IfOk, OnOk};
 ghost use Rattle.sp_ir.specs.Programs.{lowered_of};
 ghost use Rattle.sp_ir.specs.Formed.{IsFormed};
-ghost use Rattle.sp_sets.specs.Sets.{has, Ascends};
-ghost use Rattle.sp_sets.specs.Reached.{row};
-ghost use Rattle.sp_tables.specs.Tables.{Table, Limited, IsLeastClosed};
-ghost use Rattle.sp_tables.specs.Growing.{in_puts, size, Working};
-ghost use Rattle.sp_puts.specs.Paths.{AreGroups};
-ghost use Rattle.sp_puts.specs.Puts.{rules_of};
-ghost use Rattle.sp_puts.specs.Gathered.{Adds};
+ghost use Rattle.sp_base_sets.specs.Sets.{has, Ascends};
+ghost use Rattle.sp_base_sets.specs.Reached.{row};
+ghost use Rattle.sp_points_expr.specs.Tables.{Table, Limited, IsLeastClosed};
+ghost use Rattle.sp_points_expr.specs.Growing.{in_puts, size, Working};
+ghost use Rattle.sp_points_rules.specs.Paths.{AreGroups};
+ghost use Rattle.sp_points_rules.specs.Puts.{rules_of};
+ghost use Rattle.sp_points_rules.specs.Gathered.{Adds};
 
+use sp_base_sets::NumberSet;
 use sp_ir::Lowered;
-use sp_puts::{Facts, Gathered, Groups, puts_of};
-use sp_sets::NumberSet;
-use sp_tables::{Growing, Queue, put_each, register};
+use sp_points_expr::{Growing, Queue, put_each, register};
+use sp_points_rules::{Facts, Gathered, Groups, puts_of};
 use std::alloc::{AllocError, Global};
 
 /// The least rows: no command lets a cell point to more.

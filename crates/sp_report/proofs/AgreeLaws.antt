@@ -6,7 +6,7 @@ use Rattle.sp_ir.specs.Commands.{Node}
 use Rattle.sp_ir.specs.Programs.{Lowered}
 use Rattle.sp_value.specs.declared.slots.Slot.{Slot}
 use Rattle.sp_report.specs.Inputs.{store_given, alarms_at, alarms_from}
-use Rattle.sp_verdicts.specs.declared.alarm.Alarm.{Alarm}
+use Rattle.sp_effect_alarms.specs.declared.alarm.Alarm.{Alarm}
 use Rattle.sp_report.specs.ByNode.{lines_of_node, by_node_from}
 use Rattle.sp_report.specs.Values.{value_line, node_lines, uses_at, values_from}
 use Rattle.sp_report.specs.Laws.{InputLaws}

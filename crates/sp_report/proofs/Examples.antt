@@ -16,9 +16,9 @@ use Rattle.sp_value.specs.declared.targets.Target.{Target}
 use Rattle.sp_value.specs.declared.slots.Slot.{Slot}
 use Rattle.sp_value.specs.Known.{of_numbers, none}
 use Rattle.sp_value.specs.Slots.{slot_of}
-use Rattle.sp_verdicts.specs.declared.alarm.Alarm.{Alarm}
-use Rattle.sp_verdicts.specs.declared.alarm.AlarmKind.{AlarmKind}
-use Rattle.sp_verdicts.specs.declared.alarm.AlarmKind.TheVariants.{Overrun, Zero, Pointer, NoFunction, Punned}
+use Rattle.sp_effect_alarms.specs.declared.alarm.Alarm.{Alarm}
+use Rattle.sp_effect_alarms.specs.declared.alarm.AlarmKind.{AlarmKind}
+use Rattle.sp_effect_alarms.specs.declared.alarm.AlarmKind.TheVariants.{Overrun, Zero, Pointer, NoFunction, Punned}
 use Rattle.sp_report.specs.Texts.{kind_text}
 use Rattle.sp_report.specs.Report.{report_text}
 use Rattle.sp_report.specs.Places.{region_name}

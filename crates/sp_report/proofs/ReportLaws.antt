@@ -5,7 +5,7 @@ use Rattle.std.specs.BTreeSet.{insert_key}
 use Rattle.std.specs.declared.cmp.Ordering.{Ordering}
 use Rattle.std.specs.declared.cmp.Ordering.TheVariants.{Less, Equal, Greater}
 use Rattle.std.specs.Ordering.{match_ordering}
-use Rattle.sp_verdicts.specs.declared.alarm.Alarm.{Alarm}
+use Rattle.sp_effect_alarms.specs.declared.alarm.Alarm.{Alarm}
 use Rattle.sp_report.specs.Report.{line_cmp, line_of, lines_of, text_of_lines, report_count}
 use Rattle.sp_report.specs.Laws.{HaveSameMembers, ReportLaws}
 use Rattle.sp_report.proofs.SetLaws.{sorted_fold, same_fold}

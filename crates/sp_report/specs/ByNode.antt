@@ -4,7 +4,7 @@ use Rattle.std.specs.List.{flat_map}
 use Rattle.std.specs.Fmt.{decimal}
 use Rattle.sp_ir.specs.Programs.{Lowered}
 use Rattle.sp_value.specs.declared.slots.Slot.{Slot}
-use Rattle.sp_verdicts.specs.declared.alarm.Alarm.{Alarm}
+use Rattle.sp_effect_alarms.specs.declared.alarm.Alarm.{Alarm}
 use Rattle.sp_report.specs.Report.{Line, lines_of, line_text}
 use Rattle.sp_report.specs.Inputs.{store_given, alarms_at}
 

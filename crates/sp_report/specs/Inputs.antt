@@ -6,8 +6,8 @@ use Rattle.sp_ir.specs.Programs.{Lowered}
 use Rattle.sp_value.specs.declared.slots.Slot.{Slot}
 use Rattle.sp_value.specs.declared.slots.Slot.TheVariants.{Nothing}
 use Rattle.sp_value.specs.Locations.{cells_at}
-use Rattle.sp_verdicts.specs.declared.alarm.Alarm.{Alarm}
-use Rattle.sp_verdicts.specs.Commands.{node_alarms, is_proper_command}
+use Rattle.sp_effect_alarms.specs.declared.alarm.Alarm.{Alarm}
+use Rattle.sp_effect_alarms.specs.Commands.{node_alarms, is_proper_command}
 
 abbrev pub slot_or_nothing : Option Slot → Slot
 slot_or_nothing None = Nothing

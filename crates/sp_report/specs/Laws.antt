@@ -5,7 +5,7 @@ use Rattle.std.specs.List.Sorted.{IsStrictlySortedBy}
 use Rattle.sp_lattice.specs.System.{has}
 use Rattle.sp_ir.specs.Programs.{Lowered}
 use Rattle.sp_value.specs.declared.slots.Slot.{Slot}
-use Rattle.sp_verdicts.specs.declared.alarm.Alarm.{Alarm}
+use Rattle.sp_effect_alarms.specs.declared.alarm.Alarm.{Alarm}
 use Rattle.sp_report.specs.Inputs.{store_given, alarms_at, alarms_from}
 use Rattle.sp_report.specs.ByNode.{by_node_from}
 use Rattle.sp_report.specs.Values.{uses_at, values_from}

@@ -6,9 +6,9 @@ use Rattle.std.specs.BTreeSet.{insert_key}
 use Rattle.std.specs.declared.cmp.Ordering.{Ordering}
 use Rattle.std.specs.Ordering.{nat_cmp, ordering_then}
 use Rattle.std.specs.Cmp.Lexicographic.{slice_cmp}
-use Rattle.sp_verdicts.specs.declared.alarm.Alarm.{Alarm}
-use Rattle.sp_verdicts.specs.declared.alarm.AlarmKind.{AlarmKind}
-use Rattle.sp_verdicts.specs.declared.alarm.AlarmKind.TheVariants.{Overrun, Zero, Pointer, NoFunction, Punned}
+use Rattle.sp_effect_alarms.specs.declared.alarm.Alarm.{Alarm}
+use Rattle.sp_effect_alarms.specs.declared.alarm.AlarmKind.{AlarmKind}
+use Rattle.sp_effect_alarms.specs.declared.alarm.AlarmKind.TheVariants.{Overrun, Zero, Pointer, NoFunction, Punned}
 use Rattle.sp_report.specs.Texts.{file_name, alarm_text}
 
 -- the place of a kind in the order of lines

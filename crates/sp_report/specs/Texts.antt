@@ -5,9 +5,9 @@ use Rattle.std.specs.Fmt.{decimal, signed_decimal}
 use Rattle.sp_tree.specs.declared.fault.Place.{Place}
 use Rattle.sp_interval.specs.declared.interval.Interval.{Interval}
 use Rattle.sp_interval.specs.declared.interval.Interval.TheVariants.{Empty, Of}
-use Rattle.sp_verdicts.specs.declared.alarm.Alarm.{Alarm}
-use Rattle.sp_verdicts.specs.declared.alarm.AlarmKind.{AlarmKind}
-use Rattle.sp_verdicts.specs.declared.alarm.AlarmKind.TheVariants.{Overrun, Zero, Pointer, NoFunction, Punned}
+use Rattle.sp_effect_alarms.specs.declared.alarm.Alarm.{Alarm}
+use Rattle.sp_effect_alarms.specs.declared.alarm.AlarmKind.{AlarmKind}
+use Rattle.sp_effect_alarms.specs.declared.alarm.AlarmKind.TheVariants.{Overrun, Zero, Pointer, NoFunction, Punned}
 
 -- none of an alarm or a target is empty
 abbrev pub interval_text : Interval → List ℕ

@@ -7,11 +7,11 @@ ghost use Rattle.sp_report.specs.ByNode.{lines_of_node, by_node_from};
 use crate::inputs::{InputAt, add_alarms};
 use crate::lines::{add_text, lines_of};
 use crate::places::Legend;
+use sp_effect_alarms::Alarm;
 use sp_ir::Lowered;
 use sp_lattice::Inputs;
 use sp_tree::Names;
 use sp_value::{Locations, Slot};
-use sp_verdicts::Alarm;
 use std::alloc::{AllocError, Global};
 
 // Adds the lines of the node of a number, which has these alarms.

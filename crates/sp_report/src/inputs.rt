@@ -5,10 +5,10 @@ ghost use Rattle.sp_ir.specs.View.{node_of};
 ghost use Rattle.sp_value.specs.declared.slots.Slot.TheVariants.{Nothing};
 ghost use Rattle.sp_report.specs.Inputs.{store_given, IsProperNode, AreProperNodes, alarms_at, alarms_from};
 
+use sp_effect_alarms::{Alarm, verdicts};
 use sp_ir::{Lowered, Node};
 use sp_lattice::Inputs;
 use sp_value::{Locations, Slot, View};
-use sp_verdicts::{Alarm, verdicts};
 use std::alloc::{AllocError, Global};
 
 /// The store that reaches one node of a table of inputs: nothing where no slot is given.

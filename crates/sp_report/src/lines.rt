@@ -7,8 +7,8 @@ ghost use Rattle.sp_report.specs.Report.{kind_rank, line_of, line_cmp, line_text
 ghost use Rattle.sp_report.specs.Lines.{rank_number, seen};
 
 use crate::texts::{AlarmTail, Position};
+use sp_effect_alarms::{Alarm, AlarmKind};
 use sp_tree::{Names, Place};
-use sp_verdicts::{Alarm, AlarmKind};
 use std::alloc::{AllocError, Global};
 use std::collections::BTreeSet;
 

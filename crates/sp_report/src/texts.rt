@@ -2,9 +2,9 @@
 ghost use Rattle.std.specs.Prelude.{◌≡◌};
 ghost use Rattle.sp_report.specs.Texts.{is_one};
 
+use sp_effect_alarms::{Alarm, AlarmKind};
 use sp_interval::Interval;
 use sp_tree::Place;
-use sp_verdicts::{Alarm, AlarmKind};
 use std::fmt;
 
 /// An interval, as `[a,b]`.

@@ -2,22 +2,22 @@
 use Rattle.std.proofs.Common.{◌≡◌, ◌<◌, ◌^◌, ℕ, true, List, Option, Some, None, refl, sym, ap, ◌∙◌}
 use Rattle.std.specs.Prelude.{slice_get}
 use Rattle.sp_lattice.specs.System.{has}
-use Rattle.sp_sets.proofs.Members.{has_there}
+use Rattle.sp_base_sets.proofs.Members.{has_there}
 use Rattle.sp_ir.specs.Commands.{Node}
 use Rattle.sp_value.specs.Slots.{known_in}
 use Rattle.sp_value.specs.Locations.{location_of, known_at}
-use Rattle.sp_puts.specs.Puts.{command_in}
-use Rattle.sp_rows.specs.Rows.{Store}
-use Rattle.sp_rows.specs.Setting.{count, cell_of}
-use Rattle.sp_rows.specs.Laws.{UnderCeiling, AgreeAt}
-use Rattle.sp_rows.proofs.SettingLaws.{location-found, cells-within}
-use Rattle.sp_stores.specs.Scene.{known_in_regions}
-use Rattle.sp_scenes.specs.Analysed.{Analysed, setting_of, scene_of, locations_of}
-use Rattle.sp_scenes.specs.Whole.{IsAnalysed}
-use Rattle.sp_scenes.specs.SceneLaws.{scene-is}
-use Rattle.sp_verdicts.specs.Commands.{node_alarms}
-use Rattle.sp_verdicts.specs.Uses.{command_uses}
-use Rattle.sp_verdicts.proofs.NodeLaws.{node-agrees}
+use Rattle.sp_points_rules.specs.Puts.{command_in}
+use Rattle.sp_effect_rows.specs.Rows.{Store}
+use Rattle.sp_effect_rows.specs.Setting.{count, cell_of}
+use Rattle.sp_effect_rows.specs.Laws.{UnderCeiling, AgreeAt}
+use Rattle.sp_effect_rows.proofs.SettingLaws.{location-found, cells-within}
+use Rattle.sp_effect_assign.specs.Scene.{known_in_regions}
+use Rattle.sp_effect_scene.specs.Analysed.{Analysed, setting_of, scene_of, locations_of}
+use Rattle.sp_effect_scene.specs.Whole.{IsAnalysed}
+use Rattle.sp_effect_scene.specs.SceneLaws.{scene-is}
+use Rattle.sp_effect_alarms.specs.Commands.{node_alarms}
+use Rattle.sp_effect_alarms.specs.Uses.{command_uses}
+use Rattle.sp_effect_alarms.proofs.NodeLaws.{node-agrees}
 use Rattle.sp_transfer.specs.Effects.{used_by, used_at}
 use Rattle.sp_transfer.proofs.UsedLaws.{alarms-used}
 

@@ -2,19 +2,19 @@
 use Rattle.std.proofs.Common.{◌≡◌, ℕ, Option, Some, None, refl, subst, sym}
 use Rattle.sp_tree.specs.declared.token.Punct.{Punct}
 use Rattle.sp_ir.specs.Commands.{Expression, Command, start, entry, exit, skip, assign, copy, init, assume, eval, call, return, library, outside}
-use Rattle.sp_puts.specs.Puts.{command_at}
+use Rattle.sp_points_rules.specs.Puts.{command_at}
 use Rattle.sp_eval.specs.Numbers.{relation_of}
-use Rattle.sp_rows.specs.Laws.{IsLawful, IsEffect}
-use Rattle.sp_rows.proofs.AllLaws.{row_laws}
-use Rattle.sp_stores.proofs.AssignLaws.{assign_laws}
-use Rattle.sp_conditions.specs.Conditions.{assume_defines, assume_uses}
-use Rattle.sp_conditions.proofs.ConditionLaws.{condition_laws}
-use Rattle.sp_scenes.specs.Analysed.{Analysed, setting_of, scene_of}
-use Rattle.sp_scenes.specs.Whole.{IsAnalysed}
-use Rattle.sp_scenes.proofs.AllLaws.{scene_laws}
-use Rattle.sp_entries.proofs.AllLaws.{entry_laws}
-use Rattle.sp_calls.proofs.AllLaws.{call_laws}
-use Rattle.sp_library.proofs.AllLaws.{library_laws}
+use Rattle.sp_effect_rows.specs.Laws.{IsLawful, IsEffect}
+use Rattle.sp_effect_rows.proofs.AllLaws.{row_laws}
+use Rattle.sp_effect_assign.proofs.AssignLaws.{assign_laws}
+use Rattle.sp_effect_assume.specs.Conditions.{assume_defines, assume_uses}
+use Rattle.sp_effect_assume.proofs.ConditionLaws.{condition_laws}
+use Rattle.sp_effect_scene.specs.Analysed.{Analysed, setting_of, scene_of}
+use Rattle.sp_effect_scene.specs.Whole.{IsAnalysed}
+use Rattle.sp_effect_scene.proofs.AllLaws.{scene_laws}
+use Rattle.sp_effect_entry.proofs.AllLaws.{entry_laws}
+use Rattle.sp_effect_call.proofs.AllLaws.{call_laws}
+use Rattle.sp_effect_library.proofs.AllLaws.{library_laws}
 use Rattle.sp_transfer.specs.Effects.{assuming_by, row_of, defined_by, used_by, defined_at, used_at, effect_at}
 
 module _ (a : Analysed) (whole : IsAnalysed a) (n : ℕ) where

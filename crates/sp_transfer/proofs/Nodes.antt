@@ -4,12 +4,12 @@ use Rattle.std.specs.Prelude.{slice_get}
 use Rattle.std.proofs.Props.{props}
 use Rattle.std.proofs.Math.Logic.{∥∥₁_elim}
 use Rattle.sp_ir.specs.Commands.{Command, Node, skip}
-use Rattle.sp_puts.specs.Puts.{command_in, command_at}
-use Rattle.sp_scenes.specs.Analysed.{Analysed}
-use Rattle.sp_scenes.specs.Whole.{IsAnalysed}
-use Rattle.sp_scenes.proofs.Formed.{command-formed}
-use Rattle.sp_verdicts.specs.Commands.{is_proper_command}
-use Rattle.sp_verdicts.proofs.ProperCommands.{command-proper}
+use Rattle.sp_points_rules.specs.Puts.{command_in, command_at}
+use Rattle.sp_effect_scene.specs.Analysed.{Analysed}
+use Rattle.sp_effect_scene.specs.Whole.{IsAnalysed}
+use Rattle.sp_effect_scene.proofs.Formed.{command-formed}
+use Rattle.sp_effect_alarms.specs.Commands.{is_proper_command}
+use Rattle.sp_effect_alarms.proofs.ProperCommands.{command-proper}
 
 there-low : {A : Type 0} (xs : List A) (i : ℕ) (x : A) → slice_get xs i ≡ Some x → i < length xs
 there-low [] i x h = cc

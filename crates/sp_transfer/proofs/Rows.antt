@@ -6,9 +6,9 @@ use Rattle.std.proofs.lemmas.List.Kept.{AllPairs-from_increasing}
 use Rattle.sp_lattice.specs.System.{has, written}
 use Rattle.sp_value.specs.declared.slots.Slot.{Slot}
 use Rattle.sp_value.specs.declared.slots.Slot.TheVariants.{Nothing}
-use Rattle.sp_updates.specs.Rows.{store_of}
-use Rattle.sp_updates.proofs.Numbers.{which, same_number, apart_numbers}
-use Rattle.sp_updates.proofs.Ordered.{rest_rises, has-nowhere}
+use Rattle.sp_effect_rows.specs.Updates.{store_of}
+use Rattle.sp_effect_rows.proofs.Numbers.{which, same_number, apart_numbers}
+use Rattle.sp_effect_rows.proofs.Ordered.{rest_rises, has-nowhere}
 
 first_only : (p : ℕ) (places : List ℕ) → IsStrictlyIncreasing (p ∷ places) → has p places ≡ false
 first_only p places rises = has-nowhere p places (λ k low e. omega (arith, e, AllPairs-from_increasing (p ∷ places) rises 0 (suc k) 0 (omega arith) (omega (arith, low))))

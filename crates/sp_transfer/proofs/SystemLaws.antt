@@ -5,8 +5,8 @@ use Rattle.std.proofs.Math.Logic.{∥∥₁_elim}
 use Rattle.std.proofs.lemmas.Bool.Decides.{nat_tests}
 use Rattle.std.proofs.lemmas.List.{length-map, get_or_default}
 use Rattle.sp_lattice.specs.System.{IsSystem, has, AllBelow, Held}
-use Rattle.sp_sets.specs.Reached.{row}
-use Rattle.sp_sets.proofs.Members.{has_there}
+use Rattle.sp_base_sets.specs.Reached.{row}
+use Rattle.sp_base_sets.proofs.Members.{has_there}
 use Rattle.sp_value.specs.declared.slots.Slot.{Slot}
 use Rattle.sp_value.specs.declared.slots.Slot.TheVariants.{Nothing}
 use Rattle.sp_value.specs.Tests.{first}
@@ -15,15 +15,15 @@ use Rattle.sp_value.specs.Slots.{slot_le, slot_join, slot_order, known_in}
 use Rattle.sp_value.specs.SlotLaws.{known_in-monotone}
 use Rattle.sp_value.specs.Held.{slot_rank}
 use Rattle.sp_value.specs.HeldLaws.{slot_join-held, slot_rank-rises, slot_rank-most}
-use Rattle.sp_rows.specs.Rows.{Store}
-use Rattle.sp_rows.specs.Setting.{count, cell_of, ceiling, ceiling_known, widest}
-use Rattle.sp_rows.specs.Laws.{HeldStore, AgreeAt}
-use Rattle.sp_rows.proofs.SettingLaws.{ceiling-knows}
-use Rattle.sp_scenes.specs.Analysed.{setting_of}
-use Rattle.sp_scenes.specs.Whole.{IsAnalysed}
-use Rattle.sp_scenes.proofs.AllLaws.{scene_laws}
-use Rattle.sp_scenes.proofs.Few.{targets-few}
-use Rattle.sp_calls.proofs.StoringSteps.{low-member}
+use Rattle.sp_effect_rows.specs.Rows.{Store}
+use Rattle.sp_effect_rows.specs.Setting.{count, cell_of, ceiling, ceiling_known, widest}
+use Rattle.sp_effect_rows.specs.Laws.{HeldStore, AgreeAt}
+use Rattle.sp_effect_rows.proofs.SettingLaws.{ceiling-knows}
+use Rattle.sp_effect_scene.specs.Analysed.{setting_of}
+use Rattle.sp_effect_scene.specs.Whole.{IsAnalysed}
+use Rattle.sp_effect_scene.proofs.AllLaws.{scene_laws}
+use Rattle.sp_effect_scene.proofs.Few.{targets-few}
+use Rattle.sp_effect_call.proofs.StoringSteps.{low-member}
 use Rattle.sp_transfer.specs.Effects.{used_at, effect_at}
 use Rattle.sp_transfer.specs.Equations.{Equations, nodes_of, number_of, is_joined, height_of, meaning_of, AreEquations}
 use Rattle.sp_transfer.proofs.EffectLaws.{effect-lawful}

@@ -7,24 +7,24 @@ use Rattle.sp_ir.specs.Terrain.{Terrain, terrain_of}
 use Rattle.sp_ir.specs.Denoted.{PointsTo, pointer_uses, uses_of, cells_of}
 use Rattle.sp_eval.specs.Laws.{Among}
 use Rattle.sp_eval.proofs.Among.{among-left, among-right, among-filter, among-flat_map}
-use Rattle.sp_puts.specs.Puts.{as_struct, struct_in, struct_read}
-use Rattle.sp_puts.specs.Paths.{reaches}
-use Rattle.sp_puts.proofs.Reaching.{reaches-self}
-use Rattle.sp_verdicts.specs.Uses.{list_uses, result_uses, command_uses}
+use Rattle.sp_points_rules.specs.Puts.{as_struct, struct_in, struct_read}
+use Rattle.sp_points_rules.specs.Paths.{reaches}
+use Rattle.sp_points_rules.proofs.Reaching.{reaches-self}
+use Rattle.sp_effect_alarms.specs.Uses.{list_uses, result_uses, command_uses}
 use Rattle.sp_lattice.specs.System.{has}
-use Rattle.sp_rows.specs.Setting.{cell_of}
-use Rattle.sp_stores.specs.Destinations.{keeps_hit, assigned_reads}
-use Rattle.sp_conditions.specs.Conditions.{assume_defines, assumed_reads}
-use Rattle.sp_scenes.specs.Analysed.{Analysed, setting_of, scene_of, locations_of, is_summary}
-use Rattle.sp_entries.specs.Initials.{init_defines, is_shared, leaf_reads}
-use Rattle.sp_calls.specs.Copied.{cells_in}
-use Rattle.sp_calls.specs.Copies.{keeps_leaves, struct_reads, argument_reads, arguments_read, result_keeps, result_found}
-use Rattle.sp_calls.specs.Passed.{call_defines}
-use Rattle.sp_calls.specs.Returns.{result_reads}
-use Rattle.sp_calls.proofs.ReadCells.{location-cell}
-use Rattle.sp_rows.specs.Storing.{may_hit}
-use Rattle.sp_library.specs.Written.{written_by}
-use Rattle.sp_library.specs.Effects.{written_to, moved_reads, library_reads}
+use Rattle.sp_effect_rows.specs.Setting.{cell_of}
+use Rattle.sp_effect_assign.specs.Destinations.{keeps_hit, assigned_reads}
+use Rattle.sp_effect_assume.specs.Conditions.{assume_defines, assumed_reads}
+use Rattle.sp_effect_scene.specs.Analysed.{Analysed, setting_of, scene_of, locations_of, is_summary}
+use Rattle.sp_effect_entry.specs.Initials.{init_defines, is_shared, leaf_reads}
+use Rattle.sp_effect_call.specs.Copied.{cells_in}
+use Rattle.sp_effect_call.specs.Copies.{keeps_leaves, struct_reads, argument_reads, arguments_read, result_keeps, result_found}
+use Rattle.sp_effect_call.specs.Passed.{call_defines}
+use Rattle.sp_effect_call.specs.Returns.{result_reads}
+use Rattle.sp_effect_call.proofs.ReadCells.{location-cell}
+use Rattle.sp_effect_rows.specs.Storing.{may_hit}
+use Rattle.sp_effect_library.specs.Written.{written_by}
+use Rattle.sp_effect_library.specs.Effects.{written_to, moved_reads, library_reads}
 use Rattle.sp_transfer.specs.Effects.{used_by}
 
 or-right : (a b : Bool) → b ≡ true → (a || b) ≡ true

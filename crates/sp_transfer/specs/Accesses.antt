@@ -1,7 +1,7 @@
 -- Which locations the functions of a program access.
 use Rattle.std.specs.Prelude.{◌≡◌, ◌⊎◌, ◌||◌, ℕ, true, Some}
 use Rattle.sp_graph.specs.Calls.{function_of, Leads}
-use Rattle.sp_scenes.specs.Analysed.{Analysed}
+use Rattle.sp_effect_scene.specs.Analysed.{Analysed}
 use Rattle.sp_transfer.specs.Effects.{defined_at, used_at}
 
 -- a node of the function, or of one that calls lead to from it, defines or uses the location

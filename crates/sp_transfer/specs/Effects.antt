@@ -5,22 +5,22 @@ use Rattle.sp_lattice.specs.declared.relations.Relation.{Relation}
 use Rattle.sp_ir.specs.Commands.{Expression, Command, start, entry, exit, skip, assign, copy, init, assume, eval, call, return, library, outside}
 use Rattle.sp_ir.specs.Terrain.{terrain_of}
 use Rattle.sp_ir.specs.Denoted.{uses_of}
-use Rattle.sp_puts.specs.Puts.{command_at}
+use Rattle.sp_points_rules.specs.Puts.{command_at}
 use Rattle.sp_eval.specs.Numbers.{relation_of}
-use Rattle.sp_rows.specs.Rows.{Store, Row, applied, untouched}
-use Rattle.sp_rows.specs.Setting.{cell_of}
-use Rattle.sp_rows.specs.Storing.{may_hit}
-use Rattle.sp_stores.specs.Destinations.{destination, assigning, assign_uses}
-use Rattle.sp_conditions.specs.Conditions.{assuming, assume_defines, assume_uses}
-use Rattle.sp_scenes.specs.Analysed.{Analysed, setting_of, scene_of}
-use Rattle.sp_entries.specs.Starts.{starting, start_defines, start_uses}
-use Rattle.sp_entries.specs.Entries.{entering, entry_defines}
-use Rattle.sp_entries.specs.Initials.{initialising, init_defines, init_uses}
-use Rattle.sp_calls.specs.Copies.{leaf_destination, copying, copy_uses, result_defines}
-use Rattle.sp_calls.specs.Outside.{from_outside, outside_uses}
-use Rattle.sp_calls.specs.Passed.{calling, call_defines, call_uses}
-use Rattle.sp_calls.specs.Returns.{returning, return_uses}
-use Rattle.sp_library.specs.Effects.{library_row, library_defines, library_uses}
+use Rattle.sp_effect_rows.specs.Rows.{Store, Row, applied, untouched}
+use Rattle.sp_effect_rows.specs.Setting.{cell_of}
+use Rattle.sp_effect_rows.specs.Storing.{may_hit}
+use Rattle.sp_effect_assign.specs.Destinations.{destination, assigning, assign_uses}
+use Rattle.sp_effect_assume.specs.Conditions.{assuming, assume_defines, assume_uses}
+use Rattle.sp_effect_scene.specs.Analysed.{Analysed, setting_of, scene_of}
+use Rattle.sp_effect_entry.specs.Starts.{starting, start_defines, start_uses}
+use Rattle.sp_effect_entry.specs.Entries.{entering, entry_defines}
+use Rattle.sp_effect_entry.specs.Initials.{initialising, init_defines, init_uses}
+use Rattle.sp_effect_call.specs.Copies.{leaf_destination, copying, copy_uses, result_defines}
+use Rattle.sp_effect_call.specs.Outside.{from_outside, outside_uses}
+use Rattle.sp_effect_call.specs.Passed.{calling, call_defines, call_uses}
+use Rattle.sp_effect_call.specs.Returns.{returning, return_uses}
+use Rattle.sp_effect_library.specs.Effects.{library_row, library_defines, library_uses}
 
 -- a formed program has no condition of another mark
 abbrev pub assuming_by : Analysed → Option Relation → Expression → Expression → Store → Row

@@ -5,15 +5,15 @@ use Rattle.std.specs.Prelude.{◌≡◌, ◌↔◌, ◌<◌, ◌+◌, ◌*◌, �
 use Rattle.std.specs.List.{list_any}
 use Rattle.std.specs.List.Sorted.{IsStrictlyIncreasing}
 use Rattle.sp_lattice.specs.System.{Meaning, has, AllBelow}
-use Rattle.sp_sets.specs.Reached.{row}
+use Rattle.sp_base_sets.specs.Reached.{row}
 use Rattle.sp_graph.specs.Calls.{IsReached}
 use Rattle.sp_graph.specs.declared.edge.Edge.{Edge}
 use Rattle.sp_graph.specs.Supergraph.{Graph, IsSupergraph, edges_at, passes_by}
 use Rattle.sp_value.specs.declared.slots.Slot.{Slot}
 use Rattle.sp_value.specs.Slots.{slot_le, known_in}
 use Rattle.sp_value.specs.Held.{stored, slot_rank}
-use Rattle.sp_rows.specs.Setting.{count, ceiling}
-use Rattle.sp_scenes.specs.Analysed.{Analysed, setting_of}
+use Rattle.sp_effect_rows.specs.Setting.{count, ceiling}
+use Rattle.sp_effect_scene.specs.Analysed.{Analysed, setting_of}
 use Rattle.sp_transfer.specs.Effects.{defined_at, used_at, effect_at}
 use Rattle.sp_transfer.specs.Accesses.{Accesses}
 

@@ -3,12 +3,12 @@ use Rattle.std.specs.Prelude.{◌≡◌, ℕ, Some, slice_get}
 use Rattle.sp_lattice.specs.System.{IsSystem}
 use Rattle.sp_value.specs.Slots.{slot_order}
 use Rattle.sp_ir.specs.Commands.{Node}
-use Rattle.sp_verdicts.specs.Commands.{node_alarms}
-use Rattle.sp_rows.specs.Rows.{Store}
-use Rattle.sp_rows.specs.Laws.{IsEffect, UnderCeiling, AgreeAt}
-use Rattle.sp_stores.specs.Scene.{known_in_regions}
-use Rattle.sp_scenes.specs.Analysed.{Analysed, setting_of, scene_of}
-use Rattle.sp_scenes.specs.Whole.{IsAnalysed}
+use Rattle.sp_effect_alarms.specs.Commands.{node_alarms}
+use Rattle.sp_effect_rows.specs.Rows.{Store}
+use Rattle.sp_effect_rows.specs.Laws.{IsEffect, UnderCeiling, AgreeAt}
+use Rattle.sp_effect_assign.specs.Scene.{known_in_regions}
+use Rattle.sp_effect_scene.specs.Analysed.{Analysed, setting_of, scene_of}
+use Rattle.sp_effect_scene.specs.Whole.{IsAnalysed}
 use Rattle.sp_transfer.specs.Effects.{defined_at, used_at, effect_at}
 use Rattle.sp_transfer.specs.Equations.{Equations, AreEquations, meaning_of}
 

@@ -1,19 +1,19 @@
 //! Sparrow's program: a static analyser for C.
 //!
 //! The words of the command line go in. A report, a refusal or the usage line comes out, and an exit
-//! status. `main` makes the real files, standard output and the words, and calls `run` of `sp_run`,
+//! status. `main` makes the real files, standard output and the words, and calls `run` of `sp_run_command`,
 //! whose contract says what each status means.
 #![tactic(auto)]
 
 ghost use Rattle.std.specs.Prelude.{◌≡◌, ◌≢◌, ◌<◌, ◌≤◌, ℕ, List, [], Some, length};
 ghost use Rattle.std.specs.List.{Contains};
 ghost use Rattle.sp_outside.specs.Told.{missing};
-ghost use Rattle.sp_words.specs.Words.{Asked, fits};
-ghost use Rattle.sp_run.specs.Run.{Ends, IsWhole, bytes_of, exit_status};
+ghost use Rattle.sp_run_words.specs.Words.{Asked, fits};
+ghost use Rattle.sp_run_command.specs.Run.{Ends, IsWhole, bytes_of, exit_status};
 
 use sp_lattice::Steps;
 use sp_outside::{Files, HostFiles, HostSink, Sink};
-use sp_run::{Status, run};
+use sp_run_command::{Status, run};
 use std::alloc::{AllocError, Global};
 use std::env;
 use std::marker::Brand;

@@ -3,8 +3,8 @@ use Rattle.sp_lexer.specs.declared.scanner.ScanError.{ScanError}
 use Rattle.sp_lexer.specs.declared.scanner.ScanError.TheVariants as scan
 use Rattle.sp_expr_parser.specs.declared.error.ParseError.{ParseError}
 use Rattle.sp_expr_parser.specs.declared.error.ParseError.TheVariants as parse
-use Rattle.sp_operands.specs.declared.error.CheckError.{CheckError}
-use Rattle.sp_operands.specs.declared.error.CheckError.TheVariants as check
+use Rattle.sp_base_checked.specs.declared.error.CheckError.{CheckError}
+use Rattle.sp_base_checked.specs.declared.error.CheckError.TheVariants as check
 use Rattle.sp_lower.specs.declared.program.LowerError.{LowerError}
 use Rattle.sp_lower.specs.declared.program.LowerError.TheVariants as lower
 use Rattle.sp_front.specs.declared.front.FrontError.{FrontError}

@@ -4,14 +4,14 @@ use Rattle.std.specs.declared.alloc.Global.{Global}
 use Rattle.std.specs.declared.vec.Vec.{Vec}
 use Rattle.sp_tree.specs.declared.fault.Fault.{Fault}
 use Rattle.sp_tree.specs.declared.token.Token.{Token}
-use Rattle.sp_syntax.specs.Syntax.{External}
-use Rattle.sp_c_units.specs.Answers.{IsUnit}
+use Rattle.sp_parse_trees.specs.Syntax.{External}
+use Rattle.sp_parse_laws.specs.UnitAnswers.{IsUnit}
 use Rattle.sp_decl_parser.specs.Parsing.{IsUnitRefused}
 use Rattle.sp_types.specs.Programs.{program_of}
 use Rattle.sp_types.specs.declared.program.Program.{Program as CodeProgram}
-use Rattle.sp_operands.specs.Answers.{accepted, refused}
-use Rattle.sp_units.specs.Units.{CheckedUnit, checked_unit_of}
-use Rattle.sp_units.specs.declared.unit.CheckedUnit.{CheckedUnit as CodeUnit}
+use Rattle.sp_base_checked.specs.Answers.{accepted, refused}
+use Rattle.sp_base_checked.specs.Units.{CheckedUnit, checked_unit_of}
+use Rattle.sp_base_checked.specs.declared.unit.CheckedUnit.{CheckedUnit as CodeUnit}
 use Rattle.sp_decl_check.specs.Units.{unit_checked}
 use Rattle.sp_front.specs.declared.files.ReadFile.{ReadFile}
 use Rattle.sp_front.specs.declared.front.FrontError.{FrontError}

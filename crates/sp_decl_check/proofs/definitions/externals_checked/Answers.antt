@@ -1,9 +1,9 @@
 use Rattle.std.proofs.Common.{◌≡◌, ◌<◌, [], drop, length, suc, sym, ap, ◌∙◌, add-one, drop-set-lt, arith}
 use Rattle.std.specs.Prelude.{slice_set}
-use Rattle.sp_syntax.specs.View.{external_of, externals_of}
-use Rattle.sp_operands.specs.Answers.{and_then}
-use Rattle.sp_env.specs.Views.{env_of}
-use Rattle.sp_expr_steps.proofs.Lists.{taken}
+use Rattle.sp_parse_trees.specs.View.{external_of, externals_of}
+use Rattle.sp_base_checked.specs.Answers.{and_then}
+use Rattle.sp_check_env.specs.Views.{env_of}
+use Rattle.sp_check_expr_steps.proofs.Lists.{taken}
 use Rattle.sp_decl_check.specs.Definitions.{externals_checked, external_checked, kept_of}
 use Rattle.sp_decl_check.proofs.Lists.{first_external, same_open}
 use Rattle.sp_decl_check.proofs.definitions.externals_checked.Goals as goal

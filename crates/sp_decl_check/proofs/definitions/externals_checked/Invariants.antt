@@ -1,6 +1,6 @@
 use Rattle.std.proofs.Common.{◌≡◌, [], drop}
-use Rattle.sp_syntax.specs.View.{externals_of}
-use Rattle.sp_env.specs.Views.{env_of}
+use Rattle.sp_parse_trees.specs.View.{externals_of}
+use Rattle.sp_check_env.specs.Views.{env_of}
 use Rattle.sp_decl_check.specs.Definitions.{externals_checked, SameOpen}
 use Rattle.sp_decl_check.proofs.definitions.externals_checked.Given as goal
 

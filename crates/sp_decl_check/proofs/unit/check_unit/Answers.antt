@@ -1,9 +1,9 @@
 use Rattle.std.proofs.Common.{rules, ◌≡◌, [], sym, ap, subst, ◌∙◌}
 use Rattle.std.proofs.lemmas.List.{with_items_is, places}
-use Rattle.sp_syntax.specs.View.{externals_of}
-use Rattle.sp_operands.specs.Answers.{and_then, Answers}
-use Rattle.sp_env.specs.Views.{env_of}
-use Rattle.sp_units.specs.Units.{checked_unit_of}
+use Rattle.sp_parse_trees.specs.View.{externals_of}
+use Rattle.sp_base_checked.specs.Answers.{and_then, Answers}
+use Rattle.sp_check_env.specs.Views.{env_of}
+use Rattle.sp_base_checked.specs.Units.{checked_unit_of}
 use Rattle.sp_decl_check.specs.Definitions.{externals_checked}
 use Rattle.sp_decl_check.specs.Units.{unit_told, unit_checked}
 use Rattle.sp_decl_check.proofs.Lists.{same_told}

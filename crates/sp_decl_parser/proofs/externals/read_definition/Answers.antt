@@ -1,10 +1,10 @@
 use Rattle.std.proofs.Common.{ap, ◌∙◌, arith}
 use Rattle.std.specs.Prelude.{max}
 use Rattle.std.proofs.lemmas.Result.{err_from_is_err_and}
-use Rattle.sp_syntax.specs.View.{declarator_of, specifiers_of, statement_of}
-use Rattle.sp_syntax.specs.Depth.{declarator_depth}
-use Rattle.sp_c_tokens.specs.Scopes.{context_of}
-use Rattle.sp_c_steps.specs.Declaring.{declared_seen}
+use Rattle.sp_parse_trees.specs.View.{declarator_of, specifiers_of, statement_of}
+use Rattle.sp_parse_trees.specs.Depth.{declarator_depth}
+use Rattle.sp_parse_tokens.specs.Scopes.{context_of}
+use Rattle.sp_parse_expr_steps.specs.Declaring.{declared_seen}
 use Rattle.sp_decl_parser.specs.Seen.{specified}
 use Rattle.sp_decl_parser.proofs.ExternalSteps as steps
 use Rattle.sp_decl_parser.proofs.externals.read_definition.Goals as goal

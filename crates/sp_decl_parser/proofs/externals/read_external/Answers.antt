@@ -1,7 +1,7 @@
 use Rattle.std.proofs.Common.{sym, ap, ◌∙◌}
 use Rattle.std.proofs.lemmas.Result.{err_from_is_err_and}
-use Rattle.sp_syntax.specs.Syntax as syntax
-use Rattle.sp_c_tokens.specs.Makers.{first_place}
+use Rattle.sp_parse_trees.specs.Syntax as syntax
+use Rattle.sp_parse_tokens.specs.Makers.{first_place}
 use Rattle.sp_decl_parser.proofs.ExternalSteps as steps
 use Rattle.sp_decl_parser.proofs.externals.read_external.Goals as goal
 

@@ -1,8 +1,8 @@
 use Rattle.std.proofs.Common.{sym, ap, ◌∙◌, map}
 use Rattle.std.proofs.lemmas.Result.{err_from_is_err_and}
-use Rattle.sp_syntax.specs.Syntax as syntax
-use Rattle.sp_syntax.specs.View.{declarator_of, specifiers_of, init_declarators}
-use Rattle.sp_c_steps.specs.Declaring.{declared_seen, item_seen}
+use Rattle.sp_parse_trees.specs.Syntax as syntax
+use Rattle.sp_parse_trees.specs.View.{declarator_of, specifiers_of, init_declarators}
+use Rattle.sp_parse_expr_steps.specs.Declaring.{declared_seen, item_seen}
 use Rattle.sp_decl_parser.proofs.ExternalSteps as steps
 use Rattle.sp_decl_parser.proofs.externals.read_external_items.Goals as goal
 

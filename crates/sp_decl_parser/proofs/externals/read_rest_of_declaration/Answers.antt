@@ -1,9 +1,9 @@
 use Rattle.std.proofs.Common.{refl, ap, ◌∙◌, arith}
 use Rattle.std.specs.Prelude.{max, option_map}
 use Rattle.std.proofs.lemmas.Result.{err_from_is_err_and}
-use Rattle.sp_syntax.specs.View.{declarator_of, specifiers_of}
-use Rattle.sp_c_declarations.specs.Seen.{init_seen, item_part, items_part}
-use Rattle.sp_c_steps.specs.Declaring.{declared_seen}
+use Rattle.sp_parse_trees.specs.View.{declarator_of, specifiers_of}
+use Rattle.sp_parse_declarations.specs.Seen.{init_seen, item_part, items_part}
+use Rattle.sp_parse_expr_steps.specs.Declaring.{declared_seen}
 use Rattle.sp_decl_parser.specs.Seen.{specified}
 use Rattle.sp_decl_parser.proofs.ExternalSteps as steps
 use Rattle.sp_decl_parser.proofs.externals.read_rest_of_declaration.Goals as goal

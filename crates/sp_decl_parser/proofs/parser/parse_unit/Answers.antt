@@ -1,4 +1,4 @@
-use Rattle.sp_syntax.specs.View.{externals_of}
+use Rattle.sp_parse_trees.specs.View.{externals_of}
 use Rattle.sp_decl_parser.proofs.ParserSteps as steps
 use Rattle.sp_decl_parser.proofs.parser.parse_unit.Goals as goal
 

@@ -1,13 +1,13 @@
 use Rattle.std.proofs.Common.{◌≡◌, true, false, [], ◌∷◌, ◌++◌, sym, ap, ◌∙◌, subst, arith}
 use Rattle.std.specs.Prelude.{◌||◌}
 use Rattle.std.proofs.lemmas.Result.{err_from_is_err_and}
-use Rattle.sp_syntax.specs.View.{external_of, externals_of}
-use Rattle.sp_syntax.specs.Depth.{unit_depth}
-use Rattle.sp_grammar.specs.CTokens.{is_mark}
-use Rattle.sp_grammar.specs.CTokens as sorts_there
-use Rattle.sp_grammar.specs.CTable.{begins_specifiers}
-use Rattle.sp_c_tokens.specs.Scopes.{context_of}
-use Rattle.sp_c_steps.proofs.ListSteps.{map_more}
+use Rattle.sp_parse_trees.specs.View.{external_of, externals_of}
+use Rattle.sp_parse_trees.specs.Depth.{unit_depth}
+use Rattle.sp_parse_grammar.specs.CTokens.{is_mark}
+use Rattle.sp_parse_grammar.specs.CTokens as sorts_there
+use Rattle.sp_parse_grammar.specs.CTable.{begins_specifiers}
+use Rattle.sp_parse_tokens.specs.Scopes.{context_of}
+use Rattle.sp_parse_expr_steps.proofs.ListSteps.{map_more}
 use Rattle.sp_decl_parser.specs.Seen.{external_part}
 use Rattle.sp_decl_parser.proofs.UnitSteps as steps
 use Rattle.sp_decl_parser.proofs.units.read_externals.Goals as goal

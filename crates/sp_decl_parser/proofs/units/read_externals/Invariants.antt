@@ -1,8 +1,8 @@
 -- The external declarations that were read stand for all that was read.
 use Rattle.std.proofs.Common.{◌≡◌, ◌≤◌, length}
-use Rattle.sp_syntax.specs.View.{externals_of}
-use Rattle.sp_syntax.specs.Depth.{unit_depth}
-use Rattle.sp_c_tokens.specs.Ended.{IsEnded}
+use Rattle.sp_parse_trees.specs.View.{externals_of}
+use Rattle.sp_parse_trees.specs.Depth.{unit_depth}
+use Rattle.sp_parse_tokens.specs.Ended.{IsEnded}
 use Rattle.sp_decl_parser.proofs.UnitSteps.{UnitSoFar}
 use Rattle.sp_decl_parser.proofs.units.read_externals.Given as goal
 

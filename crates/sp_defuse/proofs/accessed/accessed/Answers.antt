@@ -1,7 +1,7 @@
 use Rattle.std.proofs.Common.{◌≡◌, ◌∙◌, ◌↔◌, ℕ, List, true, length, sym, ap, subst, arith}
-use Rattle.sp_sets.specs.Sets.{has}
-use Rattle.sp_sets.specs.Reached.{row, Reached}
-use Rattle.sp_scenes.specs.View.{analysed_of}
+use Rattle.sp_base_sets.specs.Sets.{has}
+use Rattle.sp_base_sets.specs.Reached.{row, Reached}
+use Rattle.sp_effect_scene.specs.View.{analysed_of}
 use Rattle.sp_defuse.specs.Accessed.{is_called}
 use Rattle.sp_defuse.proofs.Touching.{locations-few, touched-low, called-low}
 use Rattle.sp_defuse.proofs.accessed.accessed.Goals as goal

@@ -1,6 +1,6 @@
 use Rattle.std.proofs.Common.{ℕ, Option, Some, ◌&&◌, nat_eq, ap, ◌∙◌}
 use Rattle.std.specs.Option.{option_eq}
-use Rattle.sp_sets.specs.Sets.{has}
+use Rattle.sp_base_sets.specs.Sets.{has}
 use Rattle.sp_defuse.proofs.Adding.{adds-nothing, no-function}
 use Rattle.sp_defuse.proofs.accessed.add_function.Goals as goal
 

@@ -1,8 +1,8 @@
 use Rattle.std.proofs.Common.{ℕ, false, ◌<◌, ◌&&◌, nat_eq, length, get_or, refl, arith}
 use Rattle.std.proofs.lemmas.List.{get_or_default}
 use Rattle.std.proofs.Common.{[], ◌∙◌, ◌||◌, ap}
-use Rattle.sp_sets.specs.Sets.{has}
-use Rattle.sp_sets.proofs.Members.{has_there}
+use Rattle.sp_base_sets.specs.Sets.{has}
+use Rattle.sp_base_sets.proofs.Members.{has_there}
 use Rattle.sp_defuse.proofs.Adding.{adds-nothing, adds-more}
 use Rattle.sp_defuse.proofs.accessed.add_to_each.Goals as goal
 

@@ -1,5 +1,5 @@
 use Rattle.std.proofs.Common.{ℕ, ◌&&◌, nat_eq, take}
-use Rattle.sp_sets.specs.Sets.{has}
+use Rattle.sp_base_sets.specs.Sets.{has}
 use Rattle.sp_defuse.specs.Accessed.{AddsTo}
 use Rattle.sp_defuse.proofs.accessed.add_to_each.Given as goal
 

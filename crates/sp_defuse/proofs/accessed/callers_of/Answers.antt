@@ -1,9 +1,9 @@
 use Rattle.std.proofs.Common.{◌∙◌, take, get_or, [], refl, sym, ap, arith}
 use Rattle.std.proofs.lemmas.List.{length-map}
-use Rattle.sp_sets.specs.Sets.{has}
-use Rattle.sp_sets.specs.Reached.{row}
+use Rattle.sp_base_sets.specs.Sets.{has}
+use Rattle.sp_base_sets.specs.Reached.{row}
 use Rattle.sp_ir.specs.Programs.{code_of}
-use Rattle.sp_scenes.specs.View.{analysed_of}
+use Rattle.sp_effect_scene.specs.View.{analysed_of}
 use Rattle.sp_defuse.specs.Accessed.{is_called}
 use Rattle.sp_defuse.proofs.Adding.{adds-nothing}
 use Rattle.sp_defuse.proofs.Touching.{adds-whole, adds-long, called-more, callee-low}

@@ -1,7 +1,7 @@
 use Rattle.std.proofs.Common.{◌≡◌, ◌≤◌, length, take, get_or, [], refl, ap, arith}
-use Rattle.sp_rows.specs.Setting.{count}
-use Rattle.sp_scenes.specs.Analysed.{setting_of}
-use Rattle.sp_scenes.specs.View.{analysed_of}
+use Rattle.sp_effect_rows.specs.Setting.{count}
+use Rattle.sp_effect_scene.specs.Analysed.{setting_of}
+use Rattle.sp_effect_scene.specs.View.{analysed_of}
 use Rattle.sp_transfer.specs.Effects.{defined_at, used_at}
 use Rattle.sp_defuse.specs.Accessed.{is_touched}
 use Rattle.sp_defuse.proofs.Lists.{each-long}

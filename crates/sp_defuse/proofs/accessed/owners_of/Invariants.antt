@@ -1,5 +1,5 @@
 use Rattle.std.proofs.Common.{take}
-use Rattle.sp_scenes.specs.View.{analysed_of}
+use Rattle.sp_effect_scene.specs.View.{analysed_of}
 use Rattle.sp_defuse.specs.Accessed.{is_touched, AddsTo}
 use Rattle.sp_defuse.proofs.accessed.owners_of.Given as goal
 

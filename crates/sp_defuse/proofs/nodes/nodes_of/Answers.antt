@@ -1,5 +1,5 @@
 use Rattle.std.proofs.Common.{◌≡◌, suc, ◌+◌, List, [], ◌∷◌, ◌++◌, take, sym, subst, arith}
-use Rattle.sp_scenes.specs.View.{analysed_of}
+use Rattle.sp_effect_scene.specs.View.{analysed_of}
 use Rattle.sp_defuse.specs.Nodes.{IsNode, AreNodes}
 use Rattle.sp_defuse.specs.declared.nodes.Node.{Node}
 use Rattle.sp_defuse.proofs.Lists.{each-next}

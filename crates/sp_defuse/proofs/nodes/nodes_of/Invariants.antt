@@ -1,5 +1,5 @@
 use Rattle.std.proofs.Common.{take}
-use Rattle.sp_scenes.specs.View.{analysed_of}
+use Rattle.sp_effect_scene.specs.View.{analysed_of}
 use Rattle.sp_defuse.specs.Nodes.{AreNodes}
 use Rattle.sp_defuse.proofs.nodes.nodes_of.Given as goal
 

@@ -1,5 +1,5 @@
 use Rattle.std.proofs.Common.{◌∙◌, ap, ◌||◌}
-use Rattle.sp_sets.specs.Sets.{has}
+use Rattle.sp_base_sets.specs.Sets.{has}
 use Rattle.sp_defuse.specs.Sources.{stands_at}
 use Rattle.sp_defuse.proofs.Graphs.{one-place, either-way}
 use Rattle.sp_defuse.proofs.places.add_place.Goals as goal

@@ -1,5 +1,5 @@
 use Rattle.std.proofs.Common.{◌≡◌, ℕ, take}
-use Rattle.sp_sets.specs.Sets.{has}
+use Rattle.sp_base_sets.specs.Sets.{has}
 use Rattle.sp_defuse.specs.Sources.{is_source}
 use Rattle.sp_defuse.proofs.places.places_into.Given as goal
 

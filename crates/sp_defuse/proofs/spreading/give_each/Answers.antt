@@ -1,5 +1,5 @@
 use Rattle.std.proofs.Common.{get_or, arith, refl, sym, subst}
-use Rattle.sp_sets.proofs.Members.{has_there}
+use Rattle.sp_base_sets.proofs.Members.{has_there}
 use Rattle.sp_defuse.specs.Spreading.{IsListed}
 use Rattle.sp_defuse.proofs.Spreads.{comes-begun, comes-more}
 use Rattle.sp_defuse.proofs.spreading.give_each.Goals as goal

@@ -1,7 +1,7 @@
 use Rattle.std.proofs.Common.{◌≡◌, ◌∙◌, ◌↔◌, ℕ, true, [], length, refl, sym, ap, subst, arith}
 use Rattle.std.proofs.lemmas.List.{get_or_default}
-use Rattle.sp_sets.specs.Sets.{has}
-use Rattle.sp_sets.specs.Reached.{row, Reached}
+use Rattle.sp_base_sets.specs.Sets.{has}
+use Rattle.sp_base_sets.specs.Reached.{row, Reached}
 use Rattle.sp_defuse.proofs.Spreads.{none-spread, spread-fresh, spread-more, all-spread}
 use Rattle.sp_defuse.proofs.spreading.spread_all.Goals as goal
 

@@ -1,6 +1,6 @@
 use Rattle.std.proofs.Common.{◌∙◌, ◌<◌, [], length, refl, sym, ap, subst, arith}
 use Rattle.std.proofs.lemmas.List.{get_or_default}
-use Rattle.sp_sets.specs.Sets.{has}
+use Rattle.sp_base_sets.specs.Sets.{has}
 use Rattle.sp_defuse.specs.Spreading.{IsListed, Comes}
 use Rattle.sp_defuse.proofs.Spreads.{none-listed, walk-begins, walk-more, walk-few, walk-low, all-reached}
 use Rattle.sp_defuse.proofs.spreading.spread_one.Goals as goal

@@ -5,45 +5,45 @@ use Rattle.std.specs.declared.alloc.Global.{Global}
 use Rattle.std.proofs.lemmas.Result.{err_from_is_err_and}
 use Rattle.sp_types.specs.Typed.{TypedList}
 use Rattle.sp_types.specs.declared.typed.TypedExpr.{TypedExpr}
-use Rattle.sp_syntax.specs.declared.tree.DeclaratorForm.TheFolds.{fold-roll-ExprForm}
-use Rattle.sp_syntax.specs.declared.tree.ExprForm.TheVariants.{rolls-Call}
+use Rattle.sp_parse_trees.specs.declared.tree.DeclaratorForm.TheFolds.{fold-roll-ExprForm}
+use Rattle.sp_parse_trees.specs.declared.tree.ExprForm.TheVariants.{rolls-Call}
 use Rattle.sp_types.specs.TypedView.{typed_list}
-use Rattle.sp_operands.specs.Answers.{AnswersIn}
-use Rattle.sp_operands.specs.declared.error.CheckError.{CheckError}
-use Rattle.sp_env.specs.Declaring.{LeadsTo}
-use Rattle.sp_syntax.specs.View.{tree_of, expressions}
+use Rattle.sp_base_checked.specs.Answers.{AnswersIn}
+use Rattle.sp_base_checked.specs.declared.error.CheckError.{CheckError}
+use Rattle.sp_check_env.specs.Declaring.{LeadsTo}
+use Rattle.sp_parse_trees.specs.View.{tree_of, expressions}
 use Rattle.sp_types.specs.Types.{parameters_of}
 use Rattle.sp_types.specs.View.{signature_of}
 use Rattle.sp_types.specs.TypedView.{boxed_of, typed_of}
 use Rattle.std.specs.declared.boxed.Box.{Box}
-use Rattle.sp_operands.specs.Answers.{accepted}
-use Rattle.sp_env.specs.Views.{env_of}
-use Rattle.sp_expr_steps.specs.SyntaxView.{form_of}
-use Rattle.sp_rules.specs.Rules.{told, behind_by}
-use Rattle.sp_expr_steps.specs.Expressions.{arguments_checked, arguments_of, one_checked}
-use Rattle.sp_expr_steps.specs.Parameters.{params_of, is_alone_in}
+use Rattle.sp_base_checked.specs.Answers.{accepted}
+use Rattle.sp_check_env.specs.Views.{env_of}
+use Rattle.sp_check_expr_steps.specs.SyntaxView.{form_of}
+use Rattle.sp_check_binary_rules.specs.Rules.{told, behind_by}
+use Rattle.sp_check_expr_steps.specs.Expressions.{arguments_checked, arguments_of, one_checked}
+use Rattle.sp_check_expr_steps.specs.Parameters.{params_of, is_alone_in}
 use Rattle.std.specs.Prelude.{ℤ, pos, Option, unwrap_or}
-use Rattle.sp_operands.specs.Answers.{and_then}
-use Rattle.sp_operands.specs.Balances.{members_seen}
-use Rattle.sp_expr_steps.specs.SyntaxView.{struct_spec_of, enum_spec_of, init_declarator_of}
-use Rattle.sp_syntax.specs.View.{declaration_of, declarations, init_declarators, enumerators, optional}
-use Rattle.sp_expr_steps.proofs.Braces.{constant_seen, declarations_in-view, constants_in-view, items_in-view, first_declaration, no_declaration_left, first_item, no_item_left, first_constant, no_constant_left}
-use Rattle.sp_expr_steps.specs.Expressions.{params_checked, param_checked, members_checked, declaration_members, items_checked, item_checked, constants_checked, constant_checked, declarations_in, constants_in, items_in}
-use Rattle.sp_expr_steps.specs.SyntaxView.{declarator_form_of}
+use Rattle.sp_base_checked.specs.Answers.{and_then}
+use Rattle.sp_check_operands.specs.Balances.{members_seen}
+use Rattle.sp_check_expr_steps.specs.SyntaxView.{struct_spec_of, enum_spec_of, init_declarator_of}
+use Rattle.sp_parse_trees.specs.View.{declaration_of, declarations, init_declarators, enumerators, optional}
+use Rattle.sp_check_expr_steps.proofs.Braces.{constant_seen, declarations_in-view, constants_in-view, items_in-view, first_declaration, no_declaration_left, first_item, no_item_left, first_constant, no_constant_left}
+use Rattle.sp_check_expr_steps.specs.Expressions.{params_checked, param_checked, members_checked, declaration_members, items_checked, item_checked, constants_checked, constant_checked, declarations_in, constants_in, items_in}
+use Rattle.sp_check_expr_steps.specs.SyntaxView.{declarator_form_of}
 use Rattle.sp_expr_check.proofs.Lists.{part_failed, part_stopped}
 use Rattle.sp_expr_check.proofs.Following.{followed}
-use Rattle.sp_syntax.specs.Places.{place_of}
-use Rattle.sp_syntax.proofs.TreeViews.{place_of-view}
-use Rattle.sp_expr_steps.specs.Expressions.{value_checked, length_told}
-use Rattle.sp_expr_steps.proofs.Lists.{first_param, no_param_left, param_read, param_refused, params_read, list_failed, taken, ended}
-use Rattle.sp_syntax.specs.View.{param_of, params}
-use Rattle.sp_syntax.specs.declared.tree.DeclaratorForm.TheFolds.{fold-roll-DeclaratorForm}
-use Rattle.sp_syntax.specs.declared.tree.DeclaratorForm.TheVariants.{rolls-Function}
+use Rattle.sp_parse_trees.specs.Places.{place_of}
+use Rattle.sp_parse_trees.proofs.TreeViews.{place_of-view}
+use Rattle.sp_check_expr_steps.specs.Expressions.{value_checked, length_told}
+use Rattle.sp_check_expr_steps.proofs.Lists.{first_param, no_param_left, param_read, param_refused, params_read, list_failed, taken, ended}
+use Rattle.sp_parse_trees.specs.View.{param_of, params}
+use Rattle.sp_parse_trees.specs.declared.tree.DeclaratorForm.TheFolds.{fold-roll-DeclaratorForm}
+use Rattle.sp_parse_trees.specs.declared.tree.DeclaratorForm.TheVariants.{rolls-Function}
 use Rattle.sp_types.specs.Types.{CType}
 use Rattle.sp_types.specs.View.{type_of}
 use Rattle.sp_types.specs.declared.ctype.CType.{CType as CodeType}
 use Rattle.std.proofs.Common.{List}
-use Rattle.sp_expr_steps.proofs.Arguments.{done, step, front, none_left, begun, stopped, failed}
+use Rattle.sp_check_expr_steps.proofs.Arguments.{done, step, front, none_left, begun, stopped, failed}
 use Rattle.sp_expr_check.proofs.expressions.+expression.Goals as goal
 
 pub arguments_checked-arguments-init : goal.arguments_checked-arguments-init

@@ -1,17 +1,17 @@
 use Rattle.std.proofs.Common.{◌≡◌, [], map, drop}
 use Rattle.std.specs.Prelude.{pos, unwrap_or}
-use Rattle.sp_syntax.specs.View.{tree_of, expressions, param_of, params, specifiers_of, declaration_of, declarations, init_declarators, enumerators}
-use Rattle.sp_operands.specs.Balances.{members_seen}
-use Rattle.sp_expr_steps.specs.Parameters.{params_of}
-use Rattle.sp_expr_steps.proofs.Braces.{constant_seen}
+use Rattle.sp_parse_trees.specs.View.{tree_of, expressions, param_of, params, specifiers_of, declaration_of, declarations, init_declarators, enumerators}
+use Rattle.sp_check_operands.specs.Balances.{members_seen}
+use Rattle.sp_check_expr_steps.specs.Parameters.{params_of}
+use Rattle.sp_check_expr_steps.proofs.Braces.{constant_seen}
 use Rattle.sp_types.specs.Types.{parameters_of}
 use Rattle.sp_types.specs.View.{type_of, signature_of}
 use Rattle.sp_types.specs.TypedView.{typed_of}
-use Rattle.sp_env.specs.Views.{env_of}
-use Rattle.sp_expr_steps.specs.SyntaxView.{form_of, declarator_form_of, struct_spec_of, enum_spec_of, init_declarator_of}
-use Rattle.sp_rules.specs.Rules.{told, behind_by}
-use Rattle.sp_expr_steps.specs.Expressions.{arguments_checked, arguments_of, params_checked, specifiers_checked, members_checked, items_checked, constants_checked, declarations_in, constants_in, items_in}
-use Rattle.sp_expr_steps.specs.Resuming.{resumed}
+use Rattle.sp_check_env.specs.Views.{env_of}
+use Rattle.sp_check_expr_steps.specs.SyntaxView.{form_of, declarator_form_of, struct_spec_of, enum_spec_of, init_declarator_of}
+use Rattle.sp_check_binary_rules.specs.Rules.{told, behind_by}
+use Rattle.sp_check_expr_steps.specs.Expressions.{arguments_checked, arguments_of, params_checked, specifiers_checked, members_checked, items_checked, constants_checked, declarations_in, constants_in, items_in}
+use Rattle.sp_check_expr_steps.specs.Resuming.{resumed}
 use Rattle.sp_expr_check.proofs.expressions.+expression.Given as goal
 
 abbrev pub invariant-arguments_checked-arguments : goal.invariant-arguments_checked-arguments

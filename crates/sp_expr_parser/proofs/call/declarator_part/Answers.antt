@@ -1,6 +1,6 @@
 use Rattle.std.proofs.Common.{◌≡◌, subst, arith}
-use Rattle.sp_grammar.specs.CTable as grammar
-use Rattle.sp_c_steps.specs.Reading.{IsStop}
+use Rattle.sp_parse_grammar.specs.CTable as grammar
+use Rattle.sp_parse_expr_steps.specs.Reading.{IsStop}
 use Rattle.sp_expr_parser.proofs.call.declarator_part.Goals as goal
 
 pub returns-then-depth-eq0 : goal.returns-then-depth-eq0

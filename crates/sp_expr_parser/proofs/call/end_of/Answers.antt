@@ -1,7 +1,7 @@
 use Rattle.std.proofs.Common.{sym, subst}
-use Rattle.sp_c_tokens.specs.Scopes.{purpose_seen}
-use Rattle.sp_c_steps.specs.Reading.{operand_seen}
-use Rattle.sp_c_steps.specs.Declaring.{declared_seen}
+use Rattle.sp_parse_tokens.specs.Scopes.{purpose_seen}
+use Rattle.sp_parse_expr_steps.specs.Reading.{operand_seen}
+use Rattle.sp_parse_expr_steps.specs.Declaring.{declared_seen}
 use Rattle.sp_expr_parser.specs.declared.call.Call.TheVariants as calls
 use Rattle.sp_expr_parser.specs.Calling.{IsEnd}
 use Rattle.sp_expr_parser.proofs.call.end_of.Goals as goal

@@ -1,6 +1,6 @@
 use Rattle.std.proofs.Common.{refl, sym, ◌∙◌}
 use Rattle.sp_expr_parser.proofs.ParserSteps.{type_name_deep, type_name_none, sort_of_head}
-use Rattle.sp_c_tokens.specs.Codes.{sort_seen}
+use Rattle.sp_parse_tokens.specs.Codes.{sort_seen}
 use Rattle.sp_expr_parser.proofs.call.no_type_name.Goals as goal
 
 pub returns-then-begins_specifiers : goal.returns-then-begins_specifiers

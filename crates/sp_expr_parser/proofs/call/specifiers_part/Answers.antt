@@ -1,12 +1,12 @@
 use Rattle.std.proofs.Common.{true, sym, ap, ◌∙◌, arith}
-use Rattle.sp_syntax.specs.View.{specifiers_of}
-use Rattle.sp_syntax.specs.Depth.{specifiers_depth}
-use Rattle.sp_grammar.specs.CTable as grammar
-use Rattle.sp_grammar.specs.CTokens.{nothing_seen}
-use Rattle.sp_c_tokens.specs.Sorts.{c_tokens}
-use Rattle.sp_c_tokens.specs.Codes.{sort_seen}
-use Rattle.sp_c_tokens.specs.SyntaxTrees.{syntax_trees}
-use Rattle.sp_c_steps.proofs.Parts.{stop_before}
+use Rattle.sp_parse_trees.specs.View.{specifiers_of}
+use Rattle.sp_parse_trees.specs.Depth.{specifiers_depth}
+use Rattle.sp_parse_grammar.specs.CTable as grammar
+use Rattle.sp_parse_grammar.specs.CTokens.{nothing_seen}
+use Rattle.sp_parse_tokens.specs.Sorts.{c_tokens}
+use Rattle.sp_parse_tokens.specs.Codes.{sort_seen}
+use Rattle.sp_parse_tokens.specs.SyntaxTrees.{syntax_trees}
+use Rattle.sp_parse_expr_steps.proofs.Parts.{stop_before}
 use Rattle.sp_expr_parser.proofs.ParserSteps.{optional_step, no_specifiers_read, sort_of_head}
 use Rattle.sp_expr_parser.proofs.call.specifiers_part.Goals as goal
 

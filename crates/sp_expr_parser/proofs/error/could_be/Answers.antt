@@ -1,9 +1,9 @@
 use Rattle.std.proofs.Common.{◌≡◌, [], ◌∷◌, ◌++◌, refl, sym, ◌∙◌, subst, arith}
 use Rattle.sp_tree.specs.declared.token.Kind.TheVariants.{End}
 use Rattle.sp_tree.specs.declared.token.Token.{Token}
-use Rattle.sp_c_tokens.specs.Ended.{IsEnded}
-use Rattle.sp_grammar.specs.CTable as grammar
-use Rattle.sp_c_steps.specs.Reading.{IsStop}
+use Rattle.sp_parse_tokens.specs.Ended.{IsEnded}
+use Rattle.sp_parse_grammar.specs.CTable as grammar
+use Rattle.sp_parse_expr_steps.specs.Reading.{IsStop}
 use Rattle.sp_expr_parser.specs.Parsing.{item_of}
 use Rattle.sp_expr_parser.proofs.Errors.{ended_with, could_ok, could_later, could_not, could_deep, passed_before}
 use Rattle.sp_expr_parser.proofs.KindLaws.{clash}

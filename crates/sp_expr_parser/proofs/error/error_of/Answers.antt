@@ -1,6 +1,6 @@
 use Rattle.std.proofs.Common.{subst, take, drop}
-use Rattle.sp_grammar.specs.CTable as grammar
-use Rattle.sp_c_steps.specs.Reading.{IsStop}
+use Rattle.sp_parse_grammar.specs.CTable as grammar
+use Rattle.sp_parse_expr_steps.specs.Reading.{IsStop}
 use Rattle.sp_expr_parser.specs.Parsing.{item_of}
 use Rattle.sp_expr_parser.proofs.Errors.{deep_refused}
 use Rattle.sp_expr_parser.proofs.error.error_of.Goals as goal

@@ -1,6 +1,6 @@
 use Rattle.std.proofs.Common.{◌++◌, refl, sym, ap, ◌∙◌, subst, take, drop, arith}
-use Rattle.sp_tree.specs.declared.fault.FaultKind.TheVariants.{U4, U6, U7}
-use Rattle.sp_c_steps.specs.Reading.{kind_at}
+use Rattle.sp_tree.specs.declared.fault.FaultKind.TheVariants.{OldStyleParameters, VariadicDefinition, BitField}
+use Rattle.sp_parse_expr_steps.specs.Reading.{kind_at}
 use Rattle.sp_expr_parser.specs.Parsing.{language_of, Failing}
 use Rattle.sp_expr_parser.specs.Calling.{IsTold, IsUnanswered, IsFront, NoEnd}
 use Rattle.sp_expr_parser.proofs.Errors.{located, part_is, before_is, front_is, open_is, fails_at, fault_refused, passed_refused}
@@ -62,7 +62,7 @@ returns-in-Ok c =
     let front = c.part_of-front.ensures ∙ part_is tokens c.args.at rest l count c.count_before-count.ensures in
     let before = c.first_tokens-before.ensures ∙ before_is tokens c.args.at rest l count c.requires.within c.count_before-count.ensures in
     let told = subst (λ v. IsTold (language_of c.args.call) types c.first_tokens-before.result.now v bad c.in-Ok.kind) front c.in-Ok.ensures in
-    let is = kind_told (language_of c.args.call) types f c.args.kind c.in-Ok.kind c.first_tokens-before.result.now before there (not_wanted c.args.kind U4 no refl) (not_wanted c.args.kind U6 no refl) (not_wanted c.args.kind U7 no refl) told in
+    let is = kind_told (language_of c.args.call) types f c.args.kind c.in-Ok.kind c.first_tokens-before.result.now before there (not_wanted c.args.kind OldStyleParameters no refl) (not_wanted c.args.kind VariadicDefinition no refl) (not_wanted c.args.kind BitField no refl) told in
     fault_refused c.args.call types c.args.depth (take c.args.at tokens) (drop c.args.at tokens) l.front bad more whole stop.0 (fails_at c.args.call types (drop c.args.at tokens) rest stop.0 bad more c.next_token.ensures stop.1) c.in-Ok.kind is
 
 pub returns-in-Err : goal.returns-in-Err

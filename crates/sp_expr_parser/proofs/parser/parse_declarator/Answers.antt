@@ -1,12 +1,12 @@
 use Rattle.std.proofs.Common.{◌≤◌, refl, subst, drop, arith}
-use Rattle.sp_grammar.specs.CTable as grammar
-use Rattle.sp_syntax.specs.View.{declarator_of}
-use Rattle.sp_syntax.specs.Depth.{declarator_depth}
-use Rattle.sp_c_grammar.specs.Answers.{declarators, declarator_ask}
-use Rattle.sp_c_grammar.proofs.Calls.{declarator_reader}
-use Rattle.sp_c_steps.specs.Reading.{IsStop}
-use Rattle.sp_c_steps.specs.Declaring.{IsDeclared, declared_seen}
-use Rattle.sp_c_steps.proofs.Concrete.{concrete_read}
+use Rattle.sp_parse_grammar.specs.CTable as grammar
+use Rattle.sp_parse_trees.specs.View.{declarator_of}
+use Rattle.sp_parse_trees.specs.Depth.{declarator_depth}
+use Rattle.sp_parse_laws.specs.Answers.{declarators, declarator_ask}
+use Rattle.sp_parse_laws.proofs.Calls.{declarator_reader}
+use Rattle.sp_parse_expr_steps.specs.Reading.{IsStop}
+use Rattle.sp_parse_expr_steps.specs.Declaring.{IsDeclared, declared_seen}
+use Rattle.sp_parse_expr_steps.proofs.Concrete.{concrete_read}
 use Rattle.sp_expr_parser.proofs.ParserSteps.{parsed}
 use Rattle.sp_expr_parser.proofs.parser.parse_declarator.Goals as goal
 

@@ -1,10 +1,10 @@
 use Rattle.std.proofs.Common.{◌≤◌, refl, subst, arith}
-use Rattle.sp_grammar.specs.CTable as grammar
-use Rattle.sp_syntax.specs.View.{tree_of}
-use Rattle.sp_syntax.specs.Depth.{depth}
-use Rattle.sp_c_grammar.specs.Answers.{expressions, expression_ask}
-use Rattle.sp_c_grammar.proofs.Calls.{expression_reader}
-use Rattle.sp_c_steps.specs.Reading.{IsRead, IsStop, operand_seen}
+use Rattle.sp_parse_grammar.specs.CTable as grammar
+use Rattle.sp_parse_trees.specs.View.{tree_of}
+use Rattle.sp_parse_trees.specs.Depth.{depth}
+use Rattle.sp_parse_laws.specs.Answers.{expressions, expression_ask}
+use Rattle.sp_parse_laws.proofs.Calls.{expression_reader}
+use Rattle.sp_parse_expr_steps.specs.Reading.{IsRead, IsStop, operand_seen}
 use Rattle.sp_expr_parser.proofs.ParserSteps.{parsed}
 use Rattle.sp_expr_parser.proofs.parser.parse_expression.Goals as goal
 

@@ -1,9 +1,9 @@
 use Rattle.std.proofs.Common.{length, ap, ◌∙◌, subst, arith, length-drop}
-use Rattle.sp_grammar.specs.CTable as grammar
-use Rattle.sp_syntax.specs.View.{specifiers_of}
-use Rattle.sp_c_grammar.specs.Answers.{specifier_lists, specifiers_ask}
-use Rattle.sp_c_grammar.proofs.Calls.{specifiers_reader}
-use Rattle.sp_c_steps.specs.Reading.{IsStop}
+use Rattle.sp_parse_grammar.specs.CTable as grammar
+use Rattle.sp_parse_trees.specs.View.{specifiers_of}
+use Rattle.sp_parse_laws.specs.Answers.{specifier_lists, specifiers_ask}
+use Rattle.sp_parse_laws.proofs.Calls.{specifiers_reader}
+use Rattle.sp_parse_expr_steps.specs.Reading.{IsStop}
 use Rattle.sp_expr_parser.specs.Calling.{AreListed}
 use Rattle.sp_expr_parser.proofs.ParserSteps.{parsed}
 use Rattle.sp_expr_parser.proofs.parser.parse_specifiers.Goals as goal

@@ -1,13 +1,13 @@
 use Rattle.std.proofs.Common.{◌≡◌, ◌≤◌, ap, ◌∙◌, subst, arith}
-use Rattle.sp_grammar.specs.CTable as grammar
-use Rattle.sp_syntax.specs.View.{type_name_of}
-use Rattle.sp_syntax.specs.Depth.{type_name_depth}
-use Rattle.sp_c_tokens.specs.Makers.{first_place}
-use Rattle.sp_c_tokens.specs.Scopes.{purpose_seen}
-use Rattle.sp_c_tokens.proofs.Settled.{settle_type_depth}
-use Rattle.sp_c_grammar.specs.Answers.{type_names, type_name_ask}
-use Rattle.sp_c_grammar.proofs.Calls.{type_name_reader}
-use Rattle.sp_c_steps.specs.Reading.{IsTypeName, IsStop}
+use Rattle.sp_parse_grammar.specs.CTable as grammar
+use Rattle.sp_parse_trees.specs.View.{type_name_of}
+use Rattle.sp_parse_trees.specs.Depth.{type_name_depth}
+use Rattle.sp_parse_tokens.specs.Makers.{first_place}
+use Rattle.sp_parse_tokens.specs.Scopes.{purpose_seen}
+use Rattle.sp_parse_tokens.proofs.Settled.{settle_type_depth}
+use Rattle.sp_parse_laws.specs.Answers.{type_names, type_name_ask}
+use Rattle.sp_parse_laws.proofs.Calls.{type_name_reader}
+use Rattle.sp_parse_expr_steps.specs.Reading.{IsTypeName, IsStop}
 use Rattle.sp_expr_parser.proofs.ParserSteps.{parsed}
 use Rattle.sp_expr_parser.proofs.parser.parse_type_name.Goals as goal
 

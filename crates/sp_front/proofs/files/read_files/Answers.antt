@@ -1,7 +1,7 @@
 use Rattle.std.proofs.Common.{◌≡◌, ◌+◌, ◌<◌, ℕ, List, ◌∷◌, map, drop, length, get_or, sym, ap, ◌∙◌, subst}
 use Rattle.std.proofs.lemmas.List.{drop_more}
 use Rattle.std.proofs.lemmas.Result.{err_from_is_err_and}
-use Rattle.sp_units.specs.Units.{checked_unit_of}
+use Rattle.sp_base_checked.specs.Units.{checked_unit_of}
 use Rattle.sp_front.specs.Sources.{source_of}
 use Rattle.sp_front.specs.declared.sources.Source.{Source as CodeSource}
 use Rattle.sp_front.proofs.FileSteps.{IsAt, begun, more, stopped, one_more}

@@ -1,6 +1,6 @@
 -- The files before this one are units, and what is left is within the limits.
 use Rattle.std.proofs.Common.{drop, map}
-use Rattle.sp_units.specs.Units.{checked_unit_of}
+use Rattle.sp_base_checked.specs.Units.{checked_unit_of}
 use Rattle.sp_front.specs.Sources.{source_of}
 use Rattle.sp_front.proofs.FileSteps.{IsAt}
 use Rattle.sp_front.proofs.files.read_files.Given as goal

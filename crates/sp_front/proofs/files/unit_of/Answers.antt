@@ -1,7 +1,7 @@
 use Rattle.std.proofs.Common.{subst}
 use Rattle.std.proofs.lemmas.Result.{err_from_is_err_and}
-use Rattle.sp_c_units.specs.Answers.{IsUnit}
-use Rattle.sp_syntax.specs.View.{externals_of}
+use Rattle.sp_parse_laws.specs.UnitAnswers.{IsUnit}
+use Rattle.sp_parse_trees.specs.View.{externals_of}
 use Rattle.sp_front.specs.Files.{max_depth}
 use Rattle.sp_front.proofs.FileSteps.{wrong_type}
 use Rattle.sp_front.proofs.files.unit_of.Goals as goal

@@ -1,7 +1,7 @@
 use Rattle.std.proofs.Common.{map, ap}
 use Rattle.std.proofs.lemmas.Result.{err_from_is_err_and}
 use Rattle.sp_types.specs.Programs.{program_of}
-use Rattle.sp_units.specs.Units.{checked_unit_of}
+use Rattle.sp_base_checked.specs.Units.{checked_unit_of}
 use Rattle.sp_front.specs.Sources.{source_of}
 use Rattle.sp_front.proofs.ProgramSteps.{linked, not_linked}
 use Rattle.sp_front.proofs.program.program_of.Goals as goal

@@ -1,6 +1,6 @@
 use Rattle.std.proofs.Common.{◌≡◌, ◌↔◌, ◌∙◌, ◌<◌, ℕ, true, length, sym, ap, subst, arith}
 use Rattle.sp_ir.specs.Programs.{lowered_of}
-use Rattle.sp_sets.specs.Sets.{has, Ascends}
+use Rattle.sp_base_sets.specs.Sets.{has, Ascends}
 use Rattle.sp_graph.specs.Supergraph.{InGraph}
 use Rattle.sp_graph.specs.Rows.{AreEdges}
 use Rattle.sp_graph.proofs.Calling.{made}

@@ -1,7 +1,7 @@
 use Rattle.std.proofs.Common.{◌≡◌, ◌&&◌, ℕ}
 use Rattle.std.specs.Prelude.{nat_lt}
 use Rattle.sp_ir.specs.Programs.{lowered_of}
-use Rattle.sp_sets.specs.Sets.{has}
+use Rattle.sp_base_sets.specs.Sets.{has}
 use Rattle.sp_graph.specs.Calls.{function_of}
 use Rattle.sp_graph.specs.Rows.{is_inside}
 use Rattle.sp_graph.proofs.flow.nodes_of.Given as goal

@@ -1,8 +1,8 @@
 use Rattle.std.proofs.Common.{◌≡◌, ◌↔◌, ◌&&◌, ◌∷◌, ℕ, [], true, false, length, get_or, subst}
 use Rattle.std.specs.Prelude.{nat_lt}
 use Rattle.sp_ir.specs.Programs.{lowered_of}
-use Rattle.sp_sets.specs.Sets.{has, Ascends}
-use Rattle.sp_sets.specs.Reached.{Reached}
+use Rattle.sp_base_sets.specs.Sets.{has, Ascends}
+use Rattle.sp_base_sets.specs.Reached.{Reached}
 use Rattle.sp_graph.specs.Calls.{function_of}
 use Rattle.sp_graph.specs.Rows.{AreLists, AreEdges, is_inside}
 use Rattle.sp_graph.proofs.Calling.{graph_nodes, made}

@@ -1,6 +1,6 @@
 use Rattle.std.proofs.Common.{◌≡◌, ◌↔◌, ℕ, true, false, get_or, subst}
 use Rattle.sp_ir.specs.Programs.{lowered_of}
-use Rattle.sp_sets.specs.Reached.{Leads}
+use Rattle.sp_base_sets.specs.Reached.{Leads}
 use Rattle.sp_graph.specs.Rows.{AreLists}
 use Rattle.sp_graph.proofs.Calling.{recursive_ones}
 use Rattle.sp_graph.proofs.functions.recursive.Goals as goal

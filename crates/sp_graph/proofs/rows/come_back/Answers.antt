@@ -1,6 +1,6 @@
 use Rattle.std.proofs.Common.{◌≡◌, ◌∙◌, [], sym, arith}
 use Rattle.sp_ir.specs.Programs.{lowered_of}
-use Rattle.sp_sets.specs.Reached.{row}
+use Rattle.sp_base_sets.specs.Reached.{row}
 use Rattle.sp_graph.proofs.Joining.{back_joins}
 use Rattle.sp_graph.proofs.rows.come_back.Goals as goal
 

@@ -2,10 +2,10 @@ use Rattle.std.proofs.Common.{ℕ, Bool, List, Option, map}
 use Rattle.sp_types.specs.Programs.{Program, program_of}
 use Rattle.sp_ir.specs.Programs.{Object, object_of}
 use Rattle.sp_ir.specs.declared.command.Routine.{Routine}
-use Rattle.sp_draft.specs.Draft.{Left, left}
-use Rattle.sp_draft.specs.View.{draft_of}
-use Rattle.sp_lower_bodies.specs.Frames.{Initial}
-use Rattle.sp_lower_bodies.specs.View.{initial_view}
+use Rattle.sp_lower_draft.specs.Draft.{Left, left}
+use Rattle.sp_lower_draft.specs.View.{draft_of}
+use Rattle.sp_lower_body.specs.Frames.{Initial}
+use Rattle.sp_lower_body.specs.View.{initial_view}
 use Rattle.sp_lower_functions.specs.Functions.{Part}
 use Rattle.sp_lower_functions.specs.View.{part_of}
 use Rattle.sp_lower.specs.Programs.{lowered_with}

@@ -5,10 +5,10 @@ use Rattle.std.proofs.lemmas.List.{drop_all}
 use Rattle.sp_types.specs.declared.typed.TypedExpr.{TypedExpr}
 use Rattle.sp_types.specs.Typed.{Typed}
 use Rattle.sp_ir.specs.Commands.{Expression}
-use Rattle.sp_draft.specs.Context.{Context}
-use Rattle.sp_draft.specs.Draft.{Left}
-use Rattle.sp_draft.specs.Expressions.{undefined_callee}
-use Rattle.sp_draft.specs.View.{context_of, draft_of}
+use Rattle.sp_lower_draft.specs.Context.{Context}
+use Rattle.sp_lower_draft.specs.Draft.{Left}
+use Rattle.sp_lower_draft.specs.Expressions.{undefined_callee}
+use Rattle.sp_lower_draft.specs.View.{context_of, draft_of}
 use Rattle.sp_lower_expr.proofs.Arguments.{trees-operands, given, size-at, rest-at, argument-turn, pushed-view, arguments-end, callee-given}
 use Rattle.sp_lower_expr.proofs.uses.+uses.Goals as goal
 

@@ -1,8 +1,8 @@
 use Rattle.std.proofs.Common.{◌≡◌, ◌+◌, map, drop}
 use Rattle.sp_types.specs.TypedView.{typed_of, typed_list}
 use Rattle.sp_ir.specs.View.{expression_of}
-use Rattle.sp_draft.specs.Expressions.{arguments, operands}
-use Rattle.sp_draft.specs.View.{context_of, draft_of}
+use Rattle.sp_lower_draft.specs.Expressions.{arguments, operands}
+use Rattle.sp_lower_draft.specs.View.{context_of, draft_of}
 use Rattle.sp_lower_expr.specs.Size.{size, sizes}
 use Rattle.sp_lower_expr.specs.Adding.{adding}
 use Rattle.sp_lower_expr.proofs.Arguments.{with_front}

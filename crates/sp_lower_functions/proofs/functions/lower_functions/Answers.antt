@@ -1,9 +1,9 @@
 use Rattle.std.proofs.Common.{◌≡◌, ℕ, ◌+◌, List, map, drop, get_or, slice_get, Some, refl, ap, sym, ◌∙◌}
 use Rattle.sp_types.specs.Programs.{Function, function_of}
-use Rattle.sp_draft.specs.Context.{Context}
-use Rattle.sp_draft.specs.View.{context_of, draft_of}
-use Rattle.sp_lower_bodies.specs.Frames.{Frame}
-use Rattle.sp_lower_bodies.specs.View.{initial_view}
+use Rattle.sp_lower_draft.specs.Context.{Context}
+use Rattle.sp_lower_draft.specs.View.{context_of, draft_of}
+use Rattle.sp_lower_body.specs.Frames.{Frame}
+use Rattle.sp_lower_body.specs.View.{initial_view}
 use Rattle.sp_lower_functions.specs.Functions.{functions_at, frame_for}
 use Rattle.sp_lower_functions.proofs.Turns.{functions-rest, function-turn}
 use Rattle.sp_lower_functions.proofs.functions.lower_functions.Goals as goal

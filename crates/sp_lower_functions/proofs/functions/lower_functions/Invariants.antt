@@ -1,7 +1,7 @@
 use Rattle.std.proofs.Common.{◌≡◌, map, drop}
 use Rattle.sp_types.specs.Programs.{function_of}
-use Rattle.sp_draft.specs.View.{context_of, draft_of}
-use Rattle.sp_lower_bodies.specs.View.{initial_view}
+use Rattle.sp_lower_draft.specs.View.{context_of, draft_of}
+use Rattle.sp_lower_body.specs.View.{initial_view}
 use Rattle.sp_lower_functions.specs.Functions.{functions_at, lower_functions}
 use Rattle.sp_lower_functions.specs.View.{part_of}
 use Rattle.sp_lower_functions.proofs.Turns.{with_parts}

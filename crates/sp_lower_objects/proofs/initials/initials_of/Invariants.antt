@@ -1,7 +1,7 @@
 use Rattle.std.proofs.Common.{◌≡◌, ◌++◌, map, drop}
 use Rattle.sp_types.specs.View.{struct_of}
 use Rattle.sp_types.specs.Programs.{object_of}
-use Rattle.sp_lower_bodies.specs.View.{initial_view}
+use Rattle.sp_lower_body.specs.View.{initial_view}
 use Rattle.sp_lower_objects.specs.Initials.{initials_from}
 use Rattle.sp_lower_objects.proofs.initials.initials_of.Given as goal
 

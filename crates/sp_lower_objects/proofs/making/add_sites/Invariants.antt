@@ -1,6 +1,6 @@
 use Rattle.std.proofs.Common.{◌≡◌, ◌++◌, map, drop}
 use Rattle.sp_ir.specs.Programs.{object_of}
-use Rattle.sp_draft.specs.View.{site_of}
+use Rattle.sp_lower_draft.specs.View.{site_of}
 use Rattle.sp_lower_objects.specs.Objects.{site_object}
 use Rattle.sp_lower_objects.proofs.making.add_sites.Given as goal
 

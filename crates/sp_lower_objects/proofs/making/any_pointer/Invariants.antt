@@ -1,7 +1,7 @@
 use Rattle.std.proofs.Common.{◌≡◌, drop}
 use Rattle.std.specs.List.{list_any}
-use Rattle.sp_draft.specs.Context.{has_pointer, object_type}
-use Rattle.sp_draft.specs.View.{context_of}
+use Rattle.sp_lower_draft.specs.Context.{has_pointer, object_type}
+use Rattle.sp_lower_draft.specs.View.{context_of}
 use Rattle.sp_lower_objects.proofs.making.any_pointer.Given as goal
 
 abbrev pub invariant-loop-object : goal.invariant-loop-object

@@ -1,8 +1,8 @@
 use Rattle.std.proofs.Common.{◌≡◌, ◌++◌, map, drop}
 use Rattle.sp_types.specs.Programs as checked
 use Rattle.sp_ir.specs.Programs.{object_of}
-use Rattle.sp_draft.specs.View.{context_of}
-use Rattle.sp_lower_bodies.specs.View.{initial_view}
+use Rattle.sp_lower_draft.specs.View.{context_of}
+use Rattle.sp_lower_body.specs.View.{initial_view}
 use Rattle.sp_lower_objects.specs.Objects.{program_objects}
 use Rattle.sp_lower_objects.proofs.objects.add_program_objects.Given as goal
 

@@ -1,7 +1,7 @@
 use Rattle.std.proofs.Common.{◌≡◌, ◌++◌, map, drop}
 use Rattle.sp_types.specs.TypedView.{typed_of}
 use Rattle.sp_ir.specs.View.{leaf_of}
-use Rattle.sp_draft.specs.View.{context_of}
+use Rattle.sp_lower_draft.specs.View.{context_of}
 use Rattle.sp_lower_objects.specs.Objects.{start_leaves}
 use Rattle.sp_lower_objects.proofs.objects.start_leaves.Given as goal
 

@@ -1,7 +1,7 @@
 use Rattle.std.proofs.Common.{◌≡◌, drop}
-use Rattle.sp_draft.specs.View.{draft_of}
-use Rattle.sp_lower_bodies.specs.Declarations.{declare_all}
-use Rattle.sp_lower_bodies.specs.View.{frame_of}
+use Rattle.sp_lower_draft.specs.View.{draft_of}
+use Rattle.sp_lower_body.specs.Declarations.{declare_all}
+use Rattle.sp_lower_body.specs.View.{frame_of}
 use Rattle.sp_lower_statements.proofs.declarations.declare_all.Given as goal
 
 abbrev pub invariant-loop-object : goal.invariant-loop-object

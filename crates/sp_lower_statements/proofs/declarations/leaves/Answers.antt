@@ -2,8 +2,8 @@ use Rattle.std.proofs.Common.{ℕ, ◌+◌, map, drop, List}
 use Rattle.sp_types.specs.TypedView.{typed_of}
 use Rattle.sp_types.specs.declared.typed.TypedExpr.{TypedExpr}
 use Rattle.sp_ir.specs.View.{expression_of, leaf_of}
-use Rattle.sp_draft.specs.Context.{Context}
-use Rattle.sp_draft.specs.View.{context_of, draft_of}
+use Rattle.sp_lower_draft.specs.Context.{Context}
+use Rattle.sp_lower_draft.specs.View.{context_of, draft_of}
 use Rattle.sp_lower_statements.specs.Starts.{starts_of}
 use Rattle.sp_lower_statements.proofs.LeafLists.{leaf-turn, starts-rest, given, pushed-leaf}
 use Rattle.sp_lower_statements.proofs.declarations.leaves.Goals as goal

@@ -1,7 +1,7 @@
 use Rattle.std.proofs.Common.{◌≡◌, map, drop}
 use Rattle.sp_ir.specs.View.{leaf_of}
-use Rattle.sp_draft.specs.View.{context_of, draft_of}
-use Rattle.sp_lower_bodies.specs.Declarations.{leaves}
+use Rattle.sp_lower_draft.specs.View.{context_of, draft_of}
+use Rattle.sp_lower_body.specs.Declarations.{leaves}
 use Rattle.sp_lower_statements.specs.Starts.{starts_of, adding_starts}
 use Rattle.sp_lower_statements.proofs.LeafLists.{with_leaves}
 use Rattle.sp_lower_statements.proofs.declarations.leaves.Given as goal

@@ -1,7 +1,7 @@
 use Rattle.std.proofs.Common.{◌≡◌, drop}
 use Rattle.sp_ir.specs.View.{expression_of}
-use Rattle.sp_draft.specs.View.{context_of, draft_of}
-use Rattle.sp_lower_bodies.specs.Statements.{assume_each}
+use Rattle.sp_lower_draft.specs.View.{context_of, draft_of}
+use Rattle.sp_lower_body.specs.Statements.{assume_each}
 use Rattle.sp_lower_statements.proofs.Headers.{with_nodes}
 use Rattle.sp_lower_statements.proofs.switches.assume_each.Given as goal
 

@@ -1,7 +1,7 @@
 use Rattle.std.proofs.Common.{◌≡◌, map, drop}
 use Rattle.sp_types.specs.TypedView.{statement_of, statement_list}
-use Rattle.sp_lower_bodies.specs.Statements.{lower_all}
-use Rattle.sp_lower_bodies.specs.View.{frame_of, body_of}
+use Rattle.sp_lower_body.specs.Statements.{lower_all}
+use Rattle.sp_lower_body.specs.View.{frame_of, body_of}
 use Rattle.sp_lower_statements.proofs.walk.+walk.Given as goal
 
 abbrev pub invariant-statements-loop-s : goal.invariant-statements-loop-s

@@ -2,7 +2,7 @@ use Rattle.std.proofs.Common.{◌≡◌, ◌∙◌, ◌<◌, ◌+◌, [], ◌∷
 use Rattle.std.proofs.lemmas.List.{length-map, length-append}
 use Rattle.sp_ir.specs.Programs.{lowered_of}
 use Rattle.sp_ir.specs.View.{node_of}
-use Rattle.sp_sets.specs.Reached.{row}
+use Rattle.sp_base_sets.specs.Reached.{row}
 use Rattle.sp_pre.specs.PointsTo.{AreCalls}
 use Rattle.sp_pre.proofs.Calling.{ExactAt, pushed, all_calls}
 use Rattle.sp_pre.proofs.calls.calls_of.Goals as goal

@@ -1,6 +1,6 @@
 use Rattle.std.proofs.Common.{◌≡◌, ◌<◌, ℕ, length}
 use Rattle.sp_ir.specs.Programs.{lowered_of}
-use Rattle.sp_sets.specs.Reached.{row}
+use Rattle.sp_base_sets.specs.Reached.{row}
 use Rattle.sp_pre.proofs.Calling.{ExactAt}
 use Rattle.sp_pre.proofs.calls.calls_of.Given as goal
 

@@ -1,6 +1,6 @@
 use Rattle.std.proofs.Common.{subst}
 use Rattle.sp_ir.specs.Programs.{lowered_of}
-use Rattle.sp_sets.specs.Reached.{row}
+use Rattle.sp_base_sets.specs.Reached.{row}
 use Rattle.sp_pre.specs.PointsTo.{AreCalls}
 use Rattle.sp_pre.proofs.Calling.{are_callees}
 use Rattle.sp_pre.proofs.pre.points_to.Goals as goal

@@ -1,5 +1,5 @@
 use Rattle.std.proofs.Common.{◌≡◌, ◌<◌, ◌≤◌, ◌+◌, ℕ, true, length}
-use Rattle.sp_sets.specs.Sets.{has}
+use Rattle.sp_base_sets.specs.Sets.{has}
 use Rattle.sp_pre.proofs.solve.all_waiting.Given as goal
 
 abbrev pub invariant-loop-before : goal.invariant-loop-before

@@ -2,9 +2,9 @@ use Rattle.std.proofs.Common.{◌≡◌, ◌∙◌, ℕ, List, [], length, ap, s
 use Rattle.std.proofs.lemmas.List.{length-map, length-replicate}
 use Rattle.sp_ir.specs.Programs.{lowered_of}
 use Rattle.sp_ir.specs.View.{node_of}
-use Rattle.sp_tables.proofs.Serving.{first}
-use Rattle.sp_puts.specs.Puts.{rules_of}
-use Rattle.sp_puts.proofs.Putting.{program_rules}
+use Rattle.sp_points_expr.proofs.Serving.{first}
+use Rattle.sp_points_rules.specs.Puts.{rules_of}
+use Rattle.sp_points_rules.proofs.Putting.{program_rules}
 use Rattle.sp_pre.proofs.Beginning.{none_has, none_ascend}
 use Rattle.sp_pre.proofs.solve.first.Goals as goal
 

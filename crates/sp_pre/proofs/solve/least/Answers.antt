@@ -1,10 +1,10 @@
 use Rattle.std.proofs.Common.{◌≡◌, ◌<◌, ◌≤◌, ◌*◌, ◌⊎◌, inl, inr, length, sym, ap, arith}
 use Rattle.sp_ir.specs.Programs.{Lowered, lowered_of}
-use Rattle.sp_tables.specs.Growing.{size}
-use Rattle.sp_tables.proofs.Serving.{popped, done}
-use Rattle.sp_tables.proofs.Measure.{size_low, smaller}
-use Rattle.sp_puts.specs.Puts.{rules_of}
-use Rattle.sp_puts.proofs.Putting.{program_rules}
+use Rattle.sp_points_expr.specs.Growing.{size}
+use Rattle.sp_points_expr.proofs.Serving.{popped, done}
+use Rattle.sp_points_expr.proofs.Measure.{size_low, smaller}
+use Rattle.sp_points_rules.specs.Puts.{rules_of}
+use Rattle.sp_points_rules.proofs.Putting.{program_rules}
 use Rattle.sp_pre.proofs.solve.least.Goals as goal
 
 pub serve-requires-clause-working : goal.serve-requires-clause-working

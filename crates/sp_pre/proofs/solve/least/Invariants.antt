@@ -1,7 +1,7 @@
 use Rattle.std.proofs.Common.{◌+◌, ◌-◌, ◌*◌, length}
 use Rattle.sp_ir.specs.Programs.{lowered_of}
-use Rattle.sp_tables.specs.Growing.{size, Working}
-use Rattle.sp_puts.specs.Puts.{rules_of}
+use Rattle.sp_points_expr.specs.Growing.{size, Working}
+use Rattle.sp_points_rules.specs.Puts.{rules_of}
 use Rattle.sp_pre.proofs.solve.least.Given as goal
 
 abbrev pub invariant-nodes : goal.invariant-nodes

@@ -1,11 +1,11 @@
 use Rattle.std.proofs.Common.{◌≡◌, arith, ℕ, length, true, subst, ap}
 use Rattle.sp_ir.specs.Programs.{lowered_of}
-use Rattle.sp_sets.specs.Reached.{row}
-use Rattle.sp_tables.specs.Tables.{Table, Limited}
-use Rattle.sp_tables.specs.Growing.{Registers, Grows, in_puts}
-use Rattle.sp_tables.proofs.Serving.{served}
-use Rattle.sp_puts.specs.Puts.{rules_of}
-use Rattle.sp_puts.proofs.Putting.{program_rules}
+use Rattle.sp_base_sets.specs.Reached.{row}
+use Rattle.sp_points_expr.specs.Tables.{Table, Limited}
+use Rattle.sp_points_expr.specs.Growing.{Registers, Grows, in_puts}
+use Rattle.sp_points_expr.proofs.Serving.{served}
+use Rattle.sp_points_rules.specs.Puts.{rules_of}
+use Rattle.sp_points_rules.proofs.Putting.{program_rules}
 use Rattle.sp_pre.proofs.solve.serve.Goals as goal
 
 pub returns-clause-working : goal.returns-clause-working

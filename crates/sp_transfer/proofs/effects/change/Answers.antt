@@ -3,11 +3,11 @@ use Rattle.std.specs.Prelude.{slice_get}
 use Rattle.std.proofs.lemmas.List.{length-map}
 use Rattle.sp_ir.specs.Programs.{lowered_of}
 use Rattle.sp_ir.specs.View.{node_of, command_of}
-use Rattle.sp_puts.specs.Puts.{command_in, command_at}
-use Rattle.sp_rows.specs.Rows.{applied, untouched}
-use Rattle.sp_updates.specs.Rows.{store_of}
-use Rattle.sp_updates.proofs.UpdateLaws.{join-nothing}
-use Rattle.sp_scenes.specs.View.{analysed_of}
+use Rattle.sp_points_rules.specs.Puts.{command_in, command_at}
+use Rattle.sp_effect_rows.specs.Rows.{applied, untouched}
+use Rattle.sp_effect_rows.specs.Updates.{store_of}
+use Rattle.sp_effect_rows.proofs.UpdateLaws.{join-nothing}
+use Rattle.sp_effect_scene.specs.View.{analysed_of}
 use Rattle.sp_transfer.specs.Effects.{row_of, defined_by}
 use Rattle.sp_transfer.proofs.Nodes.{mapped-at, node-proper, command-past}
 use Rattle.sp_transfer.proofs.effects.change.Goals as goal

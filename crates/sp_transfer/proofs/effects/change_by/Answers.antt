@@ -1,10 +1,10 @@
 use Rattle.std.proofs.Common.{◌≡◌, ℕ, map, sym, subst}
 use Rattle.sp_ir.specs.View.{expression_of, leaf_of, command_of}
-use Rattle.sp_rows.specs.Rows.{applied}
-use Rattle.sp_updates.specs.Rows.{store_of}
-use Rattle.sp_scenes.specs.View.{analysed_of}
-use Rattle.sp_entries.specs.Initials.{initialising}
-use Rattle.sp_calls.specs.Passed.{calling}
+use Rattle.sp_effect_rows.specs.Rows.{applied}
+use Rattle.sp_effect_rows.specs.Updates.{store_of}
+use Rattle.sp_effect_scene.specs.View.{analysed_of}
+use Rattle.sp_effect_entry.specs.Initials.{initialising}
+use Rattle.sp_effect_call.specs.Passed.{calling}
 use Rattle.sp_transfer.specs.Effects.{row_of}
 use Rattle.sp_transfer.proofs.effects.change_by.Goals as goal
 

@@ -1,7 +1,7 @@
 use Rattle.std.proofs.Common.{ℕ, ◌∙◌, ap, arith}
 use Rattle.sp_value.specs.Slots.{slot_join}
-use Rattle.sp_rows.specs.Rows.{kept_if}
-use Rattle.sp_scenes.specs.View.{analysed_of}
+use Rattle.sp_effect_rows.specs.Rows.{kept_if}
+use Rattle.sp_effect_scene.specs.View.{analysed_of}
 use Rattle.sp_transfer.specs.Effects.{row_at, effect_at}
 use Rattle.sp_transfer.proofs.Rows.{same-row}
 use Rattle.sp_transfer.proofs.effects.effect.Goals as goal

@@ -2,7 +2,7 @@ use Rattle.std.proofs.Common.{◌∙◌, true, false, length, sym, ap, subst, ar
 use Rattle.std.specs.List.Sorted.{IsStrictlyIncreasing}
 use Rattle.sp_graph.specs.Calls.{Callees}
 use Rattle.sp_graph.specs.Supergraph.{IsSupergraph}
-use Rattle.sp_scenes.specs.View.{analysed_of}
+use Rattle.sp_effect_scene.specs.View.{analysed_of}
 use Rattle.sp_defuse.specs.Accessed.{AreAccessed}
 use Rattle.sp_defuse.specs.Sources.{IsSources}
 use Rattle.sp_defuse.proofs.Lists.{each-long}

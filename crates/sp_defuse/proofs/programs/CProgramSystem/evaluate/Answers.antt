@@ -1,11 +1,11 @@
 use Rattle.std.proofs.Common.{ℕ, List, sym, ap, ◌∙◌, subst}
 use Rattle.std.specs.List.Sorted.{IsStrictlyIncreasing}
 use Rattle.sp_lattice.specs.System.{has, AllBelow, values_at}
-use Rattle.sp_sets.specs.Reached.{row}
-use Rattle.sp_rows.specs.Setting.{count}
-use Rattle.sp_updates.specs.Rows.{store_of}
-use Rattle.sp_scenes.specs.Analysed.{setting_of}
-use Rattle.sp_scenes.specs.View.{analysed_of}
+use Rattle.sp_base_sets.specs.Reached.{row}
+use Rattle.sp_effect_rows.specs.Setting.{count}
+use Rattle.sp_effect_rows.specs.Updates.{store_of}
+use Rattle.sp_effect_scene.specs.Analysed.{setting_of}
+use Rattle.sp_effect_scene.specs.View.{analysed_of}
 use Rattle.sp_transfer.specs.Effects.{effect_at}
 use Rattle.sp_transfer.specs.Equations.{number_of}
 use Rattle.sp_defuse.specs.Program.{equations_in}

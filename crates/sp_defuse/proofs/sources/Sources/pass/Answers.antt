@@ -1,5 +1,5 @@
 use Rattle.std.proofs.Common.{◌∙◌, List, [], sym, ap, subst, length, ◌<◌, ℕ, get_or, arith}
-use Rattle.sp_sets.specs.Sets.{has}
+use Rattle.sp_base_sets.specs.Sets.{has}
 use Rattle.std.proofs.lemmas.List.{get_or_default}
 use Rattle.sp_defuse.proofs.Passing.{passes-kept, passes-none}
 use Rattle.sp_defuse.proofs.sources.Sources.pass.Goals as goal

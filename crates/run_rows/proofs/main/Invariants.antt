@@ -1,4 +1,0 @@
-use Rattle.run_rows.proofs.main.Given as goal
-
-abbrev pub ghosts-answer_rows : goal.ghosts-answer_rows
-ghosts-answer_rows a = record { name = a.blank.name; parts = a.blank.parts }

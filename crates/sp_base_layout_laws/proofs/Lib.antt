@@ -1,0 +1,4 @@
+pub mod Shaped
+pub mod Counts
+pub mod CellCounts
+pub mod Left

@@ -1,4 +1,0 @@
-pub mod Bare
-pub mod Answers
-pub mod Laws
-pub mod ReadAgain

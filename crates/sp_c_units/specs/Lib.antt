@@ -1,4 +1,0 @@
-pub mod Units
-pub mod Answers
-pub mod Bare
-pub mod Complete

@@ -1,7 +1,0 @@
--- What contracts see of an argument.
-use Rattle.sp_value.specs.Slots.{known_of}
-use Rattle.sp_calls.specs.declared.passed.Argument.{Argument}
-use Rattle.sp_calls.specs.Arguments.{Evaluated}
-
-abbrev pub evaluated_of : Argument → Evaluated
-evaluated_of x = record { struct_number = x.struct_number; known = known_of x.value }

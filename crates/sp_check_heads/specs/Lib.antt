@@ -1,0 +1,4 @@
+pub mod Formals
+pub mod FormalsView
+pub mod HeadView
+pub mod Heads

@@ -1,0 +1,3 @@
+pub mod Balances
+pub mod Conversions
+pub mod Operands

@@ -1,9 +1,0 @@
--- What declarators with their initialisers stand for.
-use Rattle.std.specs.Prelude.{Option, Some, None}
-use Rattle.sp_syntax.specs.Syntax.{MaybeInit, no_init, some_init}
-use Rattle.sp_syntax.specs.declared.tree.Init.{Init as CodeInit}
-use Rattle.sp_initialisers.specs.InitView.{init_of}
-
-abbrev pub start_of : Option CodeInit → MaybeInit
-start_of None = no_init
-start_of (Some i) = some_init (init_of i)

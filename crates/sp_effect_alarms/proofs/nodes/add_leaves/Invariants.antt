@@ -1,0 +1,10 @@
+use Rattle.std.proofs.Common.{◌≡◌, ◌++◌, take, map}
+use Rattle.sp_ir.specs.Programs.{lowered_of}
+use Rattle.sp_ir.specs.View.{leaf_of}
+use Rattle.sp_value.specs.Locations.{cells_at}
+use Rattle.sp_effect_alarms.specs.Commands.{leaf_alarms}
+use Rattle.sp_effect_alarms.proofs.nodes.add_leaves.Given as goal
+
+abbrev pub invariant-loop-leaf : goal.invariant-loop-leaf
+invariant-loop-leaf g l = l.alarms.items ≡ l.initial.alarms.items
+    ++ leaf_alarms (lowered_of l.lowered) (cells_at l.locations.cells.items (g.V.View.store l.view)) (map leaf_of (take l.leaf-index l.leaves))

@@ -1,0 +1,10 @@
+use Rattle.std.proofs.Common.{◌≡◌, ◌++◌, take, map}
+use Rattle.sp_ir.specs.Programs.{lowered_of}
+use Rattle.sp_ir.specs.View.{expression_of}
+use Rattle.sp_value.specs.Locations.{cells_at}
+use Rattle.sp_effect_alarms.specs.Commands.{list_alarms}
+use Rattle.sp_effect_alarms.proofs.nodes.add_list.Given as goal
+
+abbrev pub invariant-loop-expr : goal.invariant-loop-expr
+invariant-loop-expr g l = l.alarms.items ≡ l.initial.alarms.items
+    ++ list_alarms (lowered_of l.lowered) (cells_at l.locations.cells.items (g.V.View.store l.view)) (map expression_of (take l.expr-index l.exprs))

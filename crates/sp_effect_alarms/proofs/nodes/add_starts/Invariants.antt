@@ -1,0 +1,9 @@
+use Rattle.std.proofs.Common.{◌≡◌, ◌++◌, take, map}
+use Rattle.sp_ir.specs.Programs.{object_of, lowered_of}
+use Rattle.sp_value.specs.Locations.{cells_at}
+use Rattle.sp_effect_alarms.specs.Commands.{start_alarms}
+use Rattle.sp_effect_alarms.proofs.nodes.add_starts.Given as goal
+
+abbrev pub invariant-loop-object : goal.invariant-loop-object
+invariant-loop-object g l = l.alarms.items ≡ l.initial.alarms.items
+    ++ start_alarms (lowered_of l.lowered) (cells_at l.locations.cells.items (g.V.View.store l.view)) (map object_of (take l.object-index l.objects))

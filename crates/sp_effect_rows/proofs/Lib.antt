@@ -1,0 +1,9 @@
+pub mod Choices
+pub mod EffectLaws
+pub mod SettingLaws
+pub mod StoringLaws
+pub mod PlacingLaws
+pub mod AllLaws
+pub mod Numbers
+pub mod Ordered
+pub mod UpdateLaws

@@ -1,0 +1,26 @@
+-- Which analyses are whole: a formed program, and of it what points-to tells, and its ladder.
+use Rattle.std.specs.Prelude.{◌≡◌, ◌↔◌, ◌≤◌, ℕ, true, false, length, slice_index_or}
+use Rattle.std.specs.List.Sorted.{IsStrictlyIncreasing}
+use Rattle.sp_lattice.specs.Ladder.{IsLadder, IsLadderOf}
+use Rattle.sp_base_sets.specs.Reached.{row}
+use Rattle.sp_points_expr.specs.Tables.{IsLeastClosed}
+use Rattle.sp_ir.specs.Formed.{IsFormed}
+use Rattle.sp_points_rules.specs.Puts.{rules_of}
+use Rattle.sp_graph.specs.Calls.{AreCallees, IsRecursive}
+use Rattle.sp_pre.specs.PointsTo.{AreCalls}
+use Rattle.sp_effect_scene.specs.Analysed.{Analysed}
+
+pub record IsAnalysed (a : Analysed) : Type 0 where
+  pub formed : IsFormed a.program
+  -- where each cell may point, no more than the commands ask, ascending
+  pub points_to : IsLeastClosed (rules_of a.program) (row a.told.rows)
+  pub ascending : (c : ℕ) → IsStrictlyIncreasing (row a.told.rows c)
+  -- the functions that each node calls, and those that may be called again before they return
+  pub calls : AreCalls a.program (row a.told.rows) a.told.calls
+  pub callees : AreCallees a.program a.told.calls
+  pub recursive : (f : ℕ) → (slice_index_or a.told.recursive f false ≡ true)
+      ↔ IsRecursive a.program a.told.calls f
+  -- the ladder of the program's constants
+  pub points : IsLadderOf a.program.constants a.ladder
+  pub ladder : IsLadder a.ladder
+  pub few_points : length a.ladder ≤ 793

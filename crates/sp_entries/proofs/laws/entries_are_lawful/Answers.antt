@@ -1,5 +1,0 @@
-use Rattle.sp_entries.proofs.AllLaws.{entry_laws}
-use Rattle.sp_entries.proofs.laws.entries_are_lawful.Goals as goal
-
-pub returns : goal.returns
-returns c = record { laws = entry_laws }

@@ -1,7 +1,0 @@
-//! The law.
-ghost use Rattle.sp_function_laws.specs.Functions.{FunctionsAreGood};
-
-/// Functions whose bodies are well typed add what is formed. The call does nothing.
-pub fn functions_are_good()
-    ensures { FunctionsAreGood }
-{}

@@ -1,4 +1,0 @@
--- Places that the code reads of a tree.
-use Rattle.sp_syntax.proofs.TreeViews.{declarator_place-view}
-
-pub ruleset places = (declarator_place-view)

@@ -1,2 +1,0 @@
-pub mod HeadView
-pub mod Heads

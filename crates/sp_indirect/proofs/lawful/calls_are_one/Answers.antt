@@ -1,5 +1,0 @@
-use Rattle.sp_indirect.proofs.EqualLaws.{calls_equal}
-use Rattle.sp_indirect.proofs.lawful.calls_are_one.Goals as goal
-
-pub returns : goal.returns
-returns c = calls_equal

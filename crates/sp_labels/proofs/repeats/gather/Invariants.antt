@@ -1,8 +1,0 @@
-use Rattle.std.proofs.Common.{◌≡◌, ◌++◌, map, drop}
-use Rattle.sp_labels.specs.Repeats.{repeated}
-use Rattle.sp_labels.proofs.repeats.gather.Given as goal
-
-abbrev pub invariant-loop-item : goal.invariant-loop-item
-invariant-loop-item g l =
-    (repeated g.K.PartialEq.eq l.keys.keys (drop l.item-index l.items) ≡ repeated g.K.PartialEq.eq l.initial.keys.keys l.items)
-    × (l.keys.keys ++ map (λ i. i.0) (drop l.item-index l.items) ≡ l.initial.keys.keys ++ map (λ i. i.0) l.items)

@@ -1,5 +1,0 @@
-use Rattle.sp_leaf_laws.proofs.Leaves.{leaves_are_typed}
-use Rattle.sp_leaf_laws.proofs.laws.leaves_are_typed.Goals as goal
-
-pub returns : goal.returns
-returns c = leaves_are_typed

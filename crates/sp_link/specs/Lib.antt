@@ -1,3 +1,0 @@
-pub mod Linking
-pub mod Making
-pub mod MemberView

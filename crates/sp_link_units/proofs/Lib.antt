@@ -1,0 +1,3 @@
+pub mod Linked
+mod LinkLaws
+mod PartLinks

@@ -1,0 +1,4 @@
+pub mod Linking
+pub mod Making
+pub mod MemberView
+pub mod Links

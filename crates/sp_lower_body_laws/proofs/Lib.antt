@@ -1,0 +1,9 @@
+pub mod Later
+pub mod Declared
+pub mod Jumps
+pub mod Loops
+pub mod Switches
+pub mod Statements
+pub mod Labels
+pub mod OneFunction
+pub mod Functions

@@ -1,0 +1,7 @@
+//! The law.
+ghost use Rattle.sp_lower_starts_laws.specs.Laws.{StartsHold};
+
+/// The start values of the objects of a well-typed program are formed. The call does nothing.
+pub fn starts_hold()
+    ensures { StartsHold }
+{}

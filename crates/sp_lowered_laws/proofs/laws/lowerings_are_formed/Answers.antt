@@ -1,5 +1,0 @@
-use Rattle.sp_lowered_laws.proofs.Formed.{lowering_formed}
-use Rattle.sp_lowered_laws.proofs.laws.lowerings_are_formed.Goals as goal
-
-pub returns : goal.returns
-returns c = lowering_formed

@@ -1,7 +1,0 @@
-//! The law.
-ghost use Rattle.sp_lowered_laws.specs.Formed.{LoweringsAreFormed};
-
-/// Lowerings of well-typed programs are formed. The call does nothing.
-pub fn lowerings_are_formed()
-    ensures { LoweringsAreFormed }
-{}

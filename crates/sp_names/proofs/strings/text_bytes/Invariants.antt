@@ -1,6 +1,0 @@
-use Rattle.std.proofs.Common.{◌≡◌, ◌++◌, drop}
-use Rattle.sp_names.specs.Literals.{text_bytes}
-use Rattle.sp_names.proofs.strings.text_bytes.Given as goal
-
-abbrev pub invariant-parts : goal.invariant-parts
-invariant-parts l = l.bytes.items ++ text_bytes l.names (drop l.i l.parts) ≡ text_bytes l.names l.parts

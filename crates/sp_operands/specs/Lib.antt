@@ -1,4 +1,0 @@
-pub mod Answers
-pub mod Balances
-pub mod Conversions
-pub mod Operands

@@ -1,0 +1,21 @@
+use Rattle.std.proofs.Common.{[], ◌∷◌, ◌++◌, ap, ◌∙◌}
+use Rattle.std.proofs.lemmas.Result.{err_from_is_err_and, MatchResult-at_ok, MatchResult-at_err}
+use Rattle.sp_parse_tokens.specs.Scopes.{there}
+use Rattle.sp_parse_expr_lists.proofs.ParameterLists.{one_listed}
+use Rattle.sp_parse_expr_lists.proofs.parameters.with_parameter.Goals as goal
+
+pub returns-in_err-part : goal.returns-in_err-part
+returns-in_err-part c =
+    let p = err_from_is_err_and c.from_residual.result c.from_residual.ensures.1 in
+    let stop = c.in_err-part.field-0.0 in
+    rw (p.1, p.2) (c.requires.before.stops stop (MatchResult-at_err _ _ _ c.in_err-part.ensures c.requires.read))
+
+pub returns : goal.returns
+returns c =
+    let g = there c.args.context.types.now c.args.context.scope in
+    let was = c.args.parameters in
+    let part = c.in_ok-part.part in
+    let h = MatchResult-at_ok _ _ _ c.in_ok-part.ensures.0 c.requires.read in
+    let items = c.in_ok-all.ensures ∙ ap (λ v. v.items ++ part.tree.tree ∷ []) c.in_ok-part.ensures.1 in
+    let end = c.list_end-end.result in
+    one_listed g c.args.depth c.args.tokens.now was.given _ part.tree.tree part.tree.behind was.depth part.depth c.max-reached.result was.rest.now part.rest.now end.rest.now end.more c.requires.before h items c.max-reached.ensures c.list_end-end.ensures

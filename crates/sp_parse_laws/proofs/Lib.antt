@@ -1,0 +1,54 @@
+pub mod TokenKinds
+pub mod Spelling
+pub mod SpellingLists
+pub mod SpellingParts
+pub mod SpellingDeclarators
+pub mod SpelledAnswers
+pub mod SpelledChecked
+pub mod SpelledTable
+mod GrammarRows
+pub mod BareTrees
+pub mod Placing
+pub mod BareAnswers
+pub mod DepthsChecked
+pub mod SpecifierWords
+pub mod LevelledAnswers
+pub mod LevelledLists
+pub mod LevelledChecked
+pub mod LevelledSpecifiers
+pub mod LevelledTable
+pub mod Completing
+pub mod CompleteExpressions
+pub mod CompleteOperators
+pub mod CompleteParts
+pub mod CompleteSpecifiers
+pub mod CompleteDeclarators
+pub mod CompleteLists
+pub mod CompleteMembers
+pub mod CompleteTrees
+pub mod Lifts
+pub mod Instead
+pub mod Calls
+pub mod ReadAgain
+mod ReadAgainRows
+mod DepthRows
+pub mod Also
+pub mod Statements
+pub mod Units
+pub mod Between
+pub mod Shapes
+pub mod Levelled
+pub mod Steps
+pub mod PartsRead
+pub mod InitsRead
+pub mod DeclarationsRead
+pub mod NamesRead
+pub mod StatementsRead
+pub mod BlocksRead
+pub mod BareNames
+pub mod UnitsRead
+pub mod BareUnits
+pub mod PlacingUnits
+pub mod WholeUnits
+pub mod UnitsAgain
+mod UnitRows

@@ -1,0 +1,9 @@
+pub mod Spelled
+pub mod Bare
+pub mod Answers
+pub mod Laws
+pub mod ReadAgain
+pub mod Units
+pub mod UnitAnswers
+pub mod BareUnits
+pub mod Complete

@@ -1,0 +1,9 @@
+use Rattle.std.proofs.Common.{◌≡◌, take}
+use Rattle.sp_ir.specs.Programs.{lowered_of}
+use Rattle.sp_ir.specs.Terrain.{terrain_of}
+use Rattle.sp_ir.specs.Denoted.{member_region}
+use Rattle.sp_base_sets.specs.Sets.{Images}
+use Rattle.sp_points_expr.proofs.steps.members.Given as goal
+
+abbrev pub invariant-loop-region : goal.invariant-loop-region
+invariant-loop-region l = Images (λ q r. member_region (terrain_of (lowered_of l.lowered)) l.member q ≡ r) (take l.region-index l.numbers) l.set

@@ -1,0 +1,13 @@
+use Rattle.sp_ir.specs.Programs.{lowered_of}
+use Rattle.sp_points_rules.specs.declared.sources.Only.TheVariants.{PointerLeaves}
+use Rattle.sp_points_rules.specs.Sources.{InSource, region}
+use Rattle.sp_points_rules.specs.Puts.{all_of, only_of}
+use Rattle.sp_points_rules.proofs.Finding.{product_adds, region_finds, narrowed_finds}
+use Rattle.sp_points_rules.proofs.rules.pointers_from.Goals as goal
+
+pub returns : goal.returns
+returns c =
+    let p = lowered_of c.args.facts.now.lowered.now in
+    let rows = c.args.facts.now.rows.now in
+    product_adds rows (λ u x. InSource p u (only_of PointerLeaves (region c.args.to)) x) (λ u x. InSource p u (all_of (region c.args.from)) x) c.args.out.now c.put.new.self c.args.out.now.seen c.args.out.now.seen (record { rows = c.in_ok-rows.rows; numbers = c.in_ok-numbers.numbers })
+    (λ n h. h) (λ n h. h) c.in_ok-put.ensures.seen c.in_ok-put.ensures.puts (narrowed_finds p rows PointerLeaves c.args.to c.args.out.now.seen c.in_ok-above.above c.in_ok-rows.rows c.in_ok-above.ensures c.in_ok-rows.ensures) (region_finds p rows c.args.from c.args.out.now.seen c.in_ok-numbers.numbers c.in_ok-numbers.ensures)

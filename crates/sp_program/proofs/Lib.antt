@@ -1,2 +1,0 @@
-mod LinkLaws
-mod PartLinks

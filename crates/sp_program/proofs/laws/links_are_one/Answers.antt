@@ -1,5 +1,0 @@
-use Rattle.sp_program.proofs.LinkLaws.{links_one}
-use Rattle.sp_program.proofs.laws.links_are_one.Goals as goal
-
-pub returns : goal.returns
-returns c = links_one c.conflict_laws.ensures.one c.conflict_laws.ensures.exclude c.matching_laws.ensures.equal

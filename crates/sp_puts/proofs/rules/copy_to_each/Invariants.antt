@@ -1,8 +1,0 @@
-use Rattle.std.proofs.Common.{◌<◌, ℕ, get_or}
-use Rattle.sp_ir.specs.Programs.{lowered_of}
-use Rattle.sp_puts.specs.Gathered.{Adds}
-use Rattle.sp_puts.specs.Copying.{CopiesFrom}
-use Rattle.sp_puts.proofs.rules.copy_to_each.Given as goal
-
-abbrev pub invariant-loop-target : goal.invariant-loop-target
-invariant-loop-target l = Adds l.facts.rows.now (λ u c r. (k : ℕ) × (k < l.target-index) × CopiesFrom (lowered_of l.facts.lowered.now) u (get_or l.targets k 0) l.sources c r) l.fn.out l.out

@@ -1,8 +1,0 @@
-use Rattle.std.proofs.Common.{◌<◌, ℕ, get_or}
-use Rattle.sp_ir.specs.Programs.{lowered_of}
-use Rattle.sp_puts.specs.Gathered.{Adds}
-use Rattle.sp_puts.specs.Copying.{MirrorsBack}
-use Rattle.sp_puts.proofs.rules.mirror_back_each.Given as goal
-
-abbrev pub invariant-loop-cell : goal.invariant-loop-cell
-invariant-loop-cell l = Adds l.facts.rows.now (λ u c r. (k : ℕ) × (k < l.cell-index) × MirrorsBack (lowered_of l.facts.lowered.now) u l.target l.source (get_or l.cells k 0) c r) l.fn.out l.out

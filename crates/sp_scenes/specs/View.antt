@@ -1,7 +1,0 @@
--- The analysed program that an analysis stands for.
-use Rattle.sp_ir.specs.Programs.{lowered_of}
-use Rattle.sp_scenes.specs.declared.analysis.Analysis.{Analysis}
-use Rattle.sp_scenes.specs.Analysed.{Analysed, analysed}
-
-abbrev pub analysed_of : Analysis → Analysed
-analysed_of a = analysed (lowered_of a.lowered) a.pre a.ladder

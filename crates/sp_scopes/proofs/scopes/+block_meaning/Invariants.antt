@@ -1,5 +1,0 @@
-use Rattle.std.proofs.Common.{length}
-use Rattle.sp_scopes.proofs.scopes.+block_meaning.Given as goal
-
-abbrev pub decreases-block_meaning : goal.decreases-block_meaning
-decreases-block_meaning l = length l.scopes.now

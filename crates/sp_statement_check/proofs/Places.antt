@@ -1,4 +1,0 @@
--- Places that the code reads of a tree.
-use Rattle.sp_syntax.proofs.TreeViews.{place_of-view}
-
-pub ruleset places = (place_of-view)

@@ -1,7 +1,0 @@
--- The view of the form of a statement.
-use Rattle.sp_syntax.specs.Syntax.{Statement, StatementForm}
-use Rattle.sp_syntax.specs.View.{statement_form_step, statement_step}
-use Rattle.sp_syntax.specs.declared.statement.StatementForm.{StatementForm as CodeForm, fold-StatementForm}
-
-abbrev pub form_of : CodeForm → StatementForm
-form_of = fold-StatementForm StatementForm Statement statement_form_step statement_step

@@ -1,4 +1,0 @@
-pub mod Blocks
-pub mod Rules
-pub mod Values
-pub mod View

@@ -1,5 +1,0 @@
-use Rattle.sp_stores.proofs.AssignLaws.{assign_laws}
-use Rattle.sp_stores.proofs.laws.assignments_are_lawful.Goals as goal
-
-pub returns : goal.returns
-returns c = record { laws = assign_laws }

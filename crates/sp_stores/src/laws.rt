@@ -1,8 +1,0 @@
-//! The laws of assignments as a contract.
-ghost use Rattle.sp_stores.specs.Laws.{AssignLaws};
-
-/// Where points-to is closed, an assignment is a lawful row (`AssignLaws` of `specs.Laws`). The call
-/// does nothing.
-pub fn assignments_are_lawful()
-    ensures laws { AssignLaws }
-{}

@@ -1,6 +1,0 @@
-use Rattle.std.proofs.Common.{◌≡◌, ℕ, take}
-use Rattle.sp_struct_match.specs.Leading.{leader_by, moved}
-use Rattle.sp_struct_match.proofs.leaders.Leaders.move_all.Given as goal
-
-abbrev pub invariant-list : goal.invariant-list
-invariant-list l = (x : ℕ × ℕ) → leader_by l.self x ≡ moved (take l.i l.list) l.old l.new x (leader_by l.initial.self x)

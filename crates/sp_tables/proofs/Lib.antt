@@ -1,5 +1,0 @@
-mod Waiting
-mod Growth
-pub mod Adding
-pub mod Serving
-pub mod Measure

@@ -1,7 +1,0 @@
-use Rattle.std.proofs.Common.{◌≡◌, true, take}
-use Rattle.sp_sets.specs.Sets.{has, Images}
-use Rattle.sp_sets.specs.Reached.{row}
-use Rattle.sp_targets.proofs.steps.contents.Given as goal
-
-abbrev pub invariant-loop-cell : goal.invariant-loop-cell
-invariant-loop-cell l = Images (λ c r. has r (row l.rows c) ≡ true) (take l.cell-index l.numbers) l.set

@@ -1,9 +1,0 @@
-use Rattle.std.proofs.Common.{◌≡◌, take}
-use Rattle.sp_ir.specs.Programs.{lowered_of}
-use Rattle.sp_ir.specs.Terrain.{terrain_of}
-use Rattle.sp_ir.specs.Denoted.{member_region}
-use Rattle.sp_sets.specs.Sets.{Images}
-use Rattle.sp_targets.proofs.steps.members.Given as goal
-
-abbrev pub invariant-loop-region : goal.invariant-loop-region
-invariant-loop-region l = Images (λ q r. member_region (terrain_of (lowered_of l.lowered)) l.member q ≡ r) (take l.region-index l.numbers) l.set

@@ -1,5 +1,0 @@
-use Rattle.sp_typed_laws.proofs.Law.{expressions_typed}
-use Rattle.sp_typed_laws.proofs.laws.expressions_are_typed.Goals as goal
-
-pub returns : goal.returns
-returns c = record { typed = expressions_typed }

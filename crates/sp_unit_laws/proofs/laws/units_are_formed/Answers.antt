@@ -1,5 +1,0 @@
-use Rattle.sp_unit_laws.proofs.Units.{units_are_formed}
-use Rattle.sp_unit_laws.proofs.laws.units_are_formed.Goals as goal
-
-pub returns : goal.returns
-returns c = record { formed = units_are_formed }

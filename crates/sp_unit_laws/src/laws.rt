@@ -1,7 +1,0 @@
-//! The law.
-ghost use Rattle.sp_unit_laws.specs.Units.{UnitsAreFormed};
-
-/// A unit that the checks accept is formed.
-pub fn units_are_formed()
-    ensures formed { UnitsAreFormed }
-{}

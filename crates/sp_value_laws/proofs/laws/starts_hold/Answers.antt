@@ -1,5 +1,0 @@
-use Rattle.sp_value_laws.proofs.Whole.{starts_hold}
-use Rattle.sp_value_laws.proofs.laws.starts_hold.Goals as goal
-
-pub returns : goal.returns
-returns c = starts_hold

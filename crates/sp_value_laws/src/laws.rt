@@ -1,7 +1,0 @@
-//! The law.
-ghost use Rattle.sp_value_laws.specs.Laws.{StartsHold};
-
-/// The start values of the objects of a well-typed program are formed. The call does nothing.
-pub fn starts_hold()
-    ensures { StartsHold }
-{}

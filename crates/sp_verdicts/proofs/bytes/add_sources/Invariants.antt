@@ -1,9 +1,0 @@
-use Rattle.std.proofs.Common.{◌≡◌, ◌++◌, take}
-use Rattle.std.specs.List.{flat_map}
-use Rattle.sp_ir.specs.Programs.{lowered_of}
-use Rattle.sp_verdicts.specs.Library.{pair_alarms}
-use Rattle.sp_verdicts.proofs.bytes.add_sources.Given as goal
-
-abbrev pub invariant-loop-from : goal.invariant-loop-from
-invariant-loop-from l = l.alarms.items ≡ l.initial.alarms.items
-    ++ flat_map (pair_alarms (lowered_of l.lowered) l.place l.to) (take l.from-index l.sources)
