@@ -196,6 +196,27 @@ IsTarget p f l = IsLvalue p f l
     × ((is_scalar (lvalue_type l) || is_struct (lvalue_type l)) ≡ true)
     × (1 ≤ size_of p.structs (lvalue_type l))
 
+-- ---- reads
+
+-- whether a cell is read: by the value itself, or for the pointer or the index of an lvalue
+abbrev mutual
+  pub reads : Expression → Bool
+  reads (number z k) = false
+  reads (address l) = lvalue_reads l
+  reads (decay l) = lvalue_reads l
+  reads (read l) = true
+  reads (convert t e) = reads e
+  reads (unary op k e) = reads e
+  reads (binary op k a b at) = reads a || reads b
+  reads (compare op a b) = reads a || reads b
+  reads (move a b back size) = reads a || reads b
+  reads (distance a b size) = reads a || reads b
+
+  pub lvalue_reads : Lvalue → Bool
+  lvalue_reads (direct n t) = false
+  lvalue_reads (through e t at) = reads e
+  lvalue_reads (field l k t) = lvalue_reads l
+
 -- ---- leaves
 
 abbrev pub shape_of : Table → CType → Shape → Type 0
@@ -433,6 +454,8 @@ pub record IsObject (p : Lowered) (n : ℕ) (o : Object) : Type 0 where
   pub typed : HasType p o.of (is_site o.kind)
   pub owned : HasOwner p o (is_local o.kind)
   pub start : HasStart p n o (starts o.kind)
+  -- start values are known before any cell has a value
+  pub constant : All (λ l. reads l.value ≡ false) o.start
   pub code : NamesCode p n o.code
 
 -- the node that a site is of, whose command names it
