@@ -22,7 +22,7 @@ use Rattle.sp_parse_tokens.specs.SyntaxTrees.{syntax_trees}
 use Rattle.sp_parse_tokens.specs.Makers.{SpecifierAt, all_specifiers, all_items, place_of_first, make_declaration}
 use Rattle.sp_parse_tokens.specs.Ended.{IsEnded}
 use Rattle.sp_parse_tokens.specs.Expecting.{IsExpected, IsUnexpected}
-use Rattle.sp_parse_tokens.specs.Scopes.{there, purpose_seen}
+use Rattle.sp_parse_tokens.specs.Scopes.{there, allowed_seen}
 use Rattle.sp_parse_tokens.proofs.Viewing.{ended_mark, mark_viewed}
 use Rattle.sp_parse_expr_steps.specs.Reading.{IsRead, IsStop}
 use Rattle.sp_parse_expr_steps.specs.Declaring.{AreSpecified}
@@ -218,8 +218,8 @@ module _ (types : List ℕ) (scope : Scope) (depth : ℕ) (text xs : List Token)
       pub rest_items : (s : ReadError) → IsStop context (grammar.more_items first) depth mid s → IsStop context (grammar.behind_declarator sp d) depth text s
       rest_items s h = stop_part context context context (grammar.behind_declarator sp d) (grammar.behind_declarator sp d) (grammar.more_items first) (λ b. b) (items_close context sp d) depth depth text mid rest_started (omega arith) s h
 
-      module _ (m : ℕ) (is : Items) (last_tokens : List Token) (b : IsRead context (grammar.more_items first) depth mid is m last_tokens) (p : AlsoAllowed) (behind : purpose_seen p ≡ is.behind) where
-        rest_got : IsOn context context (grammar.behind_declarator sp d) (grammar.behind_declarator sp d) (λ w. w) (close_by context (purpose_seen p) tokens.semicolon (items_done context sp d is)) text last_tokens
+      module _ (m : ℕ) (is : Items) (last_tokens : List Token) (b : IsRead context (grammar.more_items first) depth mid is m last_tokens) (p : AlsoAllowed) (behind : allowed_seen p ≡ is.behind) where
+        rest_got : IsOn context context (grammar.behind_declarator sp d) (grammar.behind_declarator sp d) (λ w. w) (close_by context (allowed_seen p) tokens.semicolon (items_done context sp d is)) text last_tokens
         rest_got = subst (λ w. IsOn context context (grammar.behind_declarator sp d) (grammar.behind_declarator sp d) (λ u. u) (close_by context w tokens.semicolon (items_done context sp d is)) text last_tokens) (sym behind) (got rest_started b.reads)
 
         pub rest_unclosed : (s : ReadError) → IsUnexpected types scope tokens.semicolon p last_tokens s → IsStop context (grammar.behind_declarator sp d) depth text s
@@ -253,10 +253,10 @@ pub items_inner : (types : List ℕ) (scope : Scope) (depth : ℕ) (text : List 
 items_inner types scope depth [] ended all d none l v mid a first begins s h = absurd ended
 items_inner types scope depth (x ∷ xs) ended all d none l v mid a first begins s h = rest_items types scope depth (x ∷ xs) xs x refl all d none l v mid a first begins s h
 
-pub items_unclosed : (types : List ℕ) (scope : Scope) (depth : ℕ) (text : List Token) → IsEnded text → (all : Specified) (d : Declared) → begins_body types text d ≡ false → (l : ℕ) (v : Option Init) (mid : List Token) → IsRead (there types scope) grammar.initial depth text v l mid → (first : Items) → first ≡ one_item d v → (m : ℕ) (is : Items) (last_tokens : List Token) → IsRead (there types scope) (grammar.more_items first) depth mid is m last_tokens → (p : AlsoAllowed) → purpose_seen p ≡ is.behind → (s : ReadError) → IsUnexpected types scope tokens.semicolon p last_tokens s → IsStop (there types scope) (grammar.behind_declarator all d) depth text s
+pub items_unclosed : (types : List ℕ) (scope : Scope) (depth : ℕ) (text : List Token) → IsEnded text → (all : Specified) (d : Declared) → begins_body types text d ≡ false → (l : ℕ) (v : Option Init) (mid : List Token) → IsRead (there types scope) grammar.initial depth text v l mid → (first : Items) → first ≡ one_item d v → (m : ℕ) (is : Items) (last_tokens : List Token) → IsRead (there types scope) (grammar.more_items first) depth mid is m last_tokens → (p : AlsoAllowed) → allowed_seen p ≡ is.behind → (s : ReadError) → IsUnexpected types scope tokens.semicolon p last_tokens s → IsStop (there types scope) (grammar.behind_declarator all d) depth text s
 items_unclosed types scope depth [] ended all d none l v mid a first begins m is last_tokens b p behind s u = absurd ended
 items_unclosed types scope depth (x ∷ xs) ended all d none l v mid a first begins m is last_tokens b p behind s u = rest_unclosed types scope depth (x ∷ xs) xs x refl all d none l v mid a first begins m is last_tokens b p behind s u
 
-pub declaration_whole : (types : List ℕ) (scope : Scope) (depth : ℕ) (text : List Token) → IsEnded text → (all : Specified) (d : Declared) → begins_body types text d ≡ false → (l : ℕ) (v : Option Init) (mid : List Token) → IsRead (there types scope) grammar.initial depth text v l mid → (first : Items) → first ≡ one_item d v → (m : ℕ) (is : Items) (last_tokens : List Token) → IsRead (there types scope) (grammar.more_items first) depth mid is m last_tokens → (p : AlsoAllowed) → purpose_seen p ≡ is.behind → (n : ℕ) (rest : List Token) (written : Specifiers) (place : Place) (made : Declares) → IsExpected types tokens.semicolon last_tokens rest → written ≡ all_specifiers all.all → place_of_first all.all ≡ place → made ≡ declares (syntax.external_declaration (declaration written (init_declarators is.all) place)) (new_types all is.names) → n ≡ max (specifiers_depth written) m → n ≤ depth → IsRead (there types scope) (grammar.behind_declarator all d) depth text made n rest
+pub declaration_whole : (types : List ℕ) (scope : Scope) (depth : ℕ) (text : List Token) → IsEnded text → (all : Specified) (d : Declared) → begins_body types text d ≡ false → (l : ℕ) (v : Option Init) (mid : List Token) → IsRead (there types scope) grammar.initial depth text v l mid → (first : Items) → first ≡ one_item d v → (m : ℕ) (is : Items) (last_tokens : List Token) → IsRead (there types scope) (grammar.more_items first) depth mid is m last_tokens → (p : AlsoAllowed) → allowed_seen p ≡ is.behind → (n : ℕ) (rest : List Token) (written : Specifiers) (place : Place) (made : Declares) → IsExpected types tokens.semicolon last_tokens rest → written ≡ all_specifiers all.all → place_of_first all.all ≡ place → made ≡ declares (syntax.external_declaration (declaration written (init_declarators is.all) place)) (new_types all is.names) → n ≡ max (specifiers_depth written) m → n ≤ depth → IsRead (there types scope) (grammar.behind_declarator all d) depth text made n rest
 declaration_whole types scope depth [] ended all d none l v mid a first begins m is last_tokens b p behind n rest written place made closes words spot same deepest shallow = absurd ended
 declaration_whole types scope depth (x ∷ xs) ended all d none l v mid a first begins m is last_tokens b p behind n rest written place made closes words spot same deepest shallow = rest_read types scope depth (x ∷ xs) xs x refl all d none l v mid a first begins m is last_tokens b p behind n rest written place made closes words spot same deepest shallow

@@ -19,7 +19,7 @@ use Rattle.sp_parse_grammar.specs.CTable.{Context, at, unit, whole, outside, c_s
 use Rattle.sp_parse_grammar.specs.Table.{Plan, call, done, ask, Reads, Fails, wanted}
 use Rattle.sp_parse_grammar.specs.Depth.{Nests}
 use Rattle.sp_parse_tokens.specs.declared.scope.Scope.{Scope}
-use Rattle.sp_parse_tokens.specs.declared.scope.AlsoAllowed.TheVariants as purposes
+use Rattle.sp_parse_tokens.specs.declared.scope.AlsoAllowed.TheVariants as also
 use Rattle.sp_parse_tokens.specs.declared.part.ReadError.{ReadError}
 use Rattle.sp_parse_tokens.specs.declared.part.ReadError.TheVariants as stops
 use Rattle.sp_parse_tokens.specs.Sorts.{Terminal, sort_of, word_sort, punct_sort, c_tokens}
@@ -179,18 +179,18 @@ untyped types (tokens.mark m) h = refl
 abbrev the_end : Wanted
 the_end = wanted (grammar.only (outside []) grammar.for_external tokens.end)
 
-kind_at_end : (scope : Scope) (s : Sort) → scope.in_function ≡ false → scope.in_struct ≡ false → kind_for scope purposes.TypeSpecifier s ≡ fault_there the_end s
+kind_at_end : (scope : Scope) (s : Sort) → scope.in_function ≡ false → scope.in_struct ≡ false → kind_for scope also.TypeSpecifier s ≡ fault_there the_end s
 kind_at_end scope s outside_function outside_struct = rw (outside_function, outside_struct) refl
 
-fault_same : (types : List ℕ) (scope : Scope) (x : Token) → scope.in_function ≡ false → scope.in_struct ≡ false → begins_external (view types (sort_of x.kind)) ≡ false → kind_for scope purposes.TypeSpecifier (view types (sort_of x.kind)) ≡ fault_there the_end (sort_there the_end x)
+fault_same : (types : List ℕ) (scope : Scope) (x : Token) → scope.in_function ≡ false → scope.in_struct ≡ false → begins_external (view types (sort_of x.kind)) ≡ false → kind_for scope also.TypeSpecifier (view types (sort_of x.kind)) ≡ fault_there the_end (sort_there the_end x)
 fault_same types scope x f g other = kind_at_end scope (view types (sort_of x.kind)) f g ∙ ap (λ v. fault_there the_end v) (untyped types (sort_of x.kind) other)
 
-told_at_end : (types : List ℕ) (scope : Scope) (rest xs : List Token) (x : Token) → rest ≡ x ∷ xs → scope.in_function ≡ false → scope.in_struct ≡ false → begins_external (view types (sort_of x.kind)) ≡ false → (k : FaultKind) → kind_of_first types scope purposes.TypeSpecifier rest k → k ≡ kind_at the_end rest
+told_at_end : (types : List ℕ) (scope : Scope) (rest xs : List Token) (x : Token) → rest ≡ x ∷ xs → scope.in_function ≡ false → scope.in_struct ≡ false → begins_external (view types (sort_of x.kind)) ≡ false → (k : FaultKind) → kind_of_first types scope also.TypeSpecifier rest k → k ≡ kind_at the_end rest
 told_at_end types scope rest xs x e f g other k h =
-    let here : k ≡ kind_for scope purposes.TypeSpecifier (view types (sort_of x.kind)) = subst (λ v. kind_of_first types scope purposes.TypeSpecifier v k) e h in
+    let here : k ≡ kind_for scope also.TypeSpecifier (view types (sort_of x.kind)) = subst (λ v. kind_of_first types scope also.TypeSpecifier v k) e h in
     subst (λ v. k ≡ kind_at the_end v) (sym e) (here ∙ fault_same types scope x f g other)
 
-pub end_stop : (types : List ℕ) (scope : Scope) (es : List External) (text rest xs : List Token) (x : Token) (e : rest ≡ x ∷ xs) (so : UnitSoFar types es text rest) → scope.in_function ≡ false → scope.in_struct ≡ false → begins_external (view types (sort_of x.kind)) ≡ false → (y : Token) (ys : List Token) → rest ≡ y ∷ ys → is_mark tokens.end (view types (sort_of y.kind)) ≡ false → IsEnded text → IsEnded rest → (d : ℕ) (s : ReadError) → IsFaultFor types scope purposes.TypeSpecifier rest s → IsUnitStop d text s
+pub end_stop : (types : List ℕ) (scope : Scope) (es : List External) (text rest xs : List Token) (x : Token) (e : rest ≡ x ∷ xs) (so : UnitSoFar types es text rest) → scope.in_function ≡ false → scope.in_struct ≡ false → begins_external (view types (sort_of x.kind)) ≡ false → (y : Token) (ys : List Token) → rest ≡ y ∷ ys → is_mark tokens.end (view types (sort_of y.kind)) ≡ false → IsEnded text → IsEnded rest → (d : ℕ) (s : ReadError) → IsFaultFor types scope also.TypeSpecifier rest s → IsUnitStop d text s
 end_stop types scope es text rest xs x e so f g other y ys h0 no_end ended left d (stops.Fault kind bad) h =
     let same : bad.now ≡ rest = h.0 in
     let here = got (whole_on text ended) (unit_ends types es text rest xs x e so other) in

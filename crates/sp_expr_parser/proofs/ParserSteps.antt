@@ -4,7 +4,7 @@ use Rattle.std.proofs.lemmas.List.{map-append}
 use Rattle.std.specs.Prelude.{Option, is_some, if◌then◌else◌}
 use Rattle.sp_tree.specs.declared.token.Token.{Token}
 use Rattle.sp_parse_tokens.specs.declared.scope.Scope.{Scope}
-use Rattle.sp_parse_tokens.specs.declared.scope.AlsoAllowed.TheVariants as purposes
+use Rattle.sp_parse_tokens.specs.declared.scope.AlsoAllowed.TheVariants as also
 use Rattle.sp_parse_tokens.specs.declared.part.ReadError.{ReadError}
 use Rattle.sp_parse_grammar.specs.CTokens as tokens
 use Rattle.sp_parse_grammar.specs.CTokens.{Sort, Seen, view, is_mark, add, nothing_seen}
@@ -144,7 +144,7 @@ type_name_deep types (x ∷ xs) ended s same begins =
     let opens = begins_opens g false nothing_seen grammar.no_specifiers (terminal x) v (add false false nothing_seen v) here in
     nests refl (deep_here refl (open_call opens.1 (open_take refl)) (omega arith))
 
-pub type_name_none : (types : List ℕ) (scope : Scope) (text : List Token) → there types scope ≡ outside types → IsEnded text → (s : Sort) → ((x : Token) (xs : List Token) → text ≡ x ∷ xs → s ≡ view types (sort_of x.kind)) → grammar.begins_specifiers false false s ≡ false → (stop : ReadError) → IsFaultFor types scope purposes.TypeSpecifier text stop → IsStop (outside types) grammar.type_name 0 text stop
+pub type_name_none : (types : List ℕ) (scope : Scope) (text : List Token) → there types scope ≡ outside types → IsEnded text → (s : Sort) → ((x : Token) (xs : List Token) → text ≡ x ∷ xs → s ≡ view types (sort_of x.kind)) → grammar.begins_specifiers false false s ≡ false → (stop : ReadError) → IsFaultFor types scope also.TypeSpecifier text stop → IsStop (outside types) grammar.type_name 0 text stop
 type_name_none types scope [] out ended s same begins stop h = absurd ended
 type_name_none types scope (x ∷ xs) out ended s same begins stop h =
     let g = there types scope in
@@ -153,7 +153,7 @@ type_name_none types scope (x ∷ xs) out ended s same begins stop h =
     let none : is_some (add false scope.in_function nothing_seen v) ≡ false = subst (λ w. is_some (add false scope.in_function nothing_seen w) ≡ false) (same x xs refl) (subst (λ (c : Context). is_some (add false c.inside nothing_seen s) ≡ false) (sym out) begins) in
     let part = unread {D = c_depths} (begun (at g i) (c_tokens (x ∷ xs))) refl (none_begins g false grammar.no_specifiers (terminal x) v (add false scope.in_function nothing_seen v) none) in
     let fails = part_fails (type_on g (x ∷ xs) ended) part in
-    subst (λ c. IsStop c grammar.type_name 0 (x ∷ xs) stop) out (stop_at types scope purposes.TypeSpecifier (asked (at g i)) g grammar.type_name 0 (x ∷ xs) (x ∷ xs) fails (λ y. refl) ended stop h)
+    subst (λ c. IsStop c grammar.type_name 0 (x ∷ xs) stop) out (stop_at types scope also.TypeSpecifier (asked (at g i)) g grammar.type_name 0 (x ∷ xs) (x ∷ xs) fails (λ y. refl) ended stop h)
 
 -- the plan of a declarator of a name that such a token begins
 record Begun (g : Context) (x : TokenOf syntax_trees) (s : Sort) : Type 0 where
@@ -192,7 +192,7 @@ no_head : (s : Sort) → begins_declarator s ≡ false → head_name grammar.con
 no_head (tokens.name n) e = absurd cc
 no_head _ e = refl
 
-pub declarator_none : (types : List ℕ) (scope : Scope) (text : List Token) → there types scope ≡ outside types → IsEnded text → (s : Sort) → ((x : Token) (xs : List Token) → text ≡ x ∷ xs → s ≡ view types (sort_of x.kind)) → begins_declarator s ≡ false → (stop : ReadError) → IsFaultFor types scope purposes.Name text stop → IsStop (outside types) (grammar.declarator grammar.concrete) 0 text stop
+pub declarator_none : (types : List ℕ) (scope : Scope) (text : List Token) → there types scope ≡ outside types → IsEnded text → (s : Sort) → ((x : Token) (xs : List Token) → text ≡ x ∷ xs → s ≡ view types (sort_of x.kind)) → begins_declarator s ≡ false → (stop : ReadError) → IsFaultFor types scope also.Name text stop → IsStop (outside types) (grammar.declarator grammar.concrete) 0 text stop
 declarator_none types scope [] out ended s same begins stop h = absurd ended
 declarator_none types scope (x ∷ xs) out ended s same begins stop h =
     let g = there types scope in
@@ -201,7 +201,7 @@ declarator_none types scope (x ∷ xs) out ended s same begins stop h =
     let other = subst (λ w. begins_declarator w ≡ false) (same x xs refl) begins in
     let part = unread {D = c_depths} (begun (at g i) (c_tokens (x ∷ xs))) refl (direct_begins_none g grammar.concrete (terminal x) v refl (no_opening v other) (no_head v other)) in
     let fails = part_fails (direct_on g (x ∷ xs) xs x refl grammar.concrete (no_star v other)) part in
-    subst (λ c. IsStop c (grammar.declarator grammar.concrete) 0 (x ∷ xs) stop) out (stop_at types scope purposes.Name (asked (at g i)) g (grammar.declarator grammar.concrete) 0 (x ∷ xs) (x ∷ xs) fails (λ y. refl) ended stop h)
+    subst (λ c. IsStop c (grammar.declarator grammar.concrete) 0 (x ∷ xs) stop) out (stop_at types scope also.Name (asked (at g i)) g (grammar.declarator grammar.concrete) 0 (x ∷ xs) (x ∷ xs) fails (λ y. refl) ended stop h)
 
 -- ---- lists of specifiers, the empty list too
 

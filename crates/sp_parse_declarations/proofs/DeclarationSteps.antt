@@ -13,7 +13,7 @@ use Rattle.sp_parse_tokens.specs.declared.part.ReadError.{ReadError}
 use Rattle.sp_parse_tokens.specs.declared.part.SpecifierList.{SpecifierList}
 use Rattle.sp_parse_tokens.specs.declared.scope.Scope.{Scope}
 use Rattle.sp_parse_tokens.specs.declared.scope.AlsoAllowed.{AlsoAllowed}
-use Rattle.sp_parse_tokens.specs.declared.scope.AlsoAllowed.TheVariants as purposes
+use Rattle.sp_parse_tokens.specs.declared.scope.AlsoAllowed.TheVariants as also
 use Rattle.sp_parse_grammar.specs.CTokens as tokens
 use Rattle.sp_parse_grammar.specs.CTokens.{Sort, view, is_mark}
 use Rattle.sp_parse_grammar.specs.CTable as grammar
@@ -27,7 +27,7 @@ use Rattle.sp_parse_tokens.specs.Depths.{c_depths, declarator_least}
 use Rattle.sp_parse_tokens.specs.Makers.{SpecifierAt, all_items, all_specifiers, make_declaration, first_place}
 use Rattle.sp_parse_tokens.specs.Ended.{IsEnded}
 use Rattle.sp_parse_tokens.specs.Expecting.{IsExpected, IsFaultFor}
-use Rattle.sp_parse_tokens.specs.Scopes.{there, purpose_seen}
+use Rattle.sp_parse_tokens.specs.Scopes.{there, allowed_seen}
 use Rattle.sp_parse_expr_steps.specs.Reading.{IsRead, IsStop, IsStep}
 use Rattle.sp_parse_expr_steps.specs.Declaring.{AreSpecified, IsDeclared, declared_seen, head_name}
 use Rattle.sp_parse_expr_steps.proofs.Steps.{begun, got, last, finished, unread, part_fails}
@@ -87,14 +87,14 @@ no_head : (s : Sort) → begins_items s ≡ false → head_name grammar.concrete
 no_head (tokens.name n) e = absurd cc
 no_head _ e = refl
 
-pub declarator_none : (types : List ℕ) (scope : Scope) (d : ℕ) (text xs : List Token) (x : Token) → text ≡ x ∷ xs → IsEnded text → begins_items (view types (sort_of x.kind)) ≡ false → (stop : ReadError) → IsFaultFor types scope purposes.Name text stop → IsStop (there types scope) (grammar.declarator grammar.concrete) d text stop
+pub declarator_none : (types : List ℕ) (scope : Scope) (d : ℕ) (text xs : List Token) (x : Token) → text ≡ x ∷ xs → IsEnded text → begins_items (view types (sort_of x.kind)) ≡ false → (stop : ReadError) → IsFaultFor types scope also.Name text stop → IsStop (there types scope) (grammar.declarator grammar.concrete) d text stop
 declarator_none types scope d text xs x e ended other stop h =
     let g = there types scope in
     let v = view types (sort_of x.kind) in
     let i = grammar.direct grammar.concrete in
     let part = unread {D = c_depths} (begun (at g i) (c_tokens text)) (ap c_tokens e) (direct_begins_none g grammar.concrete (terminal x) v refl (no_opening v other) (no_head v other)) in
     let fails = part_fails (direct_on g text xs x e grammar.concrete (no_star v other)) part in
-    stop_at types scope purposes.Name (asked (at g i)) g (grammar.declarator grammar.concrete) d text text fails (λ y. refl) ended stop h
+    stop_at types scope also.Name (asked (at g i)) g (grammar.declarator grammar.concrete) d text text fails (λ y. refl) ended stop h
 
 -- ---- an initialiser where a `=` begins one
 
@@ -134,10 +134,10 @@ item_read g d m n k text mid rest head v made ended h w same both =
 
 -- ---- more of them
 
-abbrev pub several : List InitDeclarator → List ℕ → grammar.Purpose → Several
+abbrev pub several : List InitDeclarator → List ℕ → grammar.AlsoAllowed → Several
 several all names p = record { all = all; names = names; behind = p }
 
-pub several_same : {xs ys : List InitDeclarator} {m n : List ℕ} {p q : grammar.Purpose} → xs ≡ ys → m ≡ n → p ≡ q → ◌≡◌ {A = Several} (several xs m p) (several ys n q)
+pub several_same : {xs ys : List InitDeclarator} {m n : List ℕ} {p q : grammar.AlsoAllowed} → xs ≡ ys → m ≡ n → p ≡ q → ◌≡◌ {A = Several} (several xs m p) (several ys n q)
 several_same e f h = cc
 
 abbrev pub items_more : (g : Context) (is i : Several) → Plan (c_symbols syntax_trees) (at g (grammar.more_items is))
@@ -192,7 +192,7 @@ items_listed (i ∷ is) = ap (λ v. syntax.next_item i v) (items_listed is)
 pub declaration_made : (g : Context) (stores : Bool) (d m : ℕ) (text rest : List Token) (ss : SpecifierList) (is : List InitDeclarator) (place : Place) (made : Declaration) → (h : AreSpecified g stores d text ss m rest) → place ≡ first_place text → made ≡ syntax.declaration (specifiers_of ss.all.items) (init_declarators is) place → made ≡ make_declaration h.all is
 declaration_made g stores d m text rest ss is place made h at_first same = same ∙ (ap (λ v. syntax.declaration v (init_declarators is) place) h.same ∙ (ap (λ v. syntax.declaration (all_specifiers h.all) v place) (items_listed is) ∙ ap (λ v. syntax.declaration (all_specifiers h.all) (all_items is) v) (at_first ∙ sym h.place)))
 
-pub declaration_read : (types : List ℕ) (scope : Scope) (d m n k : ℕ) (text mid last_tokens rest : List Token) (ss : SpecifierList) (is : Several) (p : AlsoAllowed) (made : Declaration) → IsEnded text → (h : AreSpecified (there types scope) true d text ss m mid) → IsRead (there types scope) grammar.items d mid is n last_tokens → purpose_seen p ≡ is.behind → IsExpected types tokens.semicolon last_tokens rest → k ≡ max m n → made ≡ make_declaration h.all is.all → IsTaken (there types scope) grammar.declaration d text made k rest
+pub declaration_read : (types : List ℕ) (scope : Scope) (d m n k : ℕ) (text mid last_tokens rest : List Token) (ss : SpecifierList) (is : Several) (p : AlsoAllowed) (made : Declaration) → IsEnded text → (h : AreSpecified (there types scope) true d text ss m mid) → IsRead (there types scope) grammar.items d mid is n last_tokens → allowed_seen p ≡ is.behind → IsExpected types tokens.semicolon last_tokens rest → k ≡ max m n → made ≡ make_declaration h.all is.all → IsTaken (there types scope) grammar.declaration d text made k rest
 declaration_read types scope d m n k text mid last_tokens rest ss is p made ended h w behind closes both same =
     let g = there types scope in
     let on = got (got (declaration_on g text ended) h.read.reads) w.reads in

@@ -17,7 +17,7 @@ use Rattle.sp_parse_tokens.specs.SyntaxTrees.{syntax_trees, c_table}
 use Rattle.sp_parse_tokens.specs.Depths.{c_depths}
 use Rattle.sp_parse_tokens.specs.Ended.{IsEnded}
 use Rattle.sp_parse_tokens.specs.Expecting.{IsExpected}
-use Rattle.sp_parse_tokens.specs.Scopes.{there, purpose_seen}
+use Rattle.sp_parse_tokens.specs.Scopes.{there, allowed_seen}
 use Rattle.sp_parse_tokens.specs.declared.scope.AlsoAllowed.{AlsoAllowed}
 use Rattle.sp_parse_tokens.specs.declared.scope.Scope.{Scope}
 use Rattle.sp_parse_expr_steps.specs.Reading.{IsRead, IsStep}
@@ -25,7 +25,7 @@ use Rattle.sp_parse_expr_steps.proofs.Steps.{got, last, finished}
 use Rattle.sp_parse_expr_steps.proofs.Parts.{IsOn, on_mark}
 use Rattle.sp_parse_expr_steps.proofs.ExpressionSteps.{built, first_same, first_taken, first_deep}
 use Rattle.sp_parse_expr_steps.proofs.ListSteps.{choice_ends, choice_on, choice_taken}
-use Rattle.sp_parse_expr_steps.proofs.Suffixes.{purposed}
+use Rattle.sp_parse_expr_steps.proofs.Suffixes.{allowing}
 use Rattle.sp_parse_declarations.specs.Taking.{IsTaken}
 
 abbrev Tree : Type 0
@@ -67,11 +67,11 @@ module _ (g : Context) (text xs : List Token) (x : Token) (e : text ≡ x ∷ xs
   pub braced_deep : (d : ℕ) → tokens.mark tokens.brace ≡ view g.types (sort_of x.kind) → d < 3 → Nests c_table c_depths (at g grammar.init) d (c_tokens text) (c_tokens text)
   braced_deep d is less = first_deep g grammar.init text xs x (tokens.mark tokens.brace) e is d (λ y. braced_plan g (terminal x)) refl less
 
-pub braced_read : (types : List ℕ) (scope : Scope) (d m n : ℕ) (text xs mid last_tokens rest : List Token) (x : Token) (first : Init) (r : Listed) (made : Init) (p : AlsoAllowed) → text ≡ x ∷ xs → tokens.mark tokens.brace ≡ view types (sort_of x.kind) → 2 ≤ d → IsTaken (there types scope) grammar.init (d - 1) xs first m mid → IsRead (there types scope) (grammar.inits (first ∷ [])) (d - 1) mid r n last_tokens → (if r.comma then grammar.for_name else grammar.plainly) ≡ purpose_seen p → IsExpected types tokens.unbrace last_tokens rest → made ≡ syntax_trees.listed (terminal x) r.all r.comma → IsTaken (there types scope) grammar.init d text made (1 + n) rest
-braced_read types scope d m n text xs mid last_tokens rest x first r made p e is room h w purpose closes same =
+pub braced_read : (types : List ℕ) (scope : Scope) (d m n : ℕ) (text xs mid last_tokens rest : List Token) (x : Token) (first : Init) (r : Listed) (made : Init) (p : AlsoAllowed) → text ≡ x ∷ xs → tokens.mark tokens.brace ≡ view types (sort_of x.kind) → 2 ≤ d → IsTaken (there types scope) grammar.init (d - 1) xs first m mid → IsRead (there types scope) (grammar.inits (first ∷ [])) (d - 1) mid r n last_tokens → (if r.comma then grammar.for_name else grammar.plainly) ≡ allowed_seen p → IsExpected types tokens.unbrace last_tokens rest → made ≡ syntax_trees.listed (terminal x) r.all r.comma → IsTaken (there types scope) grammar.init d text made (1 + n) rest
+braced_read types scope d m n text xs mid last_tokens rest x first r made p e is room h w also_allowed closes same =
     let g = there types scope in
     let on = got (got (braced_on g text xs x e is) h.read.reads) w.reads in
-    let here = purposed g grammar.init grammar.init (λ a. a) tokens.unbrace (braced_done g (terminal x) r) text last_tokens (if r.comma then grammar.for_name else grammar.plainly) (purpose_seen p) purpose on in
+    let here = allowing g grammar.init grammar.init (λ a. a) tokens.unbrace (braced_done g (terminal x) r) text last_tokens (if r.comma then grammar.for_name else grammar.plainly) (allowed_seen p) also_allowed on in
     let begun : length text ≡ length (x ∷ xs) = ap length e in
     let less : length last_tokens ≡ length (closes.first ∷ rest) = ap length closes.whole in
     record {

@@ -5,7 +5,7 @@ use Rattle.sp_parse_trees.specs.Syntax.{Declarator, DeclaratorForm, Param, TypeN
 use Rattle.sp_parse_trees.specs.View.{declarator_form_step, expression_form_step, init_step, specifier_step, declaration_step, declarator_step, enum_spec_step, expression_step, init_declarator_step, param_step, struct_spec_step, type_name_step}
 use Rattle.sp_parse_grammar.specs.CTable as grammar
 use Rattle.sp_parse_tokens.specs.SyntaxTrees.{syntax_trees}
-use Rattle.sp_parse_tokens.specs.Scopes.{purpose_seen}
+use Rattle.sp_parse_tokens.specs.Scopes.{allowed_seen}
 use Rattle.sp_parse_expr_steps.specs.Declaring.{item_seen}
 use Rattle.sp_parse_declarations.specs.declared.initialisers.Inits.{Inits}
 use Rattle.sp_parse_declarations.specs.declared.declarations.Item.{Item}
@@ -20,7 +20,7 @@ inits_seen is = record { all = map init_seen is.all.items; comma = is.comma }
 
 -- a declarator with its initialiser, and a list of them
 abbrev pub item_part : Item → grammar.Items syntax_trees
-item_part i = record { all = item_seen i.tree ∷ []; names = grammar.with_name i.declares []; behind = purpose_seen i.behind }
+item_part i = record { all = item_seen i.tree ∷ []; names = grammar.with_name i.declares []; behind = allowed_seen i.behind }
 
 abbrev pub items_part : ItemList → grammar.Items syntax_trees
-items_part is = record { all = map item_seen is.all.items; names = is.names.items; behind = purpose_seen is.behind }
+items_part is = record { all = map item_seen is.all.items; names = is.names.items; behind = allowed_seen is.behind }

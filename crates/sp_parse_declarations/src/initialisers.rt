@@ -7,7 +7,7 @@ ghost use Rattle.sp_parse_grammar.specs.CTable.{begins_expression as begins_valu
 ghost use Rattle.sp_parse_trees.specs.Depth.{init_depth};
 ghost use Rattle.sp_parse_tokens.specs.Codes.{sort_seen};
 ghost use Rattle.sp_parse_tokens.specs.Ended.{IsEnded};
-ghost use Rattle.sp_parse_tokens.specs.Scopes.{context_of, purpose_seen};
+ghost use Rattle.sp_parse_tokens.specs.Scopes.{context_of, allowed_seen};
 ghost use Rattle.sp_parse_expr_steps.specs.Reading.{Answers};
 ghost use Rattle.sp_parse_declarations.specs.Seen.{init_seen, inits_seen};
 ghost use Rattle.sp_parse_declarations.specs.Taking.{Takes};
@@ -53,8 +53,8 @@ pub fn read_init<'a>(
     }
     let first = read_init(context, rest, depth - 1)?;
     let list = read_inits(context, first.rest, first.tree, first.depth, depth - 1)?;
-    let purpose = purpose_after(list.tree.comma);
-    let rest = expect(context, purpose, Mark::CloseBrace, list.rest)?;
+    let also_allowed = allowed_after(list.tree.comma);
+    let rest = expect(context, also_allowed, Mark::CloseBrace, list.rest)?;
     Ok(Part {
         tree: Init::List(list.tree.all, list.tree.comma),
         depth: 1 + list.depth,
@@ -63,8 +63,8 @@ pub fn read_init<'a>(
 }
 
 /// What might be where initialisers end: a name, where a comma is before it.
-fn purpose_after(comma: bool) -> AlsoAllowed
-    ensures { purpose_seen result ≡ (if comma then grammar.for_name else grammar.plainly) }
+fn allowed_after(comma: bool) -> AlsoAllowed
+    ensures { allowed_seen result ≡ (if comma then grammar.for_name else grammar.plainly) }
 {
     if comma {
         AlsoAllowed::Name

@@ -14,7 +14,7 @@ ghost use Rattle.sp_parse_expr_steps.specs.Reading.{Answers, IsStop, IsTypeName,
 ghost use Rattle.sp_parse_expr_steps.specs.Declaring.{AreGiven, AreQualifiers, AreSpecified, IsArrayed, IsArrayStop, IsDeclared, IsGiven, IsLengthened, IsPointed, IsPointedStop, declared_seen, form_seen};
 
 use sp_base_kept::keeping;
-use sp_parse_expr_steps::{absent, array_of, function_of, grouped, length_purpose, pointed};
+use sp_parse_expr_steps::{absent, array_of, function_of, grouped, length_allowed, pointed};
 use sp_parse_tokens::{
     Context, DeclaratorKind, Declared, Mark, Operand, ParameterPart, Parameters, Part, ReadError,
     SpecifierList, TypeNamePart, expect,
@@ -62,8 +62,8 @@ pub fn arrayed<'a>(
         (IsArrayStop (context_of context.entry) context.entry.scope depth tokens.now) }
 {
     let (length, head) = keeping(length, head)?;
-    let purpose = length_purpose(&length.tree);
-    let next = expect(context, purpose, Mark::CloseBracket, length.rest);
+    let also_allowed = length_allowed(&length.tree);
+    let next = expect(context, also_allowed, Mark::CloseBracket, length.rest);
     let (rest, (head, many)) = keeping(next, (head, length.tree))?;
     Ok(Part {
         tree: array_of(context.alloc, head, many)?,
@@ -97,8 +97,8 @@ pub fn parametered<'a>(
         (declared_seen head pending)) depth (opening ∷ tokens.now)) }
 {
     let (parameters, head) = keeping(parameters, head)?;
-    let purpose = parameters.tree.behind;
-    let next = expect(context, purpose, Mark::CloseParen, parameters.rest);
+    let also_allowed = parameters.tree.behind;
+    let next = expect(context, also_allowed, Mark::CloseParen, parameters.rest);
     let (rest, (head, given)) = keeping(next, (head, parameters.tree))?;
     Ok(Part {
         tree: function_of(context.alloc, head, given)?,
@@ -134,8 +134,8 @@ pub fn absent_function<'a>(
 {
     let head = absent(form, opening.place);
     let (parameters, head) = keeping(parameters, head)?;
-    let purpose = parameters.tree.behind;
-    let next = expect(context, purpose, Mark::CloseParen, parameters.rest);
+    let also_allowed = parameters.tree.behind;
+    let next = expect(context, also_allowed, Mark::CloseParen, parameters.rest);
     let (rest, (head, given)) = keeping(next, (head, parameters.tree))?;
     Ok(Part {
         tree: function_of(context.alloc, head, given)?,

@@ -11,7 +11,7 @@ ghost use Rattle.sp_parse_expr_steps.specs.Reading.{Answers, IsGroupedStop, IsSt
 ghost use Rattle.sp_parse_expr_ends.specs.Closing.{IsBehindColon, IsGroup};
 
 use sp_base_kept::keeping;
-use sp_parse_expr_steps::{call_purpose, punct_of};
+use sp_parse_expr_steps::{call_allowed, punct_of};
 use sp_parse_tokens::{AlsoAllowed, Context, Mark, Operand, Part, ReadError, expect};
 use sp_parse_trees::Expr;
 use sp_tree::Token;
@@ -74,8 +74,8 @@ pub fn called<'a>(
         (opening ∷ tokens.now)) }
 {
     let (arguments, called) = keeping(arguments, inner)?;
-    let purpose = call_purpose(&arguments.tree);
-    let next = expect(context, purpose, Mark::CloseParen, arguments.rest);
+    let also_allowed = call_allowed(&arguments.tree);
+    let next = expect(context, also_allowed, Mark::CloseParen, arguments.rest);
     let (rest, (called, given)) = keeping(next, (called, arguments.tree))?;
     let tree = Expr::call(context.alloc, called, opening.place, given)?;
     Ok(Part {

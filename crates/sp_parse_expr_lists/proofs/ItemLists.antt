@@ -11,7 +11,7 @@ use Rattle.sp_parse_grammar.specs.CTable as grammar
 use Rattle.sp_parse_grammar.specs.CTable.{Context}
 use Rattle.sp_parse_tokens.specs.Makers.{all_items, first_place}
 use Rattle.sp_parse_tokens.specs.Ended.{IsEnded}
-use Rattle.sp_parse_tokens.specs.Scopes.{purpose_seen}
+use Rattle.sp_parse_tokens.specs.Scopes.{allowed_seen}
 use Rattle.sp_parse_tokens.specs.declared.part.Declared.{Declared}
 use Rattle.sp_parse_tokens.specs.declared.part.MemberDeclarators.{MemberDeclarators}
 use Rattle.sp_parse_tokens.specs.declared.part.SpecifierList.{SpecifierList}
@@ -59,7 +59,7 @@ pub none_listed : (g : Context) (depth : ℕ) (text : List Token) (ss : Specifie
 none_listed g depth text ss m mid items behind none ended h = subst (λ v. HasItems g depth text ss m mid true v behind 0 mid) (sym none) (record { goes_on = before_first g depth text ss m mid ended h; deep = refl; shallow = omega arith; ended = h.read.ended; fewer = omega (arith, h.fewer) })
 
 module _ (g : Context) (depth : ℕ) (text : List Token) (ss : SpecifierList) (a : ℕ) (mid : List Token) (items now : List CodeItem) (was behind : AlsoAllowed) (i : CodeItem) (d : Declared) (m n k : ℕ) (rest here later : List Token) (more : Bool) where
-  pub one_listed : IsEnded text → HasItems g depth text ss a mid true items was m rest → IsDeclared g (grammar.declarator grammar.concrete) (λ v. v) depth rest d n here → now ≡ items ++ i ∷ [] → item_seen i ≡ init_declarator (declarator_of d.tree) no_init → purpose_seen behind ≡ grammar.closed (purpose_seen d.behind) → k ≡ max m n → IsPastComma g.types here more later → HasItems g depth text ss a mid more now behind k later × ((if more then 1 else 0) + length later ≤ length rest)
+  pub one_listed : IsEnded text → HasItems g depth text ss a mid true items was m rest → IsDeclared g (grammar.declarator grammar.concrete) (λ v. v) depth rest d n here → now ≡ items ++ i ∷ [] → item_seen i ≡ init_declarator (declarator_of d.tree) no_init → allowed_seen behind ≡ grammar.closed (allowed_seen d.behind) → k ≡ max m n → IsPastComma g.types here more later → HasItems g depth text ss a mid more now behind k later × ((if more then 1 else 0) + length later ≤ length rest)
   one_listed ended b h same one closed top past =
       let read = concrete_read g depth n rest here d h in
       let past_end = past_ended g.types more here later past h.read.ended in

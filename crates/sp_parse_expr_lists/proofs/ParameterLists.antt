@@ -13,14 +13,14 @@ use Rattle.sp_parse_tokens.specs.Makers.{first_place}
 use Rattle.sp_parse_tokens.specs.Ended.{IsEnded}
 use Rattle.sp_parse_tokens.specs.declared.part.Parameters.{Parameters}
 use Rattle.sp_parse_tokens.specs.declared.scope.AlsoAllowed.{AlsoAllowed}
-use Rattle.sp_parse_tokens.specs.declared.scope.AlsoAllowed.TheVariants as purposes
+use Rattle.sp_parse_tokens.specs.declared.scope.AlsoAllowed.TheVariants as also
 use Rattle.sp_parse_expr_steps.specs.Declaring.{AreGiven, IsGiven, ParametersSoFar}
 use Rattle.sp_parse_expr_steps.proofs.Parts.{stop_part}
 use Rattle.sp_parse_expr_steps.proofs.ParameterSteps.{ended_comma, ended_ellipsis, given_list, first_more, parameters_on, no_parameters, first_given, given_depth, more_given_deep, parameters_end, comma_more, parameter_next, dots_end, next_given}
 use Rattle.sp_parse_expr_lists.specs.Given.{HasParameters, IsBeforeParameter, IsListEnd}
 
 module _ (g : Context) (depth : ℕ) (text : List Token) where
-  pub none_listed : (ps : Parameters) → ps.all.items ≡ [] → ps.dots ≡ false → ps.behind ≡ purposes.Parameter → (more : Bool) (xs : List Token) (x : Token) → text ≡ x ∷ xs → more ≡ begins_specifiers true g.inside (view g.types (sort_of x.kind)) → IsEnded text → HasParameters g depth text ps more 0 text
+  pub none_listed : (ps : Parameters) → ps.all.items ≡ [] → ps.dots ≡ false → ps.behind ≡ also.Parameter → (more : Bool) (xs : List Token) (x : Token) → text ≡ x ∷ xs → more ≡ begins_specifiers true g.inside (view g.types (sort_of x.kind)) → IsEnded text → HasParameters g depth text ps more 0 text
   none_listed ps none plain behind true xs x e is ended =
       let on = parameters_on g text xs x e (sym is) in
       subst (λ v. IsBeforeParameter g depth text v 0 text) (sym none) (record {

@@ -13,7 +13,7 @@ use Rattle.sp_parse_tokens.specs.Ended.{IsEnded}
 use Rattle.sp_parse_tokens.specs.declared.part.Parameters.{Parameters}
 use Rattle.sp_parse_tokens.specs.declared.part.ReadError.{ReadError}
 use Rattle.sp_parse_tokens.specs.declared.scope.AlsoAllowed.{AlsoAllowed}
-use Rattle.sp_parse_tokens.specs.declared.scope.AlsoAllowed.TheVariants as purposes
+use Rattle.sp_parse_tokens.specs.declared.scope.AlsoAllowed.TheVariants as also
 use Rattle.sp_parse_expr_steps.specs.Reading.{IsRead, IsStop, IsStep}
 use Rattle.sp_parse_expr_steps.specs.Declaring.{AreGiven, IsGiven, ParametersSoFar}
 use Rattle.sp_parse_expr_lists.specs.Heads.{Begins, Lacks}
@@ -60,5 +60,5 @@ pub record BeginsDots (types : List ℕ) (text rest : List Token) : Type 0 where
 abbrev pub IsListEnd : List ℕ → List Token → AlsoAllowed → Bool → Bool → AlsoAllowed → List Token → Type 0
 IsListEnd types text back true true behind rest = ⊥
 IsListEnd types text back true false behind rest = (behind ≡ back) × Begins types tokens.comma text rest × Lacks types tokens.ellipsis rest
-IsListEnd types text back false true behind rest = (behind ≡ purposes.Nothing) × BeginsDots types text rest
+IsListEnd types text back false true behind rest = (behind ≡ also.Nothing) × BeginsDots types text rest
 IsListEnd types text back false false behind rest = (behind ≡ back) × (rest ≡ text) × Lacks types tokens.comma text

@@ -10,7 +10,7 @@ use Rattle.sp_parse_grammar.specs.CTable as grammar
 use Rattle.sp_parse_grammar.specs.CTable.{Context}
 use Rattle.sp_parse_tokens.specs.Makers.{all_items}
 use Rattle.sp_parse_tokens.specs.Ended.{IsEnded}
-use Rattle.sp_parse_tokens.specs.Scopes.{purpose_seen}
+use Rattle.sp_parse_tokens.specs.Scopes.{allowed_seen}
 use Rattle.sp_parse_tokens.specs.declared.part.Declared.{Declared}
 use Rattle.sp_parse_tokens.specs.declared.part.SpecifierList.{SpecifierList}
 use Rattle.sp_parse_tokens.specs.declared.part.ReadError.{ReadError}
@@ -31,7 +31,7 @@ pub record ItemsAreBehind (g : Context) (depth : ℕ) (text : List Token) (ss : 
 
 -- Another declarator is left behind these.
 pub record IsBeforeItem (g : Context) (depth : ℕ) (text : List Token) (ss : SpecifierList) (m : ℕ) (mid : List Token) (items : List CodeItem) (rest : List Token) : Type 0 where
-  pub takes : (d : Declared) (n : ℕ) (later : List Token) → IsRead g (grammar.declarator grammar.concrete) depth rest (declared_seen d (declarator_of d.tree)) n later → (now : List CodeItem) (i : CodeItem) (back : AlsoAllowed) → now ≡ items ++ i ∷ [] → item_seen i ≡ init_declarator (declarator_of d.tree) no_init → purpose_seen back ≡ grammar.closed (purpose_seen d.behind) → ItemsAreBehind g depth text ss m mid now back later
+  pub takes : (d : Declared) (n : ℕ) (later : List Token) → IsRead g (grammar.declarator grammar.concrete) depth rest (declared_seen d (declarator_of d.tree)) n later → (now : List CodeItem) (i : CodeItem) (back : AlsoAllowed) → now ≡ items ++ i ∷ [] → item_seen i ≡ init_declarator (declarator_of d.tree) no_init → allowed_seen back ≡ grammar.closed (allowed_seen d.behind) → ItemsAreBehind g depth text ss m mid now back later
   pub stops : (s : ReadError) → IsStop g (grammar.declarator grammar.concrete) depth rest s → IsStop g grammar.member depth text s
 
 -- These declarators are read. The flag says whether a declarator is left: if not, no comma stands

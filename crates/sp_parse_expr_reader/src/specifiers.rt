@@ -21,7 +21,7 @@ use sp_parse_expr_lists::{
     inside_structure, member_of, no_constants, no_members, specifier_head, valued, whole_specifier,
     with_constant, with_item, with_member,
 };
-use sp_parse_expr_steps::{CONDITIONAL, is_either, is_too_deep, type_purpose};
+use sp_parse_expr_steps::{CONDITIONAL, is_either, is_too_deep, type_allowed};
 use sp_parse_tokens::{
     Context, DeclaratorKind, Mark, NOTHING, Part, ReadError, SpecifierList, add_specifier, fault,
     is_mark, is_typed, next_token, sort_at,
@@ -67,9 +67,9 @@ pub fn read_specifiers<'a>(
         rest = next.rest;
     }
     if !is_typed(seen) {
-        let purpose = type_purpose(stores, &all);
+        let also_allowed = type_allowed(stores, &all);
         drop(all);
-        return Err(fault(context, purpose, rest));
+        return Err(fault(context, also_allowed, rest));
     }
     Ok(Part {
         tree: SpecifierList { all, typedefs },

@@ -15,7 +15,7 @@ use Rattle.sp_parse_tokens.specs.declared.part.ReadError.{ReadError}
 use Rattle.sp_parse_tokens.specs.declared.part.ReadError.TheVariants as stops
 use Rattle.sp_parse_tokens.specs.declared.scope.Scope.{Scope}
 use Rattle.sp_parse_tokens.specs.declared.scope.AlsoAllowed.{AlsoAllowed}
-use Rattle.sp_parse_tokens.specs.declared.scope.AlsoAllowed.TheVariants as purposes
+use Rattle.sp_parse_tokens.specs.declared.scope.AlsoAllowed.TheVariants as also
 use Rattle.sp_parse_grammar.specs.CTokens as tokens
 use Rattle.sp_parse_grammar.specs.CTokens.{Sort, view, is_mark}
 use Rattle.sp_parse_grammar.specs.CTable as grammar
@@ -28,13 +28,13 @@ use Rattle.sp_parse_tokens.specs.SyntaxTrees.{syntax_trees, c_table}
 use Rattle.sp_parse_tokens.specs.Depths.{c_depths, item_down, item_least}
 use Rattle.sp_parse_tokens.specs.Makers.{settle, first_place, settle_last}
 use Rattle.sp_parse_tokens.proofs.Settled.{settle_depth, settle_last_depth}
-use Rattle.sp_parse_tokens.specs.Scopes.{there, purpose_seen}
+use Rattle.sp_parse_tokens.specs.Scopes.{there, allowed_seen}
 use Rattle.sp_parse_expr_steps.specs.Reading.{IsStop, IsStep}
 use Rattle.sp_parse_tokens.specs.Expecting.{IsExpected}
 use Rattle.sp_parse_expr_steps.specs.Declaring.{declared_seen, IsLengthened, IsArrayed, IsArrayStop, StopsAtUnbracket, IsFunction, AreGiven, begins_part}
 use Rattle.sp_parse_expr_steps.proofs.Steps.{enter, got, last, finished, passed}
 use Rattle.sp_parse_expr_steps.proofs.Parts.{IsOn, chosen, stop_part, stop_mark, on_mark}
-use Rattle.sp_parse_expr_steps.proofs.Suffixes.{purposed}
+use Rattle.sp_parse_expr_steps.proofs.Suffixes.{allowing}
 use Rattle.sp_parse_expr_steps.proofs.ExpressionSteps.{first_taken}
 use Rattle.sp_parse_expr_steps.proofs.DeclaratorSteps.{declared_same}
 
@@ -92,14 +92,14 @@ module _ (g : Context) (head dd : Declared) (d n : ℕ) (text rest : List Token)
   array_deep = a.deeper ∙ (omega (arith, a.read.deep) ∙ sym (ap (λ v. declarator_depth v) a.makes))
 
 -- what might stand where the length ends
-size_purpose : Option Expression → AlsoAllowed
-size_purpose None = purposes.Name
-size_purpose (Some e) = purposes.Nothing
+size_allowed : Option Expression → AlsoAllowed
+size_allowed None = also.Name
+size_allowed (Some e) = also.Nothing
 
-size_purpose_seen : (n : Option Expression) → grammar.if_missing n ≡ purpose_seen (size_purpose n)
-unfolding size_purpose
-size_purpose_seen None = refl
-size_purpose_seen (Some e) = refl
+size_allowed_seen : (n : Option Expression) → grammar.if_missing n ≡ allowed_seen (size_allowed n)
+unfolding size_allowed
+size_allowed_seen None = refl
+size_allowed_seen (Some e) = refl
 
 module _ (types : List ℕ) (scope : Scope) (i : Item syntax_trees) (m : grammar.Declared syntax_trees → ItemAnswer i) (head : Declared) (pending : Declarator) (x : Token) (settled : declarator_of head.tree ≡ settle x.place pending) (d : ℕ) (text rest : List Token) (on : IsOn (there types scope) (there types scope) i i (λ a. a) (array_plan (there types scope) i m (declared_seen head pending) (terminal x)) text rest) where
   abbrev sized : Option Expression → TokenOf syntax_trees → Plan (c_symbols syntax_trees) (at (there types scope) i)
@@ -108,8 +108,8 @@ module _ (types : List ℕ) (scope : Scope) (i : Item syntax_trees) (m : grammar
   pub array_step : (dd : Declared) (n : ℕ) (behind : List Token) → IsArrayed (there types scope) head d rest dd n behind → IsStep (there types scope) i (grammar.declarator_suffixes (declared_seen dd (declarator_of dd.tree))) m text behind
   array_step dd n behind a =
       let g = there types scope in
-      let p = size_purpose a.size in
-      let on_size = purposed g i i (λ v. v) tokens.unbracket (sized a.size) text a.mid (grammar.if_missing a.size) (purpose_seen p) (size_purpose_seen a.size) (got on a.read.reads) in
+      let p = size_allowed a.size in
+      let on_size = allowing g i i (λ v. v) tokens.unbracket (sized a.size) text a.mid (grammar.if_missing a.size) (allowed_seen p) (size_allowed_seen a.size) (got on a.read.reads) in
       let step = last (on_mark types scope g i i (λ v. v) tokens.unbracket p (sized a.size) g text a.mid behind on_size a.closes) in
       subst (λ v. IsStep g i (grammar.declarator_suffixes v) m text behind) (sym (array_same g head dd d n rest behind a pending x settled)) step
 
@@ -119,7 +119,7 @@ module _ (types : List ℕ) (scope : Scope) (i : Item syntax_trees) (m : grammar
   array_close : (s : ReadError) → StopsAtUnbracket (there types scope) scope (d - 1) rest s → IsStop (there types scope) i d text s
   array_close s h =
       let g = there types scope in
-      stop_mark types scope g i i (λ v. v) tokens.unbracket h.purpose (sized h.size) g d text h.mid (purposed g i i (λ v. v) tokens.unbracket (sized h.size) text h.mid (grammar.if_missing h.size) (purpose_seen h.purpose) (sym h.wanted) (got on h.read.reads)) h.read.ended s h.why
+      stop_mark types scope g i i (λ v. v) tokens.unbracket h.also_allowed (sized h.size) g d text h.mid (allowing g i i (λ v. v) tokens.unbracket (sized h.size) text h.mid (grammar.if_missing h.size) (allowed_seen h.also_allowed) (sym h.wanted) (got on h.read.reads)) h.read.ended s h.why
 
   pub array_stop : item_down i grammar.array_length ≡ 1 → 1 ≤ d → (s : ReadError) → IsArrayStop (there types scope) scope d rest s → IsStop (there types scope) i d text s
   array_stop down room stops.NoMemory h = tt
@@ -171,7 +171,7 @@ function_on g h x xs is = first_taken g (grammar.declarator_suffixes h) (x ∷ x
 
 -- the parameters as the grammar has them
 abbrev pub parameters_seen : Parameters → List Param → grammar.Parameters syntax_trees
-parameters_seen ps qs = record { all = qs; dots = ps.dots; behind = purpose_seen ps.behind }
+parameters_seen ps qs = record { all = qs; dots = ps.dots; behind = allowed_seen ps.behind }
 
 module _ (head dd : Declared) (ps : Parameters) (f : IsFunction head ps dd) where
   function_tree : (pending : Declarator) (x z : Token) (qs : List Param) → declarator_of head.tree ≡ settle x.place pending → map param_of ps.all.items ≡ (if ps.dots then qs else settle_last z.place qs) → declarator_of dd.tree ≡ (grammar.function_of (declared_seen head pending) (terminal x) (parameters_seen ps qs) (terminal z)).tree

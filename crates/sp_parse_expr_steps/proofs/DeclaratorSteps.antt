@@ -115,7 +115,7 @@ behind_qualifiers g f d text mid all r stops.NoMemory h = tt
 behind_qualifiers g f d text mid all r (stops.Fault kind bad) h = record { all = all; mid = mid; qualifiers = r; why = h }
 behind_qualifiers g f d text mid all r (stops.TooDeep bad) h = record { all = all; mid = mid; qualifiers = r; why = h }
 
-fields_same : {t u : Declarator} {m n : Option ℕ} {p q : grammar.Shape} {v w : grammar.Purpose} → t ≡ u → m ≡ n → p ≡ q → v ≡ w → ◌≡◌ {A = grammar.Declared syntax_trees} (record { tree = t; declares = m; shape = p; behind = v }) (record { tree = u; declares = n; shape = q; behind = w })
+fields_same : {t u : Declarator} {m n : Option ℕ} {p q : grammar.Shape} {v w : grammar.AlsoAllowed} → t ≡ u → m ≡ n → p ≡ q → v ≡ w → ◌≡◌ {A = grammar.Declared syntax_trees} (record { tree = t; declares = m; shape = p; behind = v }) (record { tree = u; declares = n; shape = q; behind = w })
 fields_same e f h k = cc
 
 pub declared_same : (a b : grammar.Declared syntax_trees) → a.tree ≡ b.tree → a.declares ≡ b.declares → a.shape ≡ b.shape → a.behind ≡ b.behind → a ≡ b

@@ -26,10 +26,10 @@ use Rattle.sp_parse_tokens.specs.Makers.{settle, first_place, make_absent, make_
 use Rattle.sp_parse_tokens.specs.Ended.{IsEnded}
 use Rattle.sp_parse_tokens.specs.Faults.{fault_there}
 use Rattle.sp_parse_tokens.proofs.Settled.{settle_depth}
-use Rattle.sp_parse_tokens.specs.Scopes.{there, purpose_seen}
+use Rattle.sp_parse_tokens.specs.Scopes.{there, allowed_seen}
 use Rattle.sp_parse_expr_steps.specs.Reading.{kind_at, IsRead, IsStop, IsStep}
 use Rattle.sp_parse_tokens.specs.Expecting.{IsExpected, IsFaultFor}
-use Rattle.sp_parse_tokens.specs.declared.scope.AlsoAllowed.TheVariants as purposes
+use Rattle.sp_parse_tokens.specs.declared.scope.AlsoAllowed.TheVariants as also
 use Rattle.sp_parse_tokens.proofs.Viewing.{ended_other}
 use Rattle.sp_parse_expr_steps.proofs.Faulting.{stop_unread}
 use Rattle.sp_parse_expr_steps.proofs.EnumeratorSteps.{name_number, name_no_end}
@@ -162,10 +162,10 @@ absent_read g f text xs x e d dd absent is a b room ended =
     }
 
 -- a concrete declarator begins with none of these
-pub concrete_refused : (types : List ℕ) (scope : Scope) (f : grammar.Form) (d : ℕ) (text xs : List Token) (x : Token) → text ≡ x ∷ xs → is_concrete f ≡ true → is_mark tokens.opening (view types (sort_of x.kind)) ≡ false → head_name f (view types (sort_of x.kind)) ≡ None → IsEnded text → (s : ReadError) → IsFaultFor types scope purposes.Name text s → IsStop (there types scope) (grammar.direct f) d text s
+pub concrete_refused : (types : List ℕ) (scope : Scope) (f : grammar.Form) (d : ℕ) (text xs : List Token) (x : Token) → text ≡ x ∷ xs → is_concrete f ≡ true → is_mark tokens.opening (view types (sort_of x.kind)) ≡ false → head_name f (view types (sort_of x.kind)) ≡ None → IsEnded text → (s : ReadError) → IsFaultFor types scope also.Name text s → IsStop (there types scope) (grammar.direct f) d text s
 concrete_refused types scope f d text xs x e is a b ended s h =
     let g = there types scope in
-    stop_unread types scope purposes.Name (grammar.direct f) (grammar.direct f) (λ v. v) d text text xs x (begun (at g (grammar.direct f)) (c_tokens text)) e (direct_none g f (terminal x) (view types (sort_of x.kind)) is a b) (λ y. concrete_fault types scope f (view types (sort_of y.kind)) is) ended s h
+    stop_unread types scope also.Name (grammar.direct f) (grammar.direct f) (λ v. v) d text text xs x (begun (at g (grammar.direct f)) (c_tokens text)) e (direct_none g f (terminal x) (view types (sort_of x.kind)) is a b) (λ y. concrete_fault types scope f (view types (sort_of y.kind)) is) ended s h
 
 -- what stands before a token
 pub pending_of : (dd : Declared) (p : Place) → ((q : Place) → settle q (declarator_of dd.tree) ≡ declarator_of dd.tree) → IsPending dd p
@@ -209,7 +209,7 @@ absent_function types scope f y head dd ps d n k text mid rest on absent h close
     (built g i d (1 + k) text rest (grammar.function_of (grammar.absent_declarator f) (terminal y) qs (terminal closes.first)) (declared_seen dd (declarator_of dd.tree)) (finished (on_mark types scope g i i (λ a. a) tokens.closing ps.behind (absent_more g f (terminal y) qs) g text mid rest (got on h.read.reads) closes)) seen (deep ∙ ap (λ (v : grammar.Declared syntax_trees). declarator_depth v.tree) seen) (omega (arith, both, h.read.shallow, room)) closes.ended (omega (arith, h.read.fewer, less)))
 
 -- a group
-pub grouped_declarator : (types : List ℕ) (scope : Scope) (f : grammar.Form) (y : Token) (inner dd : Declared) (d n : ℕ) (text mid rest : List Token) → IsOn (there types scope) (there types scope) (grammar.behind_group f (terminal y)) (grammar.behind_group f (terminal y)) (λ a. a) (get (there types scope) (grammar.group f) (inner_closing (there types scope) f (terminal y))) text text → IsDeclared (there types scope) (grammar.group f) (λ a. a) (d - 1) text inner n mid → IsExpected types tokens.closing mid rest → (declarator_of dd.tree ≡ declarator (syntax.group (declarator_of inner.tree)) y.place) × (dd.declares ≡ inner.declares) × (dd.shape ≡ inner.shape) × (purpose_seen dd.behind ≡ grammar.closed (purpose_seen inner.behind)) → 2 ≤ d → IsDeclared (there types scope) (grammar.behind_group f (terminal y)) (λ a. a) d text dd (1 + n) rest
+pub grouped_declarator : (types : List ℕ) (scope : Scope) (f : grammar.Form) (y : Token) (inner dd : Declared) (d n : ℕ) (text mid rest : List Token) → IsOn (there types scope) (there types scope) (grammar.behind_group f (terminal y)) (grammar.behind_group f (terminal y)) (λ a. a) (get (there types scope) (grammar.group f) (inner_closing (there types scope) f (terminal y))) text text → IsDeclared (there types scope) (grammar.group f) (λ a. a) (d - 1) text inner n mid → IsExpected types tokens.closing mid rest → (declarator_of dd.tree ≡ declarator (syntax.group (declarator_of inner.tree)) y.place) × (dd.declares ≡ inner.declares) × (dd.shape ≡ inner.shape) × (allowed_seen dd.behind ≡ grammar.closed (allowed_seen inner.behind)) → 2 ≤ d → IsDeclared (there types scope) (grammar.behind_group f (terminal y)) (λ a. a) d text dd (1 + n) rest
 grouped_declarator types scope f y inner dd d n text mid rest on h closes made room =
     let g = there types scope in
     let i = grammar.behind_group f (terminal y) in

@@ -24,7 +24,7 @@ use Rattle.sp_parse_tokens.specs.SyntaxTrees.{syntax_trees}
 use Rattle.sp_parse_tokens.specs.Makers.{SpecifierAt, all_items, all_specifiers, make_declaration, first_place}
 use Rattle.sp_parse_tokens.specs.Ended.{IsEnded}
 use Rattle.sp_parse_tokens.proofs.Settled.{items_both}
-use Rattle.sp_parse_tokens.specs.Scopes.{there, purpose_seen}
+use Rattle.sp_parse_tokens.specs.Scopes.{there, allowed_seen}
 use Rattle.sp_parse_expr_steps.specs.Reading.{IsRead, IsStep}
 use Rattle.sp_parse_tokens.specs.Expecting.{IsExpected}
 use Rattle.sp_parse_expr_steps.specs.Declaring.{declared_seen, item_seen, AreItems, AreSpecified, ItemsSoFar}
@@ -40,12 +40,12 @@ abbrev pub first_items : Declared → grammar.Items syntax_trees
 first_items d = one_item (declared_seen d (declarator_of d.tree)) None
 
 abbrev pub items_seen : List CodeItem → List ℕ → AlsoAllowed → grammar.Items syntax_trees
-items_seen items names p = record { all = map item_seen items; names = names; behind = purpose_seen p }
+items_seen items names p = record { all = map item_seen items; names = names; behind = allowed_seen p }
 
-items_same : {xs ys : List InitDeclarator} {m n : List ℕ} {p q : grammar.Purpose} → xs ≡ ys → m ≡ n → p ≡ q → ◌≡◌ {A = grammar.Items syntax_trees} (record { all = xs; names = m; behind = p }) (record { all = ys; names = n; behind = q })
+items_same : {xs ys : List InitDeclarator} {m n : List ℕ} {p q : grammar.AlsoAllowed} → xs ≡ ys → m ≡ n → p ≡ q → ◌≡◌ {A = grammar.Items syntax_trees} (record { all = xs; names = m; behind = p }) (record { all = ys; names = n; behind = q })
 items_same e f h = cc
 
-pub first_item : (g : Context) (d : Declared) (text : List Token) (items : List CodeItem) (i : CodeItem) (p : AlsoAllowed) → items ≡ i ∷ [] → item_seen i ≡ syntax.init_declarator (declarator_of d.tree) syntax.no_init → purpose_seen p ≡ grammar.closed (purpose_seen d.behind) → ItemsSoFar g d text items p text
+pub first_item : (g : Context) (d : Declared) (text : List Token) (items : List CodeItem) (i : CodeItem) (p : AlsoAllowed) → items ≡ i ∷ [] → item_seen i ≡ syntax.init_declarator (declarator_of d.tree) syntax.no_init → allowed_seen p ≡ grammar.closed (allowed_seen d.behind) → ItemsSoFar g d text items p text
 first_item g d text items i p all one behind =
     let names = (first_items d).names in
     let same : items_seen items names p ≡ first_items d = items_same (ap (λ v. map item_seen v) all ∙ ap (λ v. v ∷ []) one) refl behind in
@@ -68,10 +68,10 @@ module _ (g : Context) (first : Declared) (text rest xs : List Token) (x : Token
   pub items_end : (d n : ℕ) (is : MemberDeclarators) → is_mark tokens.comma (view g.types (sort_of x.kind)) ≡ false → is.all.items ≡ items → is.behind ≡ behind → n ≡ items_depth (all_items (map item_seen items)) → n ≤ d → IsEnded rest → length rest ≤ length text → AreItems g first d text is n rest
   items_end d n is other all back deep shallow ended fewer = record {
     names = t.names;
-    read = built g (grammar.member_items (first_items first)) d n text rest (items_seen items t.names behind) (items_seen is.all.items t.names is.behind) (choice_ends g (grammar.member_items (first_items first)) (grammar.member_items (items_seen items t.names behind)) (λ a. a) text rest xs x t.step e (is_mark tokens.comma (view g.types (sort_of x.kind))) (items_seen items t.names behind) (next (λ y. get g (grammar.declarator grammar.concrete) items_more)) refl other) (items_same (ap (λ v. map item_seen v) all) refl (ap purpose_seen back)) deep shallow ended (omega (arith, fewer));
+    read = built g (grammar.member_items (first_items first)) d n text rest (items_seen items t.names behind) (items_seen is.all.items t.names is.behind) (choice_ends g (grammar.member_items (first_items first)) (grammar.member_items (items_seen items t.names behind)) (λ a. a) text rest xs x t.step e (is_mark tokens.comma (view g.types (sort_of x.kind))) (items_seen items t.names behind) (next (λ y. get g (grammar.declarator grammar.concrete) items_more)) refl other) (items_same (ap (λ v. map item_seen v) all) refl (ap allowed_seen back)) deep shallow ended (omega (arith, fewer));
   }
 
-  pub next_item : (d n : ℕ) (later : List Token) (next_one : Declared) (now : List CodeItem) (i : CodeItem) (back : AlsoAllowed) → is_mark tokens.comma (view g.types (sort_of x.kind)) ≡ true → IsRead g (grammar.declarator grammar.concrete) d xs (declared_seen next_one (declarator_of next_one.tree)) n later → now ≡ items ++ i ∷ [] → item_seen i ≡ syntax.init_declarator (declarator_of next_one.tree) syntax.no_init → purpose_seen back ≡ grammar.closed (purpose_seen next_one.behind) → ItemsSoFar g first text now back later
+  pub next_item : (d n : ℕ) (later : List Token) (next_one : Declared) (now : List CodeItem) (i : CodeItem) (back : AlsoAllowed) → is_mark tokens.comma (view g.types (sort_of x.kind)) ≡ true → IsRead g (grammar.declarator grammar.concrete) d xs (declared_seen next_one (declarator_of next_one.tree)) n later → now ≡ items ++ i ∷ [] → item_seen i ≡ syntax.init_declarator (declarator_of next_one.tree) syntax.no_init → allowed_seen back ≡ grammar.closed (allowed_seen next_one.behind) → ItemsSoFar g first text now back later
   next_item d n later next_one now i back stands read same one closed =
       let both = both_items (items_seen items t.names behind) (first_items next_one) in
       let seen : items_seen now both.names back ≡ both = items_same (ap (λ v. map item_seen v) same ∙ map_more item_seen items i ∙ ap (λ v. map item_seen items ++ v ∷ []) one) refl closed in

@@ -9,7 +9,7 @@ use Rattle.sp_parse_trees.specs.View.{param_of, params}
 use Rattle.sp_parse_trees.specs.Depth.{param_depth, params_depth}
 use Rattle.sp_parse_tokens.specs.declared.part.Parameters.{Parameters}
 use Rattle.sp_parse_tokens.specs.declared.scope.AlsoAllowed.{AlsoAllowed}
-use Rattle.sp_parse_tokens.specs.declared.scope.AlsoAllowed.TheVariants as purposes
+use Rattle.sp_parse_tokens.specs.declared.scope.AlsoAllowed.TheVariants as also
 use Rattle.sp_parse_grammar.specs.CTokens as tokens
 use Rattle.sp_parse_grammar.specs.CTokens.{view, is_mark}
 use Rattle.sp_parse_grammar.specs.CTable as grammar
@@ -20,7 +20,7 @@ use Rattle.sp_parse_tokens.specs.SyntaxTrees.{syntax_trees}
 use Rattle.sp_parse_tokens.specs.Makers.{settle_param, settle_last, first_place}
 use Rattle.sp_parse_tokens.specs.Ended.{IsEnded}
 use Rattle.sp_parse_tokens.proofs.Settled.{settle_param_depth, settle_last_depth, params_snoc}
-use Rattle.sp_parse_tokens.specs.Scopes.{purpose_seen}
+use Rattle.sp_parse_tokens.specs.Scopes.{allowed_seen}
 use Rattle.sp_parse_expr_steps.specs.Reading.{IsStep}
 use Rattle.sp_parse_expr_steps.specs.Declaring.{IsGiven, AreGiven, ParametersSoFar}
 use Rattle.sp_parse_expr_steps.proofs.Steps.{enter, took_token, got, last, finished}
@@ -43,7 +43,7 @@ ended_ellipsis types x xs stands ended = ended_other x xs ended (λ same. no_dot
     no_dots e = cc
 
 abbrev pub given_list : List Param → AlsoAllowed → grammar.Parameters syntax_trees
-given_list ps p = record { all = ps; dots = false; behind = purpose_seen p }
+given_list ps p = record { all = ps; dots = false; behind = allowed_seen p }
 
 abbrev pub first_more : (g : Context) (p : grammar.Given syntax_trees) → Plan (c_symbols syntax_trees) (at g grammar.parameters)
 first_more g p = get g (grammar.more_parameters (record { all = p.tree ∷ []; dots = false; behind = p.behind })) (λ ps. done ps)
@@ -52,14 +52,14 @@ module _ (g : Context) (text xs : List Token) (x : Token) (e : text ≡ x ∷ xs
   pub parameters_on : begins_specifiers true g.inside (view g.types (sort_of x.kind)) ≡ true → IsOn g g grammar.parameters grammar.parameters (λ a. a) (get g grammar.parameter (first_more g)) text text
   parameters_on stands = first_same g grammar.parameters text xs x (view g.types (sort_of x.kind)) e refl (get g grammar.parameter (first_more g)) (ap (λ b. if b then Some (get g grammar.parameter (first_more g)) else Some (done grammar.without_parameters)) stands)
 
-  pub no_parameters : (d : ℕ) (ps : Parameters) → begins_specifiers true g.inside (view g.types (sort_of x.kind)) ≡ false → IsEnded text → ps.all.items ≡ [] → ps.dots ≡ false → ps.behind ≡ purposes.Parameter → AreGiven g d text ps 0 text
+  pub no_parameters : (d : ℕ) (ps : Parameters) → begins_specifiers true g.inside (view g.types (sort_of x.kind)) ≡ false → IsEnded text → ps.all.items ≡ [] → ps.dots ≡ false → ps.behind ≡ also.Parameter → AreGiven g d text ps 0 text
   no_parameters d ps other ended none plain behind =
       let given : (items : List CodeParam) (b : Bool) → items ≡ [] → b ≡ false → map param_of items ≡ (if b then [] else settle_last (first_place text) []) = λ items b i j. ap (λ v. map param_of v) i ∙ ap (λ v. if v then [] else settle_last (first_place text) []) (sym j) in
-      let same : ◌≡◌ {A = grammar.Parameters syntax_trees} (record { all = []; dots = ps.dots; behind = purpose_seen ps.behind }) grammar.without_parameters = ap (λ v. record { all = []; dots = v; behind = purpose_seen ps.behind }) plain ∙ ap (λ v. record { all = []; dots = false; behind = purpose_seen v }) behind in
+      let same : ◌≡◌ {A = grammar.Parameters syntax_trees} (record { all = []; dots = ps.dots; behind = allowed_seen ps.behind }) grammar.without_parameters = ap (λ v. record { all = []; dots = v; behind = allowed_seen ps.behind }) plain ∙ ap (λ v. record { all = []; dots = false; behind = allowed_seen v }) behind in
       record {
         pending = [];
         settled = given ps.all.items ps.dots none plain;
-        read = built g grammar.parameters d 0 text text grammar.without_parameters (record { all = []; dots = ps.dots; behind = purpose_seen ps.behind }) (finished (first_same g grammar.parameters text xs x (view g.types (sort_of x.kind)) e refl (done grammar.without_parameters) (ap (λ b. if b then Some (get g grammar.parameter (first_more g)) else Some (done grammar.without_parameters)) other))) same refl (omega arith) ended (omega arith);
+        read = built g grammar.parameters d 0 text text grammar.without_parameters (record { all = []; dots = ps.dots; behind = allowed_seen ps.behind }) (finished (first_same g grammar.parameters text xs x (view g.types (sort_of x.kind)) e refl (done grammar.without_parameters) (ap (λ b. if b then Some (get g grammar.parameter (first_more g)) else Some (done grammar.without_parameters)) other))) same refl (omega arith) ended (omega arith);
       }
 
 -- the first of the parameters
@@ -95,12 +95,12 @@ module _ (g : Context) (text rest more : List Token) (comma : Token) (items : Li
   pub parameters_end : (d n : ℕ) (ps : Parameters) → is_mark tokens.comma (view g.types (sort_of comma.kind)) ≡ false → ps.all.items ≡ items → ps.dots ≡ false → ps.behind ≡ behind → n ≡ params_depth (params (map param_of items)) → n ≤ d → IsEnded rest → length rest ≤ length text → AreGiven g d text ps n rest
   parameters_end d n ps other all plain back deep shallow ended fewer =
       let given : (b : Bool) → b ≡ false → map param_of ps.all.items ≡ (if b then t.pending else settle_last (first_place rest) t.pending) = λ b j. ap (λ v. map param_of v) all ∙ t.settled ∙ ap (λ v. if v then t.pending else settle_last (first_place rest) t.pending) (sym j) in
-      let same : ◌≡◌ {A = grammar.Parameters syntax_trees} (record { all = t.pending; dots = ps.dots; behind = purpose_seen ps.behind }) (given_list t.pending behind) = ap (λ v. record { all = t.pending; dots = v; behind = purpose_seen ps.behind }) plain ∙ ap (λ v. record { all = t.pending; dots = false; behind = purpose_seen v }) back in
+      let same : ◌≡◌ {A = grammar.Parameters syntax_trees} (record { all = t.pending; dots = ps.dots; behind = allowed_seen ps.behind }) (given_list t.pending behind) = ap (λ v. record { all = t.pending; dots = v; behind = allowed_seen ps.behind }) plain ∙ ap (λ v. record { all = t.pending; dots = false; behind = allowed_seen v }) back in
       let pending_deep : n ≡ params_depth (params t.pending) = deep ∙ ap (λ v. params_depth (params v)) t.settled ∙ settle_last_depth (first_place rest) t.pending in
       record {
         pending = t.pending;
         settled = given ps.dots plain;
-        read = built g grammar.parameters d n text rest (given_list t.pending behind) (record { all = t.pending; dots = ps.dots; behind = purpose_seen ps.behind }) (choice_ends g grammar.parameters (grammar.more_parameters (given_list t.pending behind)) (λ a. a) text rest more comma t.step e (is_mark tokens.comma (view g.types (sort_of comma.kind))) (given_list t.pending behind) (next (λ y. get g (grammar.behind_comma (terminal comma) (given_list t.pending behind)) (λ qs. done qs))) refl other) same pending_deep shallow ended (omega (arith, fewer));
+        read = built g grammar.parameters d n text rest (given_list t.pending behind) (record { all = t.pending; dots = ps.dots; behind = allowed_seen ps.behind }) (choice_ends g grammar.parameters (grammar.more_parameters (given_list t.pending behind)) (λ a. a) text rest more comma t.step e (is_mark tokens.comma (view g.types (sort_of comma.kind))) (given_list t.pending behind) (next (λ y. get g (grammar.behind_comma (terminal comma) (given_list t.pending behind)) (λ qs. done qs))) refl other) same pending_deep shallow ended (omega (arith, fewer));
       }
 
   abbrev pub comma_more : grammar.Given syntax_trees → Plan (c_symbols syntax_trees) (at g (grammar.behind_comma (terminal comma) (given_list t.pending behind)))
@@ -110,19 +110,19 @@ module _ (g : Context) (text rest more : List Token) (comma : Token) (items : Li
     pub parameter_next : is_mark tokens.ellipsis (view g.types (sort_of x.kind)) ≡ false → IsOn g g grammar.parameters (grammar.behind_comma (terminal comma) (given_list t.pending behind)) (λ a. a) (get g grammar.parameter comma_more) text more
     parameter_next other = enter (comma_step stands) (ap c_tokens is) (chosen g (grammar.behind_comma (terminal comma) (given_list t.pending behind)) x (view g.types (sort_of x.kind)) (Some (get g grammar.parameter comma_more)) refl (ap (λ b. if b then Some (next (λ y. done (grammar.with_dots (given_list t.pending behind) (terminal comma)))) else Some (get g grammar.parameter comma_more)) other))
 
-    pub dots_end : (d n : ℕ) (ps : Parameters) → is_mark tokens.ellipsis (view g.types (sort_of x.kind)) ≡ true → ps.all.items ≡ items → ps.dots ≡ true → ps.behind ≡ purposes.Nothing → n ≡ params_depth (params (map param_of items)) → n ≤ d → IsEnded xs → length rest ≤ length text → AreGiven g d text ps n xs
+    pub dots_end : (d n : ℕ) (ps : Parameters) → is_mark tokens.ellipsis (view g.types (sort_of x.kind)) ≡ true → ps.all.items ≡ items → ps.dots ≡ true → ps.behind ≡ also.Nothing → n ≡ params_depth (params (map param_of items)) → n ≤ d → IsEnded xs → length rest ≤ length text → AreGiven g d text ps n xs
     dots_end d n ps dots all some back deep shallow ended fewer =
         let pending = settle_last comma.place t.pending in
         let ends = grammar.with_dots (given_list t.pending behind) (terminal comma) in
         let on = enter (comma_step stands) (ap c_tokens is) (chosen g (grammar.behind_comma (terminal comma) (given_list t.pending behind)) x (view g.types (sort_of x.kind)) (Some (next (λ y. done ends))) refl (ap (λ b. if b then Some (next (λ y. done ends)) else Some (get g grammar.parameter comma_more)) dots)) in
         let given : (b : Bool) → b ≡ true → map param_of ps.all.items ≡ (if b then pending else settle_last (first_place xs) pending) = λ b j. ap (λ v. map param_of v) all ∙ before_comma ∙ ap (λ v. if v then pending else settle_last (first_place xs) pending) (sym j) in
-        let same : ◌≡◌ {A = grammar.Parameters syntax_trees} (record { all = pending; dots = ps.dots; behind = purpose_seen ps.behind }) ends = ap (λ v. record { all = pending; dots = v; behind = purpose_seen ps.behind }) some ∙ ap (λ v. record { all = pending; dots = true; behind = purpose_seen v }) back in
+        let same : ◌≡◌ {A = grammar.Parameters syntax_trees} (record { all = pending; dots = ps.dots; behind = allowed_seen ps.behind }) ends = ap (λ v. record { all = pending; dots = v; behind = allowed_seen ps.behind }) some ∙ ap (λ v. record { all = pending; dots = true; behind = allowed_seen v }) back in
         let less : length rest ≡ length (comma ∷ more) = ap length e in
         let fewer_still : length more ≡ length (x ∷ xs) = ap length is in
         record {
           pending = pending;
           settled = given ps.dots some;
-          read = built g grammar.parameters d n text xs ends (record { all = pending; dots = ps.dots; behind = purpose_seen ps.behind }) (finished (took_token on (ap c_tokens is) refl)) same (deep ∙ ap (λ v. params_depth (params v)) before_comma) shallow ended (omega (arith, fewer, less, fewer_still));
+          read = built g grammar.parameters d n text xs ends (record { all = pending; dots = ps.dots; behind = allowed_seen ps.behind }) (finished (took_token on (ap c_tokens is) refl)) same (deep ∙ ap (λ v. params_depth (params v)) before_comma) shallow ended (omega (arith, fewer, less, fewer_still));
         }
 
     pub next_given : (d n : ℕ) (later : List Token) (p : CodeParam) (now : List CodeParam) (back : AlsoAllowed) → is_mark tokens.ellipsis (view g.types (sort_of x.kind)) ≡ false → IsGiven g d more p back n later → now ≡ items ++ p ∷ [] → ParametersSoFar g text now back later

@@ -11,7 +11,7 @@ use Rattle.sp_parse_tokens.specs.declared.part.Part.{Part}
 use Rattle.sp_parse_tokens.specs.declared.part.ReadError.{ReadError}
 use Rattle.sp_parse_tokens.specs.declared.part.ReadError.TheVariants as stops
 use Rattle.sp_parse_tokens.specs.declared.scope.Scope.{Scope}
-use Rattle.sp_parse_tokens.specs.declared.scope.AlsoAllowed.TheVariants as purposes
+use Rattle.sp_parse_tokens.specs.declared.scope.AlsoAllowed.TheVariants as also
 use Rattle.sp_parse_grammar.specs.CTokens as tokens
 use Rattle.sp_parse_grammar.specs.CTokens.{view, is_mark, is_specifier}
 use Rattle.sp_parse_grammar.specs.CTable as grammar
@@ -151,11 +151,11 @@ grouped_plan g i m y = get g (grammar.level 13) (grouped_closing g i m y)
 
 module _ (types : List ℕ) (scope : Scope) (i : Item syntax_trees) (m : Expression → ItemAnswer i) (y : Token) (d e : ℕ) (text rest : List Token) (on : IsOn (there types scope) (there types scope) i i (λ a. a) (grouped_plan (there types scope) i m (terminal y)) text rest) where
   grouped_on : (o : grammar.Operand syntax_trees) (mid now : List Token) → Reads c_table (at (there types scope) (grammar.level 13)) (ask (at (there types scope) (grammar.level 13))) (c_tokens rest) o (c_tokens mid) → IsExpected types tokens.closing mid now → IsOn (there types scope) (there types scope) i i (λ a. a) (get (there types scope) (grammar.suffixes (syntax_trees.paren (terminal y) o.tree)) (λ f. done (m f))) text now
-  grouped_on o mid now one closes = on_mark types scope (there types scope) i i (λ a. a) tokens.closing purposes.Nothing (grouped_suffixes (there types scope) i m (terminal y) o.tree) (there types scope) text mid now (got on one) closes
+  grouped_on o mid now one closes = on_mark types scope (there types scope) i i (λ a. a) tokens.closing also.Nothing (grouped_suffixes (there types scope) i m (terminal y) o.tree) (there types scope) text mid now (got on one) closes
 
   grouped_inside : d ≤ item_down i (grammar.level 13) + (e - 1) → ((v : Expression) → d ≤ item_down i (grammar.suffixes v) + e) → (s : ReadError) → (IsStop (there types scope) (grammar.level 13) (e - 1) rest s ⊎ (StopsAtParen (there types scope) scope rest s ⊎ StopsBehindParen (there types scope) y e rest s)) → IsStop (there types scope) i d text s
   grouped_inside first_down more_down s (inl h) = stop_part (there types scope) (there types scope) (there types scope) i i (grammar.level 13) (λ a. a) (grouped_closing (there types scope) i m (terminal y)) d (e - 1) text rest on first_down s h
-  grouped_inside first_down more_down s (inr (inl h)) = stop_mark types scope (there types scope) i i (λ a. a) tokens.closing purposes.Nothing (grouped_suffixes (there types scope) i m (terminal y) h.inner.tree) (there types scope) d text h.mid (got on h.one) h.ended s h.why
+  grouped_inside first_down more_down s (inr (inl h)) = stop_mark types scope (there types scope) i i (λ a. a) tokens.closing also.Nothing (grouped_suffixes (there types scope) i m (terminal y) h.inner.tree) (there types scope) d text h.mid (got on h.one) h.ended s h.why
   grouped_inside first_down more_down s (inr (inr h)) = stop_part (there types scope) (there types scope) (there types scope) i i (grammar.suffixes (syntax_trees.paren (terminal y) h.inner.tree)) (λ a. a) (λ f. done (m f)) d e text h.behind (grouped_on h.inner h.mid h.behind h.one h.closes) (more_down (syntax_trees.paren (terminal y) h.inner.tree)) s h.why
 
   pub grouped_stop : d ≤ item_down i (grammar.level 13) + (e - 1) → ((v : Expression) → d ≤ item_down i (grammar.suffixes v) + e) → (s : ReadError) → IsGroupedStop (there types scope) scope y e rest s → IsStop (there types scope) i d text s
@@ -172,14 +172,14 @@ module _ (types : List ℕ) (scope : Scope) (d : ℕ) (text rest : List Token) (
   group_primary = primary_on (there types scope) text rest x e (ap (λ s. is_prefix s) (sym is))
 
   group_paren : (o : grammar.Operand syntax_trees) (mid now : List Token) → Reads c_table (at (there types scope) (grammar.level 13)) (ask (at (there types scope) (grammar.level 13))) (c_tokens rest) o (c_tokens mid) → IsExpected types tokens.closing mid now → IsOn (there types scope) (there types scope) grammar.unary grammar.unary (λ a. a) (get (there types scope) (grammar.suffixes (syntax_trees.paren (terminal x) o.tree)) (λ f. done f)) text now
-  group_paren o mid now one closes = got group_primary (finished (on_mark types scope (there types scope) grammar.primary grammar.primary (λ a. a) tokens.closing purposes.Nothing (λ z. done (syntax_trees.paren (terminal x) o.tree)) (there types scope) text mid now (got (paren_on (there types scope) text rest x e is) one) closes))
+  group_paren o mid now one closes = got group_primary (finished (on_mark types scope (there types scope) grammar.primary grammar.primary (λ a. a) tokens.closing also.Nothing (λ z. done (syntax_trees.paren (terminal x) o.tree)) (there types scope) text mid now (got (paren_on (there types scope) text rest x e is) one) closes))
 
   primary_stop : (s : ReadError) → IsStop (there types scope) grammar.primary d text s → IsStop (there types scope) grammar.unary d text s
   primary_stop s h = stop_part (there types scope) (there types scope) (there types scope) grammar.unary grammar.unary grammar.primary (λ a. a) (λ v. get (there types scope) (grammar.suffixes v) (λ f. done f)) d d text text group_primary (omega arith) s h
 
   group_inside : (s : ReadError) → (IsStop (there types scope) (grammar.level 13) (d - 1) rest s ⊎ (StopsAtParen (there types scope) scope rest s ⊎ StopsBehindParen (there types scope) x d rest s)) → IsStop (there types scope) grammar.unary d text s
   group_inside s (inl h) = primary_stop s (stop_part (there types scope) (there types scope) (there types scope) grammar.primary grammar.primary (grammar.level 13) (λ a. a) (paren_closing (there types scope) (terminal x)) d (d - 1) text rest (paren_on (there types scope) text rest x e is) (omega arith) s h)
-  group_inside s (inr (inl h)) = primary_stop s (stop_mark types scope (there types scope) grammar.primary grammar.primary (λ a. a) tokens.closing purposes.Nothing (λ z. done (syntax_trees.paren (terminal x) h.inner.tree)) (there types scope) d text h.mid (got (paren_on (there types scope) text rest x e is) h.one) h.ended s h.why)
+  group_inside s (inr (inl h)) = primary_stop s (stop_mark types scope (there types scope) grammar.primary grammar.primary (λ a. a) tokens.closing also.Nothing (λ z. done (syntax_trees.paren (terminal x) h.inner.tree)) (there types scope) d text h.mid (got (paren_on (there types scope) text rest x e is) h.one) h.ended s h.why)
   group_inside s (inr (inr h)) = stop_part (there types scope) (there types scope) (there types scope) grammar.unary grammar.unary (grammar.suffixes (syntax_trees.paren (terminal x) h.inner.tree)) (λ a. a) (λ f. done f) d d text h.behind (group_paren h.inner h.mid h.behind h.one h.closes) (omega arith) s h.why
 
   pub unary_grouped : (r : Result (Part Expr) ReadError)

@@ -5,7 +5,7 @@ use Rattle.sp_tree.specs.declared.fault.FaultKind.{FaultKind}
 use Rattle.sp_tree.specs.declared.token.Token.{Token}
 use Rattle.sp_parse_tokens.specs.declared.scope.Scope.{Scope}
 use Rattle.sp_parse_tokens.specs.declared.scope.AlsoAllowed.{AlsoAllowed}
-use Rattle.sp_parse_tokens.specs.declared.scope.AlsoAllowed.TheVariants as purposes
+use Rattle.sp_parse_tokens.specs.declared.scope.AlsoAllowed.TheVariants as also
 use Rattle.sp_parse_tokens.specs.declared.part.ReadError.{ReadError}
 use Rattle.sp_parse_tokens.specs.declared.part.ReadError.TheVariants as stops
 use Rattle.sp_parse_grammar.specs.CTokens.{Sort, Mark, view}
@@ -19,7 +19,7 @@ use Rattle.sp_parse_tokens.specs.Depths.{c_depths, item_down}
 use Rattle.sp_parse_tokens.specs.Faults.{fault_there}
 use Rattle.sp_parse_tokens.specs.Ended.{IsEnded}
 use Rattle.sp_parse_expr_steps.specs.States.{Inside}
-use Rattle.sp_parse_tokens.specs.Scopes.{there, purpose_seen, kind_for}
+use Rattle.sp_parse_tokens.specs.Scopes.{there, allowed_seen, kind_for}
 use Rattle.sp_parse_expr_steps.specs.Reading.{kind_at, IsStop, IsStep}
 use Rattle.sp_parse_tokens.specs.Expecting.{IsExpected, IsUnexpected, kind_of_first}
 use Rattle.sp_parse_expr_steps.proofs.Steps.{took_token, refused, part_fails, part_nests}
@@ -49,28 +49,28 @@ module _ (g h k : Context) (i j r : Item syntax_trees) (f : ItemAnswer j → Ite
 
 -- ---- marks
 
-kind_mark : (types : List ℕ) (scope : Scope) (p : AlsoAllowed) (m : Mark) (s : Sort) → kind_for scope p s ≡ fault_there (wanted (grammar.only (there types scope) (purpose_seen p) m)) s
-kind_mark types scope purposes.Nothing m s = refl
-kind_mark types scope purposes.Name m s = refl
-kind_mark types scope purposes.Parameter m s = refl
-kind_mark types scope purposes.TypeSpecifier m s = refl
-kind_mark types scope purposes.Body m s = refl
+kind_mark : (types : List ℕ) (scope : Scope) (p : AlsoAllowed) (m : Mark) (s : Sort) → kind_for scope p s ≡ fault_there (wanted (grammar.only (there types scope) (allowed_seen p) m)) s
+kind_mark types scope also.Nothing m s = refl
+kind_mark types scope also.Name m s = refl
+kind_mark types scope also.Parameter m s = refl
+kind_mark types scope also.TypeSpecifier m s = refl
+kind_mark types scope also.Body m s = refl
 
-kind_first : (types : List ℕ) (scope : Scope) (p : AlsoAllowed) (m : Mark) (text : List Token) (kind : FaultKind) → kind_of_first types scope p text kind → kind ≡ kind_at (wanted (grammar.only (there types scope) (purpose_seen p) m)) text
+kind_first : (types : List ℕ) (scope : Scope) (p : AlsoAllowed) (m : Mark) (text : List Token) (kind : FaultKind) → kind_of_first types scope p text kind → kind ≡ kind_at (wanted (grammar.only (there types scope) (allowed_seen p) m)) text
 kind_first types scope p m [] kind e = absurd e
 kind_first types scope p m (x ∷ xs) kind e = e ∙ kind_mark types scope p m (view types (sort_of x.kind))
 
 module _ (types : List ℕ) (scope : Scope) (h : Context) (i j : Item syntax_trees) (f : ItemAnswer j → ItemAnswer i) (m : Mark) (p : AlsoAllowed) (k : TokenOf syntax_trees → Plan (c_symbols syntax_trees) (at h j)) where
   -- the mark isn't there
-  pub stop_mark : (g : Context) (d : ℕ) (text rest : List Token) → IsOn g h i j f (take (grammar.only (there types scope) (purpose_seen p) m) k) text rest → IsEnded rest → (s : ReadError) → IsUnexpected types scope m p rest s → IsStop g i d text s
+  pub stop_mark : (g : Context) (d : ℕ) (text rest : List Token) → IsOn g h i j f (take (grammar.only (there types scope) (allowed_seen p) m) k) text rest → IsEnded rest → (s : ReadError) → IsUnexpected types scope m p rest s → IsStop g i d text s
   stop_mark g d text rest on ended (stops.Fault kind bad) u =
       let same : bad.now ≡ rest = u.fault.0 in
-      let w = wanted (grammar.only (there types scope) (purpose_seen p) m) in
+      let w = wanted (grammar.only (there types scope) (allowed_seen p) m) in
       let fails = refused on (ap c_tokens u.whole) u.missing in
       (w, subst (λ v. Fails c_table (at g i) (ask (at g i)) (c_tokens text) w (c_tokens v)) (sym same) fails, kind_first types scope p m rest kind u.fault.1 ∙ ap (kind_at w) (sym same), subst IsEnded (sym same) ended)
   stop_mark g d text rest on ended (stops.TooDeep bad) u = absurd u.fault
   stop_mark g d text rest on ended stops.NoMemory u = absurd u.fault
 
   -- the mark is there
-  pub on_mark : (g : Context) (text rest now : List Token) → IsOn g h i j f (take (grammar.only (there types scope) (purpose_seen p) m) k) text rest → (e : IsExpected types m rest now) → IsOn g h i j f (k (terminal e.first)) text now
+  pub on_mark : (g : Context) (text rest now : List Token) → IsOn g h i j f (take (grammar.only (there types scope) (allowed_seen p) m) k) text rest → (e : IsExpected types m rest now) → IsOn g h i j f (k (terminal e.first)) text now
   on_mark g text rest now on e = took_token on (ap c_tokens e.whole) e.stands

@@ -21,7 +21,7 @@ use Rattle.sp_parse_tokens.specs.declared.part.Part.{Part}
 use Rattle.sp_parse_tokens.specs.declared.part.ReadError.{ReadError}
 use Rattle.sp_parse_tokens.specs.declared.part.ReadError.TheVariants as stops
 use Rattle.sp_parse_tokens.specs.declared.scope.Scope.{Scope}
-use Rattle.sp_parse_tokens.specs.declared.scope.AlsoAllowed.TheVariants as purposes
+use Rattle.sp_parse_tokens.specs.declared.scope.AlsoAllowed.TheVariants as also
 use Rattle.sp_parse_grammar.specs.CTokens as tokens
 use Rattle.sp_parse_grammar.specs.CTokens.{view, is_mark}
 use Rattle.sp_parse_grammar.specs.CTable as grammar
@@ -65,7 +65,7 @@ module _ (types : List ℕ) (scope : Scope) (i : Item syntax_trees) (m : List De
   body_inside : (s : ReadError) → (IsStop (in_structure (there types scope)) grammar.member (d - 1) rest s ⊎ (StopsInBody (there types scope) (inner scope) (d - 1) rest s ⊎ StopsAtBrace (there types scope) (inner scope) rest s)) → IsStop (there types scope) i d text s
   body_inside s (inl h) = stop_part (there types scope) (there types scope) (in_structure (there types scope)) i i grammar.member (λ a. a) (body_more (there types scope) i m) d (d - 1) text rest on (omega (arith, first_down, room)) s h
   body_inside s (inr (inl h)) = stop_part (there types scope) (there types scope) (in_structure (there types scope)) i i (grammar.members (h.first ∷ [])) (λ a. a) (body_closing (there types scope) i m) d (d - 1) text h.mid (got on h.one) (omega (arith, more_down (h.first ∷ []), room)) s h.why
-  body_inside s (inr (inr h)) = stop_mark types (inner scope) (there types scope) i i (λ a. a) tokens.unbrace purposes.TypeSpecifier (body_done (there types scope) i m h.all) (there types scope) d text h.last (got (got on h.one) h.more) h.ended s h.why
+  body_inside s (inr (inr h)) = stop_mark types (inner scope) (there types scope) i i (λ a. a) tokens.unbrace also.TypeSpecifier (body_done (there types scope) i m h.all) (there types scope) d text h.last (got (got on h.one) h.more) h.ended s h.why
 
   pub body_stop : (s : ReadError) → IsBodyStop (there types scope) (inner scope) d rest s → IsStop (there types scope) i d text s
   body_stop stops.NoMemory h = tt
@@ -77,7 +77,7 @@ module _ (types : List ℕ) (scope : Scope) (i : Item syntax_trees) (m : List De
       → MatchResult r (λ part. IsRead (there types scope) i d text (v part.tree) part.depth part.rest.now) (IsStop (there types scope) i d text)
   body_result word tag v makes deep less (Ok part) b =
       let g = there types scope in
-      let closes = on_mark types (inner scope) g i i (λ a. a) tokens.unbrace purposes.TypeSpecifier (body_done g i m b.all) g text b.last part.rest.now (got (got on b.one) b.more) b.closes in
+      let closes = on_mark types (inner scope) g i i (λ a. a) tokens.unbrace also.TypeSpecifier (body_done g i m b.all) g text b.last part.rest.now (got (got on b.one) b.more) b.closes in
       built g i d part.depth text part.rest.now (m b.all) (v part.tree) (finished closes) (makes part.tree b.all b.makes) (b.deeper ∙ sym (deep b.all)) b.shallow b.closes.ended (omega (arith, b.fewer, less))
   body_result word tag v makes deep less (Err s) b = body_stop s b
 
@@ -118,7 +118,7 @@ module _ (types : List ℕ) (scope : Scope) (i : Item syntax_trees) (m : List En
   constants_inside : (s : ReadError) → (IsStop (there types scope) grammar.enumerator d rest s ⊎ (StopsInConstants (there types scope) scope d rest s ⊎ StopsAtEnd (there types scope) scope rest s)) → IsStop (there types scope) i d text s
   constants_inside s (inl h) = stop_part (there types scope) (there types scope) (there types scope) i i grammar.enumerator (λ a. a) (constants_more (there types scope) i m) d d text rest on (omega arith) s h
   constants_inside s (inr (inl h)) = stop_part (there types scope) (there types scope) (there types scope) i i (grammar.enumerators (h.first ∷ [])) (λ a. a) (constants_closing (there types scope) i m) d d text h.mid (got on h.one) (omega arith) s h.why
-  constants_inside s (inr (inr h)) = stop_mark types scope (there types scope) i i (λ a. a) tokens.unbrace purposes.Nothing (constants_done (there types scope) i m h.all) (there types scope) d text h.last (got (got on h.one) h.more) h.ended s h.why
+  constants_inside s (inr (inr h)) = stop_mark types scope (there types scope) i i (λ a. a) tokens.unbrace also.Nothing (constants_done (there types scope) i m h.all) (there types scope) d text h.last (got (got on h.one) h.more) h.ended s h.why
 
   pub constants_stop : (s : ReadError) → IsConstantsStop (there types scope) scope d rest s → IsStop (there types scope) i d text s
   constants_stop stops.NoMemory h = tt
@@ -130,7 +130,7 @@ module _ (types : List ℕ) (scope : Scope) (i : Item syntax_trees) (m : List En
       → MatchResult r (λ part. IsRead (there types scope) i d text (v part.tree) part.depth part.rest.now) (IsStop (there types scope) i d text)
   constants_result word tag v makes deep less (Ok part) b =
       let g = there types scope in
-      let closes = on_mark types scope g i i (λ a. a) tokens.unbrace purposes.Nothing (constants_done g i m b.all) g text b.last part.rest.now (got (got on b.one) b.more) b.closes in
+      let closes = on_mark types scope g i i (λ a. a) tokens.unbrace also.Nothing (constants_done g i m b.all) g text b.last part.rest.now (got (got on b.one) b.more) b.closes in
       built g i d part.depth text part.rest.now (m b.all) (v part.tree) (finished closes) (makes part.tree b.all b.makes) (b.deeper ∙ sym (deep b.all)) b.shallow b.closes.ended (omega (arith, b.fewer, less))
   constants_result word tag v makes deep less (Err s) b = constants_stop s b
 

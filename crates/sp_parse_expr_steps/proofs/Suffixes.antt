@@ -117,8 +117,8 @@ abbrev pub call_closing : (g : Context) (e : Expression) (x : TokenOf syntax_tre
 call_closing g e x es = close_by g (at_first es) tokens.closing (call_more g e x es)
 
 -- the same mark, whatever else might stand there
-pub purposed : (g : Context) (i j : Item syntax_trees) (f : ItemAnswer j → ItemAnswer i) (m : tokens.Mark) (k : TokenOf syntax_trees → Plan (c_symbols syntax_trees) (at g j)) (text rest : List Token) (p q : grammar.Purpose) → p ≡ q → IsOn g g i j f (close_by g p m k) text rest → IsOn g g i j f (close_by g q m k) text rest
-purposed g i j f m k text rest p q e on = subst (λ v. IsOn g g i j f (close_by g v m k) text rest) e on
+pub allowing : (g : Context) (i j : Item syntax_trees) (f : ItemAnswer j → ItemAnswer i) (m : tokens.Mark) (k : TokenOf syntax_trees → Plan (c_symbols syntax_trees) (at g j)) (text rest : List Token) (p q : grammar.AlsoAllowed) → p ≡ q → IsOn g g i j f (close_by g p m k) text rest → IsOn g g i j f (close_by g q m k) text rest
+allowing g i j f m k text rest p q e on = subst (λ v. IsOn g g i j f (close_by g v m k) text rest) e on
 
 -- behind a name
 pub ended_name : (x : Token) (xs : List Token) → is_name (sort_of x.kind) ≡ true → IsEnded (x ∷ xs) → IsEnded xs

@@ -26,7 +26,7 @@ use Rattle.sp_parse_tokens.specs.declared.part.DeclaratorKind.TheVariants as for
 use Rattle.sp_parse_tokens.specs.declared.part.ReadError.{ReadError}
 use Rattle.sp_parse_tokens.specs.declared.part.ReadError.TheVariants as stops
 use Rattle.sp_parse_tokens.specs.declared.scope.Scope.{Scope}
-use Rattle.sp_parse_tokens.specs.declared.scope.AlsoAllowed.TheVariants as purposes
+use Rattle.sp_parse_tokens.specs.declared.scope.AlsoAllowed.TheVariants as also
 use Rattle.sp_parse_tokens.specs.declared.scope.AlsoAllowed.{AlsoAllowed}
 use Rattle.sp_parse_grammar.specs.CTokens as tokens
 use Rattle.sp_parse_grammar.specs.CTokens.{Sort}
@@ -37,7 +37,7 @@ use Rattle.sp_parse_tokens.specs.Sorts.{Terminal, terminal, c_tokens}
 use Rattle.sp_parse_tokens.specs.Makers.{SpecifierAt, Enumerator, settle, settle_param, settle_last, first_place, all_specifiers, place_of_first, make_word, keyword_of, is_union, some_members, some_constants, all_enumerators}
 use Rattle.sp_parse_tokens.specs.SyntaxTrees.{syntax_trees, c_table}
 use Rattle.sp_parse_tokens.specs.Ended.{IsEnded}
-use Rattle.sp_parse_tokens.specs.Scopes.{there, purpose_seen}
+use Rattle.sp_parse_tokens.specs.Scopes.{there, allowed_seen}
 use Rattle.sp_parse_expr_steps.specs.Reading.{kind_at, IsRead, IsStop, IsStep}
 use Rattle.sp_parse_tokens.specs.Expecting.{IsExpected, IsUnexpected}
 
@@ -55,7 +55,7 @@ form_seen forms.Either = grammar.either
 
 -- with this tree
 abbrev pub declared_seen : Declared → Declarator → grammar.Declared syntax_trees
-declared_seen d tree = record { tree = tree; declares = d.declares; shape = shape_seen d.shape; behind = purpose_seen d.behind }
+declared_seen d tree = record { tree = tree; declares = d.declares; shape = shape_seen d.shape; behind = allowed_seen d.behind }
 
 -- A declarator is read for the ask. Where no name is declared, its tree has the place of the token behind it only now.
 pub record IsDeclared (g : Context) (i : Item syntax_trees) (make : grammar.Declared syntax_trees → ItemAnswer i) (depth : ℕ) (text : List Token) (d : Declared) (reached : ℕ) (rest : List Token) : Type 0 where
@@ -83,19 +83,19 @@ pub record IsLengthened (g : Context) (head : grammar.Declared syntax_trees) (de
 pub record IsGiven (g : Context) (depth : ℕ) (text : List Token) (p : CodeParam) (behind : AlsoAllowed) (reached : ℕ) (rest : List Token) : Type 0 where
   pub pending : Param
   pub settled : param_of p ≡ settle_param (first_place rest) pending
-  pub read : IsRead g grammar.parameter depth text (record { tree = pending; behind = purpose_seen behind }) reached rest
+  pub read : IsRead g grammar.parameter depth text (record { tree = pending; behind = allowed_seen behind }) reached rest
 
 -- Parameters are read; they stand before these tokens.
 pub record AreGiven (g : Context) (depth : ℕ) (text : List Token) (ps : Parameters) (reached : ℕ) (rest : List Token) : Type 0 where
   pub pending : List Param
   pub settled : map param_of ps.all.items ≡ (if ps.dots then pending else settle_last (first_place rest) pending)
-  pub read : IsRead g grammar.parameters depth text (record { all = pending; dots = ps.dots; behind = purpose_seen ps.behind }) reached rest
+  pub read : IsRead g grammar.parameters depth text (record { all = pending; dots = ps.dots; behind = allowed_seen ps.behind }) reached rest
 
 -- These parameters were read; the last stands before these tokens.
 pub record ParametersSoFar (g : Context) (text : List Token) (items : List CodeParam) (behind : AlsoAllowed) (rest : List Token) : Type 0 where
   pub pending : List Param
   pub settled : map param_of items ≡ settle_last (first_place rest) pending
-  pub step : IsStep g grammar.parameters (grammar.more_parameters (record { all = pending; dots = false; behind = purpose_seen behind })) (λ a. a) text rest
+  pub step : IsStep g grammar.parameters (grammar.more_parameters (record { all = pending; dots = false; behind = allowed_seen behind })) (λ a. a) text rest
 
 -- ---- specifiers
 
@@ -131,12 +131,12 @@ item_seen = fold-InitDeclarator DeclaratorForm ExpressionForm Init Specifier Dec
 -- Members' declarators are read behind the first.
 pub record AreItems (g : Context) (first : Declared) (depth : ℕ) (text : List Token) (is : MemberDeclarators) (reached : ℕ) (rest : List Token) : Type 0 where
   pub names : List ℕ
-  pub read : IsRead g (grammar.member_items (grammar.one_item (declared_seen first (declarator_of first.tree)) None)) depth text (record { all = map item_seen is.all.items; names = names; behind = purpose_seen is.behind }) reached rest
+  pub read : IsRead g (grammar.member_items (grammar.one_item (declared_seen first (declarator_of first.tree)) None)) depth text (record { all = map item_seen is.all.items; names = names; behind = allowed_seen is.behind }) reached rest
 
 -- These declarators of members were read.
 pub record ItemsSoFar (g : Context) (first : Declared) (text : List Token) (items : List CodeItem) (behind : AlsoAllowed) (rest : List Token) : Type 0 where
   pub names : List ℕ
-  pub step : IsStep g (grammar.member_items (grammar.one_item (declared_seen first (declarator_of first.tree)) None)) (grammar.member_items (record { all = map item_seen items; names = names; behind = purpose_seen behind })) (λ a. a) text rest
+  pub step : IsStep g (grammar.member_items (grammar.one_item (declared_seen first (declarator_of first.tree)) None)) (grammar.member_items (record { all = map item_seen items; names = names; behind = allowed_seen behind })) (λ a. a) text rest
 
 -- a constant of an enumeration
 abbrev pub maybe_tree : Option CodeExpr → Option Expression
@@ -194,7 +194,7 @@ pub record IsArrayed (g : Context) (head : Declared) (depth : ℕ) (text : List 
   pub makes : declarator_of d.tree ≡ declarator (array (declarator_of head.tree) (maybe_expression size)) (declarator_place (declarator_of head.tree))
   pub declares : d.declares ≡ head.declares
   pub shape : shape_seen d.shape ≡ grammar.shaped (shape_seen head.shape) grammar.other
-  pub behind : purpose_seen d.behind ≡ grammar.closed (purpose_seen head.behind)
+  pub behind : allowed_seen d.behind ≡ grammar.closed (allowed_seen head.behind)
   pub deeper : reached ≡ 1 + max (declarator_depth (declarator_of head.tree)) size_depth
   pub shallow : reached ≤ depth
 
@@ -203,9 +203,9 @@ pub record StopsAtUnbracket (g : Context) (scope : Scope) (depth : ℕ) (text : 
   pub size_depth : ℕ
   pub mid : List Token
   pub read : IsRead g grammar.array_length depth text size size_depth mid
-  pub purpose : AlsoAllowed
-  pub wanted : purpose_seen purpose ≡ grammar.if_missing size
-  pub why : IsUnexpected g.types scope tokens.unbracket purpose mid stop
+  pub also_allowed : AlsoAllowed
+  pub wanted : allowed_seen also_allowed ≡ grammar.if_missing size
+  pub why : IsUnexpected g.types scope tokens.unbracket also_allowed mid stop
 
 abbrev pub IsArrayStop : Context → Scope → ℕ → List Token → ReadError → Type 0
 IsArrayStop g scope depth text stops.NoMemory = ⊤
@@ -238,8 +238,8 @@ begins_array _ _ = false
 
 -- what might stand where a specifier of a type is wanted: whether storage classes may, and whether no specifier was read
 abbrev pub typeless : Bool → Bool → AlsoAllowed
-typeless true true = purposes.Parameter
-typeless _ _ = purposes.TypeSpecifier
+typeless true true = also.Parameter
+typeless _ _ = also.TypeSpecifier
 
 -- the token goes on with a declarator
 abbrev pub begins_part : Sort → Bool
@@ -252,14 +252,14 @@ pub record IsFunction (head : Declared) (ps : Parameters) (d : Declared) : Type 
   pub tree : declarator_of d.tree ≡ declarator (function (declarator_of head.tree) (params (map param_of ps.all.items)) ps.dots) (declarator_place (declarator_of head.tree))
   pub declares : d.declares ≡ head.declares
   pub shape : shape_seen d.shape ≡ grammar.shaped (shape_seen head.shape) (grammar.of_parameters ps.dots)
-  pub behind : purpose_seen d.behind ≡ grammar.behind_parameters (purpose_seen head.behind) ps.dots
+  pub behind : allowed_seen d.behind ≡ grammar.behind_parameters (allowed_seen head.behind) ps.dots
 
 -- The array of a declarator, with this length or none.
 pub record IsArray (head : Declared) (length : Option Expression) (d : Declared) : Type 0 where
   pub tree : declarator_of d.tree ≡ declarator (array (declarator_of head.tree) (maybe_expression length)) (declarator_place (declarator_of head.tree))
   pub declares : d.declares ≡ head.declares
   pub shape : shape_seen d.shape ≡ grammar.shaped (shape_seen head.shape) grammar.other
-  pub behind : purpose_seen d.behind ≡ grammar.closed (purpose_seen head.behind)
+  pub behind : allowed_seen d.behind ≡ grammar.closed (allowed_seen head.behind)
 
 -- Behind the `{` of a structure its members and the `}` are read, and this is the structure. The
 -- context is that around the structure; its `in_structure` is that of the members.
@@ -290,7 +290,7 @@ pub record StopsAtBrace (g : Context) (scope : Scope) (text : List Token) (stop 
   pub last : List Token
   pub more : Reads c_table (at (grammar.in_structure g) (grammar.members (first ∷ []))) (ask (at (grammar.in_structure g) (grammar.members (first ∷ [])))) (c_tokens mid) all (c_tokens last)
   pub ended : IsEnded last
-  pub why : IsUnexpected g.types scope tokens.unbrace purposes.TypeSpecifier last stop
+  pub why : IsUnexpected g.types scope tokens.unbrace also.TypeSpecifier last stop
 
 abbrev pub IsBodyStop : Context → Scope → ℕ → List Token → ReadError → Type 0
 IsBodyStop g scope depth text stops.NoMemory = ⊤
@@ -324,7 +324,7 @@ pub record StopsAtEnd (g : Context) (scope : Scope) (text : List Token) (stop : 
   pub last : List Token
   pub more : Reads c_table (at g (grammar.enumerators (first ∷ []))) (ask (at g (grammar.enumerators (first ∷ [])))) (c_tokens mid) all (c_tokens last)
   pub ended : IsEnded last
-  pub why : IsUnexpected g.types scope tokens.unbrace purposes.Nothing last stop
+  pub why : IsUnexpected g.types scope tokens.unbrace also.Nothing last stop
 
 abbrev pub IsConstantsStop : Context → Scope → ℕ → List Token → ReadError → Type 0
 IsConstantsStop g scope depth text stops.NoMemory = ⊤

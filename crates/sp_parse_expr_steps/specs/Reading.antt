@@ -4,12 +4,12 @@ use Rattle.sp_tree.specs.declared.fault.FaultKind.{FaultKind}
 use Rattle.sp_tree.specs.declared.fault.FaultKind.TheVariants.{UnexpectedToken}
 use Rattle.sp_tree.specs.declared.token.Token.{Token}
 use Rattle.sp_parse_tokens.specs.declared.scope.AlsoAllowed.{AlsoAllowed}
-use Rattle.sp_parse_tokens.specs.declared.scope.AlsoAllowed.TheVariants as purposes
+use Rattle.sp_parse_tokens.specs.declared.scope.AlsoAllowed.TheVariants as also
 use Rattle.sp_parse_tokens.specs.declared.scope.Scope.{Scope}
 use Rattle.sp_parse_tokens.specs.Expecting.{IsExpected, IsUnexpected}
 use Rattle.sp_parse_tokens.specs.declared.part.Part.{Part}
 use Rattle.sp_parse_tokens.specs.declared.part.ReadError.{ReadError}
-use Rattle.sp_parse_tokens.specs.Scopes.{purpose_seen}
+use Rattle.sp_parse_tokens.specs.Scopes.{allowed_seen}
 use Rattle.sp_parse_tokens.specs.declared.part.ReadError.TheVariants as stops
 use Rattle.sp_parse_grammar.specs.CTokens as tokens
 use Rattle.sp_parse_grammar.specs.CTokens.{Sort, view}
@@ -104,7 +104,7 @@ pub record IsSuffixed (g : Context) (inner : Expression) (depth : ℕ) (text : L
 pub record IsTypeName (g : Context) (depth : ℕ) (text : List Token) (name : TypeName) (p : AlsoAllowed) (reached : ℕ) (rest : List Token) : Type 0 where
   pub pending : TypeName
   pub settled : name ≡ settle_type (first_place rest) pending
-  pub read : IsRead g grammar.type_name depth text (record { tree = pending; behind = purpose_seen p }) reached rest
+  pub read : IsRead g grammar.type_name depth text (record { tree = pending; behind = allowed_seen p }) reached rest
 
 -- an operation of the level: the comma, or a binary one
 abbrev pub joined_tree : ℕ → Terminal → Expression → Expression → Expression
@@ -130,7 +130,7 @@ pub record StopsAtParen (g : Context) (scope : Scope) (text : List Token) (stop 
   pub mid : List Token
   pub one : Reads c_table (at g (grammar.level 13)) (ask (at g (grammar.level 13))) (c_tokens text) inner (c_tokens mid)
   pub ended : IsEnded mid
-  pub why : IsUnexpected g.types scope tokens.closing purposes.Nothing mid stop
+  pub why : IsUnexpected g.types scope tokens.closing also.Nothing mid stop
 
 pub record StopsBehindParen (g : Context) (opening : Token) (depth : ℕ) (text : List Token) (stop : ReadError) : Type 0 where
   pub inner : grammar.Operand syntax_trees

@@ -11,7 +11,7 @@ ghost use Rattle.sp_tree.specs.declared.token.Token.{Token};
 ghost use Rattle.sp_parse_tokens.specs.Sorts.{terminal};
 ghost use Rattle.sp_parse_tokens.specs.Makers.{settle, make_absent, number_of};
 ghost use Rattle.sp_parse_tokens.specs.Ended.{IsEnded};
-ghost use Rattle.sp_parse_tokens.specs.Scopes.{context_of, purpose_seen};
+ghost use Rattle.sp_parse_tokens.specs.Scopes.{context_of, allowed_seen};
 ghost use Rattle.sp_parse_tokens.specs.Codes.{sort_seen};
 ghost use Rattle.sp_parse_tokens.specs.declared.part.ReadError.TheVariants.{NoMemory};
 ghost use Rattle.sp_parse_expr_steps.specs.Reading.{IsStop, first_sort};
@@ -38,10 +38,10 @@ fn shaped(shape: DeclaredShape, suffix: DeclaredShape) -> DeclaredShape
 
 /// What might stand behind more of a declarator: a body, but for its `...`, or nothing that
 /// matters.
-pub fn closed(purpose: AlsoAllowed) -> AlsoAllowed
-    ensures { purpose_seen result ≡ grammar.closed (purpose_seen purpose) }
+pub fn closed(also_allowed: AlsoAllowed) -> AlsoAllowed
+    ensures { allowed_seen result ≡ grammar.closed (allowed_seen also_allowed) }
 {
-    match purpose {
+    match also_allowed {
         AlsoAllowed::Body => AlsoAllowed::Body,
         _ => AlsoAllowed::Nothing,
     }
@@ -150,7 +150,7 @@ pub fn grouped(alloc: Global, place: Place, inner: Declared) -> Result<Declared,
         (declarator_of d.tree ≡ syntax.declarator (syntax.group (declarator_of inner.tree))
         place)
         × (d.declares ≡ inner.declares) × (d.shape ≡ inner.shape) ×
-        (purpose_seen d.behind ≡ grammar.closed (purpose_seen inner.behind))) }
+        (allowed_seen d.behind ≡ grammar.closed (allowed_seen inner.behind))) }
 {
     let tree = Declarator::paren(alloc, place, inner.tree)?;
     Ok(Declared {
@@ -268,8 +268,8 @@ pub fn begins_part(sort: Sort) -> bool
 }
 
 /// What might stand behind a length, or where there is none.
-pub fn length_purpose(length: &Option<Expr>) -> AlsoAllowed
-    ensures { purpose_seen result ≡ grammar.if_missing (option_map tree_of length.now) }
+pub fn length_allowed(length: &Option<Expr>) -> AlsoAllowed
+    ensures { allowed_seen result ≡ grammar.if_missing (option_map tree_of length.now) }
 {
     match length {
         Some(_) => AlsoAllowed::Nothing,

@@ -10,7 +10,7 @@ ghost use Rattle.sp_parse_trees.specs.Depth.{depth as depth_of};
 ghost use Rattle.sp_parse_tokens.specs.Makers.{punct_of, make_member, number_of};
 ghost use Rattle.sp_parse_tokens.specs.Sorts.{terminal, sort_of};
 ghost use Rattle.sp_parse_tokens.specs.Ended.{IsEnded};
-ghost use Rattle.sp_parse_tokens.specs.Scopes.{context_of, purpose_seen};
+ghost use Rattle.sp_parse_tokens.specs.Scopes.{context_of, allowed_seen};
 ghost use Rattle.sp_parse_tokens.specs.Codes.{sort_seen};
 ghost use Rattle.sp_parse_expr_steps.specs.Reading.{IsStop, IsSuffixed, joined_tree, operand_seen, is_suffix, is_prefix};
 
@@ -107,8 +107,8 @@ pub fn joined(
 }
 
 /// What might stand where the arguments of a call end: one more where there are none.
-pub fn call_purpose(arguments: &Vec<Expr>) -> AlsoAllowed
-    ensures { purpose_seen result ≡ grammar.at_first (map tree_of arguments.now.items) }
+pub fn call_allowed(arguments: &Vec<Expr>) -> AlsoAllowed
+    ensures { allowed_seen result ≡ grammar.at_first (map tree_of arguments.now.items) }
 {
     if arguments.is_empty() {
         AlsoAllowed::Name

@@ -25,16 +25,16 @@ mod specifiers;
 
 pub use declarators::{
     absent, array_of, begins_array, begins_deeper, begins_inner, begins_parameters, begins_part,
-    closed, function_of, group_fault, grouped, head_name, length_purpose, named, pointed,
+    closed, function_of, group_fault, grouped, head_name, length_allowed, named, pointed,
     read_head, read_qualifiers,
 };
 pub use expressions::{
-    ASSIGNMENT, COMMA, CONDITIONAL, as_operand, begins_nested, call_purpose, is_prefix, is_suffix,
+    ASSIGNMENT, COMMA, CONDITIONAL, as_operand, begins_nested, call_allowed, is_prefix, is_suffix,
     joined, punct_of, read_member_or_step,
 };
 pub use levels::next_level;
 pub use primaries::read_operand;
 pub use specifiers::{
     enumeration, is_either, is_too_deep, item_of, structure, tagged_enumeration, tagged_structure,
-    type_purpose, word_specifier,
+    type_allowed, word_specifier,
 };

@@ -58,7 +58,7 @@ pub fn is_either(one: bool, other: bool) -> bool
 }
 
 /// What might stand where a specifier of a type is wanted, behind these specifiers.
-pub fn type_purpose(stores: bool, all: &Vec<Specifier>) -> AlsoAllowed
+pub fn type_allowed(stores: bool, all: &Vec<Specifier>) -> AlsoAllowed
     ensures { result ≡ typeless stores (is_empty all.now.items) }
 {
     if stores && all.is_empty() {

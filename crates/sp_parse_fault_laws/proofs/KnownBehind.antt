@@ -4,18 +4,18 @@ use Rattle.std.specs.Prelude.{Option, ⊤, if◌then◌else◌, ◌&&◌, not}
 use Rattle.sp_parse_grammar.specs.CTokens as tokens
 use Rattle.sp_parse_grammar.specs.CTokens.{Sort, is_mark, view as viewed}
 use Rattle.sp_parse_grammar.specs.CTable as grammar
-use Rattle.sp_parse_grammar.specs.CTable.{Context, Purpose, Form, ItemAnswer, Ask, Answer, at, unit, whole, c_symbols, plan}
+use Rattle.sp_parse_grammar.specs.CTable.{Context, AlsoAllowed, Form, ItemAnswer, Ask, Answer, at, unit, whole, c_symbols, plan}
 use Rattle.sp_parse_grammar.specs.Table.{Plan, ask, Reads}
 use Rattle.sp_parse_tokens.specs.Sorts.{Terminal}
 use Rattle.sp_parse_tokens.specs.SyntaxTrees.{syntax_trees, c_table}
 use Rattle.sp_parse_tokens.specs.Depths.{Part}
 use Rattle.sp_parse_laws.proofs.Between.{BetweenAt, none_said, fact_of}
 
-abbrev pub is_for_name : Purpose → Bool
+abbrev pub is_for_name : AlsoAllowed → Bool
 is_for_name grammar.for_name = true
 is_for_name _ = false
 
-pub closed_no_name : (p : Purpose) → is_for_name (grammar.closed p) ≡ false
+pub closed_no_name : (p : AlsoAllowed) → is_for_name (grammar.closed p) ≡ false
 closed_no_name grammar.plainly = refl
 closed_no_name grammar.for_name = refl
 closed_no_name grammar.for_parameter = refl
@@ -23,21 +23,21 @@ closed_no_name grammar.for_member = refl
 closed_no_name grammar.for_external = refl
 closed_no_name grammar.for_body = refl
 
-pub parameters_no_name : (p : Purpose) (dots : Bool) → is_for_name (grammar.behind_parameters p dots) ≡ false
+pub parameters_no_name : (p : AlsoAllowed) (dots : Bool) → is_for_name (grammar.behind_parameters p dots) ≡ false
 parameters_no_name p true = refl
 parameters_no_name p false = closed_no_name p
 
 -- where a name is wanted, or may stand, what is behind tells
-abbrev pub NoName : Form → Purpose → Type 0
+abbrev pub NoName : Form → AlsoAllowed → Type 0
 NoName grammar.either p = ⊤
 NoName _ p = is_for_name p ≡ false
 
-no_name : (f : Form) (p : Purpose) → is_for_name p ≡ false → NoName f p
+no_name : (f : Form) (p : AlsoAllowed) → is_for_name p ≡ false → NoName f p
 no_name grammar.concrete p e = e
 no_name grammar.abstract p e = e
 no_name grammar.either p e = tt
 
-on : (f : Form) (p q : Purpose) → NoName f p → (is_for_name p ≡ false → is_for_name q ≡ false) → NoName f q
+on : (f : Form) (p q : AlsoAllowed) → NoName f p → (is_for_name p ≡ false → is_for_name q ≡ false) → NoName f q
 on grammar.concrete p q e f = f e
 on grammar.abstract p q e f = f e
 on grammar.either p q e f = tt

@@ -4,7 +4,7 @@ use Rattle.std.specs.Prelude.{Option, ⊤, is_none, if◌then◌else◌}
 use Rattle.sp_parse_grammar.specs.CTokens as tokens
 use Rattle.sp_parse_grammar.specs.CTokens.{Sort, Mark, Seen, is_mark, is_name, view as viewed, add, nothing_seen, is_typed}
 use Rattle.sp_parse_grammar.specs.CTable as grammar
-use Rattle.sp_parse_grammar.specs.CTable.{Context, Purpose, Form, Operand, ItemAnswer, Ask, Answer, at, unit, whole, c_symbols, plan, in_function, in_structure}
+use Rattle.sp_parse_grammar.specs.CTable.{Context, AlsoAllowed, Form, Operand, ItemAnswer, Ask, Answer, at, unit, whole, c_symbols, plan, in_function, in_structure}
 use Rattle.sp_parse_grammar.specs.Table.{wanted, asked}
 use Rattle.sp_parse_tokens.specs.SyntaxTrees.{syntax_trees}
 use Rattle.sp_parse_tokens.specs.Depths.{Part}
@@ -18,7 +18,7 @@ abbrev is_nil : {A : Type 0} → List A → Bool
 is_nil [] = true
 is_nil (x ∷ xs) = false
 
-abbrev pub form_open : Form → Purpose → Bool
+abbrev pub form_open : Form → AlsoAllowed → Bool
 form_open grammar.either p = is_for_name p
 form_open _ p = false
 
@@ -123,22 +123,22 @@ pub comma : (b : Bool) → is_for_name (if b then grammar.for_name else grammar.
 comma true = refl
 comma false = refl
 
-pub item_no_name : {A : Type 0} (p : Purpose) (v : Option A) → is_for_name (grammar.behind_item p v) ≡ false
+pub item_no_name : {A : Type 0} (p : AlsoAllowed) (v : Option A) → is_for_name (grammar.behind_item p v) ≡ false
 item_no_name p None = closed_no_name p
 item_no_name p (Some v) = refl
 
 -- a declarator that isn't absent, or of a form that has no name
-pub closed_form : (f : Form) (p : Purpose) → is_for_name p ≡ false → form_open f p ≡ false
+pub closed_form : (f : Form) (p : AlsoAllowed) → is_for_name p ≡ false → form_open f p ≡ false
 closed_form grammar.concrete p e = refl
 closed_form grammar.abstract p e = refl
 closed_form grammar.either p e = e
 
-pub known_form : (f : Form) (p : Purpose) → NoName f p → is_for_name p ≡ form_open f p
+pub known_form : (f : Form) (p : AlsoAllowed) → NoName f p → is_for_name p ≡ form_open f p
 known_form grammar.concrete p e = e
 known_form grammar.abstract p e = e
 known_form grammar.either p e = refl
 
-pub suffixed_form : (f : Form) (p q : Purpose) → NoName f p → (is_for_name p ≡ false → is_for_name q ≡ false) → form_open f q ≡ is_for_name q
+pub suffixed_form : (f : Form) (p q : AlsoAllowed) → NoName f p → (is_for_name p ≡ false → is_for_name q ≡ false) → form_open f q ≡ is_for_name q
 suffixed_form grammar.concrete p q e f = sym (f e)
 suffixed_form grammar.abstract p q e f = sym (f e)
 suffixed_form grammar.either p q e f = refl

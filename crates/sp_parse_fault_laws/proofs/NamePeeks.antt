@@ -5,7 +5,7 @@ use Rattle.std.specs.Prelude.{Option, ◌||◌, ◌==◌}
 use Rattle.sp_parse_grammar.specs.CTokens as tokens
 use Rattle.sp_parse_grammar.specs.CTokens.{Sort, Mark, Seen, is_mark, is_name, view as viewed, add, nothing_seen, is_typed, is_specifier}
 use Rattle.sp_parse_grammar.specs.CTable as grammar
-use Rattle.sp_parse_grammar.specs.CTable.{Context, Purpose, Form, Operand, Specified, ItemAnswer, Ask, Answer, at, unit, whole, c_symbols, plan, in_function, in_structure, begins_expression, begins_items, begins_specifiers, begins_other, stands_behind}
+use Rattle.sp_parse_grammar.specs.CTable.{Context, AlsoAllowed, Form, Operand, Specified, ItemAnswer, Ask, Answer, at, unit, whole, c_symbols, plan, in_function, in_structure, begins_expression, begins_items, begins_specifiers, begins_other, stands_behind}
 use Rattle.sp_parse_grammar.specs.Table.{Plan, done, take, call, asked, Opens, open_take, open_call}
 use Rattle.sp_parse_grammar.proofs.CChecked.{if_true, if_false, which}
 use Rattle.sp_parse_tokens.specs.Sorts.{Terminal}
@@ -28,11 +28,11 @@ module _ (types : List ℕ) (b x : Terminal) (kind number : ℕ) (name_b : is_na
   pub ends : {m : Ask syntax_trees} {o : Answer m} {so_far : Bool} → may_go_on m o ≡ so_far → Keeps {m = m} (done o) so_far
   ends e = record { here = e; later = tt }
 
-  mark_here : {m : Ask syntax_trees} (g : Context) (p : Purpose) (t : Mark) (k : Terminal → Plan (c_symbols syntax_trees) m) (so_far : Bool) → g.types ≡ types → is_for_name p ≡ so_far → AtToken c_table (name_notes types) b x (take (grammar.only g p t) k) so_far
+  mark_here : {m : Ask syntax_trees} (g : Context) (p : AlsoAllowed) (t : Mark) (k : Terminal → Plan (c_symbols syntax_trees) m) (so_far : Bool) → g.types ≡ types → is_for_name p ≡ so_far → AtToken c_table (name_notes types) b x (take (grammar.only g p t) k) so_far
   mark_here g p t k so_far same e = λ f. (e ∙ sym (ap (λ i. so_far || i) (name_no_mark t x.sort name_x) ∙ or_false so_far), same)
 
   -- a mark, with what might stand there besides
-  pub marked : {m : Ask syntax_trees} {g : Context} {p : Purpose} {t : Mark} {k : Terminal → Plan (c_symbols syntax_trees) m} {so_far : Bool} → g.types ≡ types → is_for_name p ≡ so_far → ((y : Terminal) → Keeps (k y) false) → Keeps (take (grammar.only g p t) k) so_far
+  pub marked : {m : Ask syntax_trees} {g : Context} {p : AlsoAllowed} {t : Mark} {k : Terminal → Plan (c_symbols syntax_trees) m} {so_far : Bool} → g.types ≡ types → is_for_name p ≡ so_far → ((y : Terminal) → Keeps (k y) false) → Keeps (take (grammar.only g p t) k) so_far
   marked {g = g} {p = p} {t = t} {k = k} {so_far = so_far} same e more = record { here = mark_here g p t k so_far same e; later = λ y f. ((more y).here, (more y).later) }
 
   pub plainly : {m : Ask syntax_trees} {g : Context} {t : Mark} {k : Terminal → Plan (c_symbols syntax_trees) m} → g.types ≡ types → ((y : Terminal) → Keeps (k y) false) → Keeps (take (grammar.only g grammar.plainly t) k) false

@@ -3,7 +3,7 @@ use Rattle.std.proofs.Common.{◌≡◌, inl, inr, ℕ, zero, suc, true, false, 
 use Rattle.sp_parse_grammar.specs.CTokens as tokens
 use Rattle.sp_parse_grammar.specs.CTokens.{Sort, Mark, Seen, Length, Base, is_mark, is_name, view as viewed, add, add_word, nothing_seen, is_typed, typed, plain_length, no_base}
 use Rattle.sp_parse_grammar.specs.CTable as grammar
-use Rattle.sp_parse_grammar.specs.CTable.{Context, Purpose, Form, Operand, Specified, ItemAnswer, Ask, Answer, at, unit, whole, c_symbols, plan, stands_behind}
+use Rattle.sp_parse_grammar.specs.CTable.{Context, AlsoAllowed, Form, Operand, Specified, ItemAnswer, Ask, Answer, at, unit, whole, c_symbols, plan, stands_behind}
 use Rattle.sp_parse_grammar.specs.Table.{open_take}
 use Rattle.sp_parse_grammar.proofs.CChecked.{which}
 use Rattle.sp_parse_tokens.specs.Sorts.{Terminal}

@@ -4,20 +4,20 @@ use Rattle.std.specs.Prelude.{Option, ⊤, if◌then◌else◌, ◌&&◌, not}
 use Rattle.sp_parse_grammar.specs.CTokens as tokens
 use Rattle.sp_parse_grammar.specs.CTokens.{Sort, is_mark, view as viewed}
 use Rattle.sp_parse_grammar.specs.CTable as grammar
-use Rattle.sp_parse_grammar.specs.CTable.{Context, Purpose, Form, ItemAnswer, Ask, Answer, at, unit, whole, c_symbols, plan}
+use Rattle.sp_parse_grammar.specs.CTable.{Context, AlsoAllowed, Form, ItemAnswer, Ask, Answer, at, unit, whole, c_symbols, plan}
 use Rattle.sp_parse_grammar.specs.Table.{Plan, ask, Reads}
 use Rattle.sp_parse_tokens.specs.Sorts.{Terminal}
 use Rattle.sp_parse_tokens.specs.SyntaxTrees.{syntax_trees, c_table}
 use Rattle.sp_parse_tokens.specs.Depths.{Part}
 use Rattle.sp_parse_laws.proofs.Between.{BetweenAt, none_said, fact_of}
 
-abbrev pub is_for_type : Purpose → Bool
+abbrev pub is_for_type : AlsoAllowed → Bool
 is_for_type grammar.for_parameter = true
 is_for_type grammar.for_member = true
 is_for_type grammar.for_external = true
 is_for_type _ = false
 
-pub closed_no_type : (p : Purpose) → is_for_type (grammar.closed p) ≡ false
+pub closed_no_type : (p : AlsoAllowed) → is_for_type (grammar.closed p) ≡ false
 closed_no_type grammar.plainly = refl
 closed_no_type grammar.for_name = refl
 closed_no_type grammar.for_parameter = refl
@@ -25,7 +25,7 @@ closed_no_type grammar.for_member = refl
 closed_no_type grammar.for_external = refl
 closed_no_type grammar.for_body = refl
 
-pub parameters_no_type : (p : Purpose) (dots : Bool) → is_for_type (grammar.behind_parameters p dots) ≡ false
+pub parameters_no_type : (p : AlsoAllowed) (dots : Bool) → is_for_type (grammar.behind_parameters p dots) ≡ false
 parameters_no_type p true = refl
 parameters_no_type p false = closed_no_type p
 

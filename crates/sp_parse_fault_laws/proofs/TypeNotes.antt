@@ -5,7 +5,7 @@ use Rattle.std.specs.Prelude.{Option, ⊤, List, [], ◌∷◌, if◌then◌else
 use Rattle.sp_parse_grammar.specs.CTokens as tokens
 use Rattle.sp_parse_grammar.specs.CTokens.{Sort}
 use Rattle.sp_parse_grammar.specs.CTable as grammar
-use Rattle.sp_parse_grammar.specs.CTable.{Purpose, ItemAnswer, Ask, Answer, at, unit, whole, c_symbols}
+use Rattle.sp_parse_grammar.specs.CTable.{AlsoAllowed, ItemAnswer, Ask, Answer, at, unit, whole, c_symbols}
 use Rattle.sp_parse_grammar.specs.Table.{wanted, asked}
 use Rattle.sp_parse_tokens.specs.SyntaxTrees.{syntax_trees}
 use Rattle.sp_parse_tokens.specs.Depths.{Part}
@@ -103,6 +103,6 @@ pub comma : (b : Bool) → is_for_type (if b then grammar.for_name else grammar.
 comma true = refl
 comma false = refl
 
-pub item_no_type : {A : Type 0} (p : Purpose) (v : Option A) → is_for_type (grammar.behind_item p v) ≡ false
+pub item_no_type : {A : Type 0} (p : AlsoAllowed) (v : Option A) → is_for_type (grammar.behind_item p v) ≡ false
 item_no_type p None = closed_no_type p
 item_no_type p (Some v) = refl

@@ -6,7 +6,7 @@ use Rattle.std.specs.Prelude.{Option, ◌||◌, ◌==◌}
 use Rattle.sp_parse_grammar.specs.CTokens as tokens
 use Rattle.sp_parse_grammar.specs.CTokens.{Sort, Mark, Seen, Length, Base, is_mark, is_name, view as viewed, add, add_word, nothing_seen, is_typed, typed, plain_length, no_base}
 use Rattle.sp_parse_grammar.specs.CTable as grammar
-use Rattle.sp_parse_grammar.specs.CTable.{Context, Purpose, Form, Operand, Specified, ItemAnswer, Ask, Answer, at, unit, whole, c_symbols, plan, stands_behind}
+use Rattle.sp_parse_grammar.specs.CTable.{Context, AlsoAllowed, Form, Operand, Specified, ItemAnswer, Ask, Answer, at, unit, whole, c_symbols, plan, stands_behind}
 use Rattle.sp_parse_grammar.specs.Table.{Plan, done, take, call, Opens, open_take, open_call}
 use Rattle.sp_parse_grammar.proofs.CChecked.{if_true, if_false, which}
 use Rattle.sp_parse_tokens.specs.Sorts.{Terminal}
@@ -95,7 +95,7 @@ module _ (types : List ℕ) (b x : Terminal) (j : Beginning) (is_b : IsThere typ
   mark_no_type : (t : Mark) → is_mark t x.sort ≡ false
   mark_no_type t = ap (λ s. is_mark t s) is_x
 
-  pub marked : {m : Ask syntax_trees} {g : Context} {p : Purpose} {t : Mark} {k : Terminal → Plan (c_symbols syntax_trees) m} {so_far : Bool} → g.types ≡ types → is_for_type p ≡ so_far → ((y : Terminal) → Keeps (k y) false) → Keeps (take (grammar.only g p t) k) so_far
+  pub marked : {m : Ask syntax_trees} {g : Context} {p : AlsoAllowed} {t : Mark} {k : Terminal → Plan (c_symbols syntax_trees) m} {so_far : Bool} → g.types ≡ types → is_for_type p ≡ so_far → ((y : Terminal) → Keeps (k y) false) → Keeps (take (grammar.only g p t) k) so_far
   marked {g = g} {p = p} {t = t} {k = k} {so_far = so_far} same e more = record { here = λ f. (e ∙ sym (ap (λ i. so_far || i) (mark_no_type t) ∙ or_false so_far), same); later = λ y f. ((more y).here, (more y).later) }
 
   plainly : {m : Ask syntax_trees} {g : Context} {t : Mark} {k : Terminal → Plan (c_symbols syntax_trees) m} → g.types ≡ types → ((y : Terminal) → Keeps (k y) false) → Keeps (take (grammar.only g grammar.plainly t) k) false

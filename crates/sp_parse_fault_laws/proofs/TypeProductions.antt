@@ -4,7 +4,7 @@ use Rattle.std.specs.Prelude.{Option, ⊤, if◌then◌else◌, ◌||◌, ◌&&�
 use Rattle.sp_parse_grammar.specs.CTokens as tokens
 use Rattle.sp_parse_grammar.specs.CTokens.{Sort, Mark, Seen, is_mark, is_name, view as viewed, add, nothing_seen, is_typed, is_specifier}
 use Rattle.sp_parse_grammar.specs.CTable as grammar
-use Rattle.sp_parse_grammar.specs.CTable.{Context, Purpose, Form, Operand, Specified, ItemAnswer, Ask, Answer, at, unit, whole, c_symbols, plan, in_function, in_structure, begins_expression, begins_items, begins_specifiers, begins_other, stands_behind}
+use Rattle.sp_parse_grammar.specs.CTable.{Context, AlsoAllowed, Form, Operand, Specified, ItemAnswer, Ask, Answer, at, unit, whole, c_symbols, plan, in_function, in_structure, begins_expression, begins_items, begins_specifiers, begins_other, stands_behind}
 use Rattle.sp_parse_grammar.specs.Table.{Plan, done, take, call}
 use Rattle.sp_parse_tokens.specs.Sorts.{Terminal}
 use Rattle.sp_parse_tokens.specs.SyntaxTrees.{syntax_trees}
@@ -27,7 +27,7 @@ pub record Rules (types : List ℕ) : Type 1 where
   pub Keeps : {m : Ask syntax_trees} → Plan (c_symbols syntax_trees) m → Bool → Type 0
   pub Starts : {m : Ask syntax_trees} → Plan (c_symbols syntax_trees) m → Type 0
   pub ends : {m : Ask syntax_trees} {o : Answer m} {so_far : Bool} → may_go_on m o ≡ so_far → Keeps {m = m} (done o) so_far
-  pub marked : {m : Ask syntax_trees} {g : Context} {p : Purpose} {t : Mark} {k : Terminal → Plan (c_symbols syntax_trees) m} {so_far : Bool} → g.types ≡ types → is_for_type p ≡ so_far → ((y : Terminal) → Keeps (k y) false) → Keeps (take (grammar.only g p t) k) so_far
+  pub marked : {m : Ask syntax_trees} {g : Context} {p : AlsoAllowed} {t : Mark} {k : Terminal → Plan (c_symbols syntax_trees) m} {so_far : Bool} → g.types ≡ types → is_for_type p ≡ so_far → ((y : Terminal) → Keeps (k y) false) → Keeps (take (grammar.only g p t) k) so_far
   pub ordinary : {m : Ask syntax_trees} {g : Context} {k : Terminal → Plan (c_symbols syntax_trees) m} → g.types ≡ types → ((y : Terminal) → Keeps (k y) false) → Keeps (take (grammar.ordinary g) k) false
   pub token : {m : Ask syntax_trees} {k : Terminal → Plan (c_symbols syntax_trees) m} → ((y : Terminal) → Keeps (k y) false) → Starts (take grammar.any k)
   pub part : {m : Ask syntax_trees} {g : Context} {i : Part} {k : ItemAnswer i → Plan (c_symbols syntax_trees) m} → g.types ≡ types → Fits i × Within i × (carried_item i ≡ false) × KnownItem i (grammar.item_value g i) → ((a : ItemAnswer i) → KnownItem i a → Keeps (k a) (may_item i a)) → Keeps (call (at g i) k) false

@@ -5,7 +5,7 @@ use Rattle.std.specs.List.{list_any}
 use Rattle.sp_parse_grammar.specs.CTokens as tokens
 use Rattle.sp_parse_grammar.specs.CTokens.{Sort, Mark, Seen, is_mark, is_name, view as viewed, add, nothing_seen, is_typed, is_specifier}
 use Rattle.sp_parse_grammar.specs.CTable as grammar
-use Rattle.sp_parse_grammar.specs.CTable.{Context, Purpose, Form, Operand, Specified, ItemAnswer, Ask, Answer, at, unit, whole, c_symbols, accepts, plan, in_function, in_structure, begins_expression, begins_items, begins_specifiers, begins_other, stands_behind}
+use Rattle.sp_parse_grammar.specs.CTable.{Context, AlsoAllowed, Form, Operand, Specified, ItemAnswer, Ask, Answer, at, unit, whole, c_symbols, accepts, plan, in_function, in_structure, begins_expression, begins_items, begins_specifiers, begins_other, stands_behind}
 use Rattle.sp_parse_grammar.specs.Table.{Plan, done, take, call}
 use Rattle.sp_parse_tokens.specs.Sorts.{Terminal}
 use Rattle.sp_parse_tokens.specs.SyntaxTrees.{syntax_trees, c_table}
@@ -31,7 +31,7 @@ Same m g = PlainAsk m → g.inside ≡ inside_of m
 ends : {m : Ask syntax_trees} {o : Answer m} → ((r : Bool) → After m o r) → Kept {m = m} (done o)
 ends h = record { all = λ l xs. h l }
 
-marked : {m : Ask syntax_trees} {g : Context} {p : Purpose} {t : Mark} {k : Terminal → Plan (c_symbols syntax_trees) m} → Same m g → is_for_type p ≡ false → ((y : Terminal) → Kept (k y)) → Kept (take (grammar.only g p t) k)
+marked : {m : Ask syntax_trees} {g : Context} {p : AlsoAllowed} {t : Mark} {k : Terminal → Plan (c_symbols syntax_trees) m} → Same m g → is_for_type p ≡ false → ((y : Terminal) → Kept (k y)) → Kept (take (grammar.only g p t) k)
 marked {p = p} t e more = record { all = λ l xs. (t, calm p l e, λ y ys s a. (more y).all (opens_list y.sort) ys) }
 
 plainly : {m : Ask syntax_trees} {g : Context} {t : Mark} {k : Terminal → Plan (c_symbols syntax_trees) m} → Same m g → ((y : Terminal) → Kept (k y)) → Kept (take (grammar.only g grammar.plainly t) k)

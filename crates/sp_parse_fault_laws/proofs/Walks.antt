@@ -5,7 +5,7 @@ use Rattle.std.specs.Prelude.{Option, ⊤, ◌&&◌, ◌||◌, if◌then◌else�
 use Rattle.sp_parse_grammar.specs.CTokens as tokens
 use Rattle.sp_parse_grammar.specs.CTokens.{Sort, is_mark, is_name, is_typed, view as viewed}
 use Rattle.sp_parse_grammar.specs.CTable as grammar
-use Rattle.sp_parse_grammar.specs.CTable.{Context, Purpose, Class, ItemAnswer, Ask, Answer, at, unit, whole, c_symbols, accepts, plan}
+use Rattle.sp_parse_grammar.specs.CTable.{Context, AlsoAllowed, Class, ItemAnswer, Ask, Answer, at, unit, whole, c_symbols, accepts, plan}
 use Rattle.sp_parse_grammar.specs.Table.{Plan, done, take, call, Heads, Reads, read_done, read_take, read_call, Fails, fail_take, fail_later, fail_ask, fail_inside, fail_behind, wanted, asked}
 use Rattle.sp_parse_grammar.proofs.Readings.{front_of, fault_front}
 use Rattle.sp_parse_tokens.specs.Sorts.{Terminal}
@@ -35,7 +35,7 @@ next_named types (x ∷ xs) = is_name (viewed types x.sort)
 
 -- ---- what is known where a mark is wanted, where a part begins and behind it
 
-abbrev pub AllowedBy : Purpose → Bool → Type 0
+abbrev pub AllowedBy : AlsoAllowed → Bool → Type 0
 AllowedBy grammar.for_parameter l = l ≡ true
 AllowedBy grammar.for_member l = l ≡ false
 AllowedBy grammar.for_external l = l ≡ false
@@ -45,7 +45,7 @@ abbrev pub Allowed : Class → Bool → Type 0
 Allowed (grammar.only g p m) l = AllowedBy p l
 Allowed _ l = ⊤
 
-pub calm : (p : Purpose) (l : Bool) → is_for_type p ≡ false → AllowedBy p l
+pub calm : (p : AlsoAllowed) (l : Bool) → is_for_type p ≡ false → AllowedBy p l
 calm grammar.for_parameter l e = absurd cc
 calm grammar.for_member l e = absurd cc
 calm grammar.for_external l e = absurd cc

@@ -20,8 +20,8 @@ pub record Context : Type 0 where
 
 -- What might stand where a mark is wanted besides it: nothing that matters, a name, a parameter, a member, an external
 -- declaration, or, but for its `...`, the body of a function. It tells the kind of a fault there.
-pub data Purpose : Type 0 where
-  plainly for_name for_parameter for_member for_external for_body : Purpose
+pub data AlsoAllowed : Type 0 where
+  plainly for_name for_parameter for_member for_external for_body : AlsoAllowed
 
 -- an expression, and whether it is a unary expression, so that it may stand left of an assignment
 pub record Operand (t : Trees) : Type 0 where
@@ -42,21 +42,21 @@ pub record Declared (t : Trees) : Type 0 where
   pub tree : t.Declarator
   pub declares : Option ℕ
   pub shape : Shape
-  pub behind : Purpose
+  pub behind : AlsoAllowed
 
 -- a type name or a parameter, and what might stand behind it
 pub record Named (t : Trees) : Type 0 where
   pub tree : t.TypeName
-  pub behind : Purpose
+  pub behind : AlsoAllowed
 
 pub record Given (t : Trees) : Type 0 where
   pub tree : t.Parameter
-  pub behind : Purpose
+  pub behind : AlsoAllowed
 
 pub record Parameters (t : Trees) : Type 0 where
   pub all : t.Parameters
   pub dots : Bool
-  pub behind : Purpose
+  pub behind : AlsoAllowed
 
 pub record Inits (t : Trees) : Type 0 where
   pub all : List t.Init
@@ -66,7 +66,7 @@ pub record Inits (t : Trees) : Type 0 where
 pub record Items (t : Trees) : Type 0 where
   pub all : List t.Item
   pub names : List ℕ
-  pub behind : Purpose
+  pub behind : AlsoAllowed
 
 -- an external declaration, and the names that it makes type names
 pub record Declares (t : Trees) : Type 0 where
@@ -191,7 +191,7 @@ Answer {t} whole = List t.External
 pub data Class : Type 0 where
   any : Class
   ordinary : Context → Class
-  only : Context → Purpose → Mark → Class
+  only : Context → AlsoAllowed → Mark → Class
 
 abbrev pub accepts : {P : Type 0} {f : P → Sort} → Class → Token P f → Bool
 accepts any x = true
@@ -213,15 +213,15 @@ next k = take any k
 abbrev pub expect : {t : Trees} {m : Ask t} → Context → Mark → (TokenOf t → Plan (c_symbols t) m) → Plan (c_symbols t) m
 expect g m k = take (only g plainly m) k
 
-abbrev pub close_by : {t : Trees} {m : Ask t} → Context → Purpose → Mark → (TokenOf t → Plan (c_symbols t) m) → Plan (c_symbols t) m
+abbrev pub close_by : {t : Trees} {m : Ask t} → Context → AlsoAllowed → Mark → (TokenOf t → Plan (c_symbols t) m) → Plan (c_symbols t) m
 close_by g p m k = take (only g p m) k
 
 -- where nothing is read yet, a name may be read
-abbrev pub at_first : {A : Type 0} → List A → Purpose
+abbrev pub at_first : {A : Type 0} → List A → AlsoAllowed
 at_first [] = for_name
 at_first (x ∷ xs) = plainly
 
-abbrev pub if_missing : {A : Type 0} → Option A → Purpose
+abbrev pub if_missing : {A : Type 0} → Option A → AlsoAllowed
 if_missing None = for_name
 if_missing (Some x) = plainly
 
@@ -268,7 +268,7 @@ is_variadic variadic = true
 is_variadic _ = false
 
 -- behind a parameter without a name a name may stand
-abbrev pub behind_absent : Form → Purpose
+abbrev pub behind_absent : Form → AlsoAllowed
 behind_absent either = for_name
 behind_absent _ = plainly
 
@@ -279,11 +279,11 @@ abbrev pub named_declarator : {t : Trees} → TokenOf t → ℕ → Declared t
 named_declarator {t} x n = record { tree = t.named x; declares = Some n; shape = bare; behind = plainly }
 
 -- once `...` was read, a body can't stand
-abbrev pub closed : Purpose → Purpose
+abbrev pub closed : AlsoAllowed → AlsoAllowed
 closed for_body = for_body
 closed _ = plainly
 
-abbrev pub behind_parameters : Purpose → Bool → Purpose
+abbrev pub behind_parameters : AlsoAllowed → Bool → AlsoAllowed
 behind_parameters p true = for_body
 behind_parameters p false = closed p
 
@@ -394,7 +394,7 @@ abbrev pub no_items : {t : Trees} → Items t
 no_items = record { all = []; names = []; behind = for_name }
 
 -- behind an initialiser no body stands
-abbrev pub behind_item : {A : Type 0} → Purpose → Option A → Purpose
+abbrev pub behind_item : {A : Type 0} → AlsoAllowed → Option A → AlsoAllowed
 behind_item p None = closed p
 behind_item p (Some v) = plainly
 

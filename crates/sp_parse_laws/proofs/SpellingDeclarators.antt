@@ -15,7 +15,7 @@ use Rattle.sp_parse_trees.specs.Places.{PlacedMaybe, PlacedSpecifiers, PlacedDec
 use Rattle.sp_parse_trees.specs.Levels.{declared_name, form_name}
 use Rattle.sp_parse_trees.specs.View as view
 use Rattle.sp_parse_grammar.specs.CTokens as tokens
-use Rattle.sp_parse_grammar.specs.CTable.{Parameters, Purpose, without_parameters}
+use Rattle.sp_parse_grammar.specs.CTable.{Parameters, AlsoAllowed, without_parameters}
 use Rattle.sp_parse_tokens.specs.Sorts.{Terminal}
 use Rattle.sp_parse_tokens.specs.SyntaxTrees.{syntax_trees}
 use Rattle.sp_parse_tokens.specs.Makers as make
@@ -177,7 +177,7 @@ function_spelled us x vs z d ps l k r c = record {
 pub no_parameters_spelled : SParameters [] without_parameters
 no_parameters_spelled = record { spells = refl; places = λ at p h e. tt }
 
-pub first_parameter_spelled : (ws : List Terminal) (x : Param) (b : Purpose) → SParam ws x → SParameters ws (record { all = x ∷ []; dots = false; behind = b })
+pub first_parameter_spelled : (ws : List Terminal) (x : Param) (b : AlsoAllowed) → SParam ws x → SParameters ws (record { all = x ∷ []; dots = false; behind = b })
 first_parameter_spelled ws x b s = record { spells = append-nil (param_tokens x ++ []) ∙ append-nil (param_tokens x) ∙ s.spells; places = λ at p h e. (s.places at p h e, tt) }
 
 last_more : (p : Place) (ps : List Param) (x : Param) → make.settle_last p (ps ++ x ∷ []) ≡ ps ++ make.settle_param p x ∷ []
@@ -201,7 +201,7 @@ before_comma at us x vs ps none l h =
     let a = around at us x vs (length (params_tokens [] (view.params (make.settle_last x.what.place ps.all)))) count h in
     (a, subst (λ b. PlacedParams at (view.params (if b then ps.all else make.settle_last x.what.place ps.all))) none (l.places at x.what.place a.left (before at us x vs _ count a)))
 
-pub next_parameter_spelled : (us : List Terminal) (x : Terminal) (vs : List Terminal) (ps : Parameters syntax_trees) (q : Param) (b : Purpose) → HasSome ps.all → ps.dots ≡ false → SParameters us ps → x.what.kind ≡ kinds.Mark puncts.Comma → SParam vs q
+pub next_parameter_spelled : (us : List Terminal) (x : Terminal) (vs : List Terminal) (ps : Parameters syntax_trees) (q : Param) (b : AlsoAllowed) → HasSome ps.all → ps.dots ≡ false → SParameters us ps → x.what.kind ≡ kinds.Mark puncts.Comma → SParam vs q
     → SParameters (us ++ x ∷ vs) (record { all = make.settle_last x.what.place ps.all ++ q ∷ []; dots = false; behind = b })
 next_parameter_spelled us x vs ps q b some none l k r = record {
   spells = append-nil (params_tokens [] (view.params (make.settle_last x.what.place ps.all ++ q ∷ []))) ∙ params_spell [] (make.settle_last x.what.place ps.all) q (some_last x.what.place ps.all some)
@@ -214,7 +214,7 @@ next_parameter_spelled us x vs ps q b some none l k r = record {
       subst (λ v. PlacedParams at (view.params v)) (sym (last_more p (make.settle_last x.what.place ps.all) q)) (params_places at (make.settle_last x.what.place ps.all) (make.settle_param p q) (some_last x.what.place ps.all some) c.1 (r.places _ p c.0.right next));
 }
 
-pub dots_spelled : (us : List Terminal) (x y : Terminal) (ps : Parameters syntax_trees) (b : Purpose) → ps.dots ≡ false → SParameters us ps → x.what.kind ≡ kinds.Mark puncts.Comma → y.what.kind ≡ kinds.Mark puncts.Ellipsis
+pub dots_spelled : (us : List Terminal) (x y : Terminal) (ps : Parameters syntax_trees) (b : AlsoAllowed) → ps.dots ≡ false → SParameters us ps → x.what.kind ≡ kinds.Mark puncts.Comma → y.what.kind ≡ kinds.Mark puncts.Ellipsis
     → SParameters (us ++ x ∷ y ∷ []) (record { all = make.settle_last x.what.place ps.all; dots = true; behind = b })
 dots_spelled us x y ps b none l k j = record {
   spells = simp (map-append, settle_last_tokens x.what.place [] ps.all, sym (without_dots ps none) ∙ l.spells, k, j) refl;

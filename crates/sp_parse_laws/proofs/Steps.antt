@@ -6,7 +6,7 @@ use Rattle.sp_tree.specs.declared.token.Punct.TheVariants as puncts
 use Rattle.sp_parse_grammar.specs.CTokens as tokens
 use Rattle.sp_parse_grammar.specs.CTokens.{Sort, view, is_mark}
 use Rattle.sp_parse_grammar.specs.CTable as grammar
-use Rattle.sp_parse_grammar.specs.CTable.{Context, Purpose, Class, any, only, accepts, Ask, Answer, ItemAnswer, at, c_symbols, plan, ItemStops}
+use Rattle.sp_parse_grammar.specs.CTable.{Context, AlsoAllowed, Class, any, only, accepts, Ask, Answer, ItemAnswer, at, c_symbols, plan, ItemStops}
 use Rattle.sp_parse_grammar.specs.Table.{Plan, done, take, call, ask, Reads, read_done, read_take}
 use Rattle.sp_parse_grammar.proofs.Readings.{join, at_tokens, at_rest}
 use Rattle.sp_parse_tokens.specs.Sorts.{Terminal, sort_of}
@@ -71,7 +71,7 @@ token k b ws rest ys e takes on =
     let r = on h.first h.rest h.first_is h.rest_is in
     record { answer = r.answer; read = at_tokens (ap (λ v. v ++ rest) (sym h.whole)) (read_take (takes h.first h.first_is) r.read); holds = r.holds }
 
-pub mark : {m : Ask syntax_trees} {H : Answer m → Type 0} {g : Context} {p : Purpose} {t : tokens.Mark} {f : Terminal → Plan (c_symbols syntax_trees) m} (k : Kind) (b : List Kind) (ws rest ys : List Terminal) → kinds_at ws ≡ k ∷ b → sort_of k ≡ tokens.mark t
+pub mark : {m : Ask syntax_trees} {H : Answer m → Type 0} {g : Context} {p : AlsoAllowed} {t : tokens.Mark} {f : Terminal → Plan (c_symbols syntax_trees) m} (k : Kind) (b : List Kind) (ws rest ys : List Terminal) → kinds_at ws ≡ k ∷ b → sort_of k ≡ tokens.mark t
     → ((x : Terminal) (vs : List Terminal) → x.what.kind ≡ k → kinds_at vs ≡ b → PlanRead (f x) H (vs ++ rest) ys) → PlanRead (take (only g p t) f) H (ws ++ rest) ys
 mark {t = t} k b ws rest ys e sort on = token k b ws rest ys e (λ x is. mark_taken t x k is sort) on
 

@@ -11,19 +11,19 @@ use Rattle.sp_parse_grammar.specs.CTable.{Context, at, c_symbols, get, expect, c
 use Rattle.sp_parse_grammar.specs.Table.{Plan, done}
 use Rattle.sp_parse_tokens.specs.declared.scope.Scope.{Scope}
 use Rattle.sp_parse_tokens.specs.declared.scope.AlsoAllowed.{AlsoAllowed}
-use Rattle.sp_parse_tokens.specs.declared.scope.AlsoAllowed.TheVariants as purposes
+use Rattle.sp_parse_tokens.specs.declared.scope.AlsoAllowed.TheVariants as also
 use Rattle.sp_parse_tokens.specs.declared.part.ReadError.{ReadError}
 use Rattle.sp_parse_tokens.specs.Sorts.{Terminal, terminal, sort_of}
 use Rattle.sp_parse_tokens.specs.SyntaxTrees.{syntax_trees}
 use Rattle.sp_parse_tokens.specs.Ended.{IsEnded}
 use Rattle.sp_parse_tokens.specs.Expecting.{IsExpected, IsUnexpected}
 use Rattle.sp_parse_tokens.specs.Makers.{first_place}
-use Rattle.sp_parse_tokens.specs.Scopes.{there, purpose_seen}
+use Rattle.sp_parse_tokens.specs.Scopes.{there, allowed_seen}
 use Rattle.sp_parse_expr_steps.specs.Reading.{IsRead, IsStop}
 use Rattle.sp_parse_expr_steps.proofs.Steps.{got, finished}
 use Rattle.sp_parse_expr_steps.proofs.Parts.{IsOn, on_mark, stop_mark, stop_part}
 use Rattle.sp_parse_expr_steps.proofs.ExpressionSteps.{built, first_same}
-use Rattle.sp_parse_expr_steps.proofs.Suffixes.{purposed}
+use Rattle.sp_parse_expr_steps.proofs.Suffixes.{allowing}
 use Rattle.sp_parse_statements.specs.Parts.{Rest, IsLeft, condition, IsCondition, IsConditionStop, clause, IsClause, IsClauseStop, do_end, IsDoEnd, IsDoEndStop}
 
 abbrev Operand : Type 0
@@ -33,10 +33,10 @@ Operand = grammar.Operand syntax_trees
 
 module _ (types : List ℕ) (scope : Scope) (m : tokens.Mark) (k : Terminal → Rest (there types scope)) (first text : List Token) where
   pub left_mark : (rest : List Token) → IsLeft (there types scope) (expect (there types scope) m k) first text → (e : IsExpected types m text rest) → IsLeft (there types scope) (k (terminal e.first)) first rest
-  left_mark rest on e = on_mark types scope (there types scope) grammar.statement grammar.statement (λ a. a) m purposes.Nothing k (there types scope) first text rest on e
+  left_mark rest on e = on_mark types scope (there types scope) grammar.statement grammar.statement (λ a. a) m also.Nothing k (there types scope) first text rest on e
 
-  pub left_stop : (d : ℕ) → IsLeft (there types scope) (expect (there types scope) m k) first text → IsEnded text → (s : ReadError) → IsUnexpected types scope m purposes.Nothing text s → IsStop (there types scope) grammar.statement d first s
-  left_stop d on ended s u = stop_mark types scope (there types scope) grammar.statement grammar.statement (λ a. a) m purposes.Nothing k (there types scope) d first text on ended s u
+  pub left_stop : (d : ℕ) → IsLeft (there types scope) (expect (there types scope) m k) first text → IsEnded text → (s : ReadError) → IsUnexpected types scope m also.Nothing text s → IsStop (there types scope) grammar.statement d first s
+  left_stop d on ended s u = stop_mark types scope (there types scope) grammar.statement grammar.statement (λ a. a) m also.Nothing k (there types scope) d first text on ended s u
 
 -- the place of a mark is that of the first token
 pub mark_place : (types : List ℕ) (m : tokens.Mark) (text rest : List Token) (p : Place) → p ≡ first_place text → (e : IsExpected types m text rest) → p ≡ e.first.place
@@ -63,7 +63,7 @@ module _ (types : List ℕ) (scope : Scope) (d : ℕ) (text inner : List Token) 
     condition_got : (k : Expression → Rest (there types scope)) (first : List Token) → IsLeft (there types scope) (condition (there types scope) k) first text → IsLeft (there types scope) (expect (there types scope) tokens.closing (λ w. k o.tree)) first last_tokens
     condition_got k first on = got (condition_opened k first on) h.reads
 
-    pub condition_unclosed : (s : ReadError) → IsUnexpected types scope tokens.closing purposes.Nothing last_tokens s → IsConditionStop (there types scope) d text s
+    pub condition_unclosed : (s : ReadError) → IsUnexpected types scope tokens.closing also.Nothing last_tokens s → IsConditionStop (there types scope) d text s
     condition_unclosed s u k first on = left_stop types scope tokens.closing (λ w. k o.tree) first last_tokens (1 + d) (condition_got k first on) h.ended s u
 
     pub condition_read : (rest : List Token) → IsExpected types tokens.closing last_tokens rest → IsCondition (there types scope) d text o.tree n rest
@@ -75,7 +75,7 @@ module _ (types : List ℕ) (scope : Scope) (d : ℕ) (text inner : List Token) 
       fewer = omega (arith, h.fewer, shorter types tokens.opening text inner opens, shorter types tokens.closing last_tokens rest closes);
     }
 
-pub condition_unopened : (types : List ℕ) (scope : Scope) (d : ℕ) (text : List Token) → IsEnded text → (s : ReadError) → IsUnexpected types scope tokens.opening purposes.Nothing text s → IsConditionStop (there types scope) d text s
+pub condition_unopened : (types : List ℕ) (scope : Scope) (d : ℕ) (text : List Token) → IsEnded text → (s : ReadError) → IsUnexpected types scope tokens.opening also.Nothing text s → IsConditionStop (there types scope) d text s
 condition_unopened types scope d text ended s u k first on = left_stop types scope tokens.opening (λ z. inside_condition (there types scope) k) first text (1 + d) on ended s u
 
 -- ---- an expression where one is given
@@ -101,10 +101,10 @@ module _ (types : List ℕ) (scope : Scope) (m : tokens.Mark) (d : ℕ) (text : 
       let g = there types scope in
       stop_part g g g grammar.statement grammar.statement grammar.optional_expression (λ a. a) (λ a. close_by g (if_missing a) m (λ w. k a w)) (1 + d) d first text on (omega arith) s h
 
-  module _ (n : ℕ) (last_tokens : List Token) (v : Option Expression) (h : IsRead (there types scope) grammar.optional_expression d text v n last_tokens) (p : AlsoAllowed) (purpose : purpose_seen p ≡ if_missing v) where
-    clause_got : (k : Option Expression → Terminal → Rest (there types scope)) (first : List Token) → IsLeft (there types scope) (clause (there types scope) m k) first text → IsLeft (there types scope) (close_by (there types scope) (purpose_seen p) m (λ w. k v w)) first last_tokens
+  module _ (n : ℕ) (last_tokens : List Token) (v : Option Expression) (h : IsRead (there types scope) grammar.optional_expression d text v n last_tokens) (p : AlsoAllowed) (also_allowed : allowed_seen p ≡ if_missing v) where
+    clause_got : (k : Option Expression → Terminal → Rest (there types scope)) (first : List Token) → IsLeft (there types scope) (clause (there types scope) m k) first text → IsLeft (there types scope) (close_by (there types scope) (allowed_seen p) m (λ w. k v w)) first last_tokens
     clause_got k first on =
-        purposed (there types scope) grammar.statement grammar.statement (λ a. a) m (λ w. k v w) first last_tokens (if_missing v) (purpose_seen p) (sym purpose) (got on h.reads)
+        allowing (there types scope) grammar.statement grammar.statement (λ a. a) m (λ w. k v w) first last_tokens (if_missing v) (allowed_seen p) (sym also_allowed) (got on h.reads)
 
     pub clause_unclosed : (s : ReadError) → IsUnexpected types scope m p last_tokens s → IsClauseStop (there types scope) m d text s
     clause_unclosed s u k first on = stop_mark types scope (there types scope) grammar.statement grammar.statement (λ a. a) m p (λ w. k v w) (there types scope) (1 + d) first last_tokens (clause_got k first on) h.ended s u
@@ -125,7 +125,7 @@ module _ (types : List ℕ) (scope : Scope) (m : tokens.Mark) (d : ℕ) (text : 
 abbrev closing_do : (g : Context) (k : Expression → Terminal → Rest g) → Expression → Rest g
 closing_do g k e = expect g tokens.semicolon (λ u. k e u)
 
-pub do_unopened : (types : List ℕ) (scope : Scope) (d : ℕ) (text : List Token) → IsEnded text → (s : ReadError) → IsUnexpected types scope tokens.while purposes.Nothing text s → IsDoEndStop (there types scope) d text s
+pub do_unopened : (types : List ℕ) (scope : Scope) (d : ℕ) (text : List Token) → IsEnded text → (s : ReadError) → IsUnexpected types scope tokens.while also.Nothing text s → IsDoEndStop (there types scope) d text s
 do_unopened types scope d text ended s u k first on = left_stop types scope tokens.while (λ z. condition (there types scope) (closing_do (there types scope) k)) first text (1 + d) on ended s u
 
 module _ (types : List ℕ) (scope : Scope) (d : ℕ) (text inner : List Token) (opens : IsExpected types tokens.while text inner) where
@@ -139,7 +139,7 @@ module _ (types : List ℕ) (scope : Scope) (d : ℕ) (text inner : List Token) 
     do_got : (k : Expression → Terminal → Rest (there types scope)) (first : List Token) → IsLeft (there types scope) (do_end (there types scope) k) first text → IsLeft (there types scope) (closing_do (there types scope) k e) first last_tokens
     do_got k first on = h.leads (closing_do (there types scope) k) first (do_opened k first on)
 
-    pub do_unclosed : (s : ReadError) → IsUnexpected types scope tokens.semicolon purposes.Nothing last_tokens s → IsDoEndStop (there types scope) d text s
+    pub do_unclosed : (s : ReadError) → IsUnexpected types scope tokens.semicolon also.Nothing last_tokens s → IsDoEndStop (there types scope) d text s
     do_unclosed s u k first on = left_stop types scope tokens.semicolon (λ w. k e w) first last_tokens (1 + d) (do_got k first on) h.ended s u
 
     pub do_read : (rest : List Token) (place : Place) → place ≡ first_place last_tokens → IsExpected types tokens.semicolon last_tokens rest → IsDoEnd (there types scope) d text e place n rest

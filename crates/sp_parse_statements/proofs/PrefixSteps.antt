@@ -14,7 +14,7 @@ use Rattle.sp_parse_grammar.specs.CTable as grammar
 use Rattle.sp_parse_grammar.specs.CTable.{Context, Item, ItemAnswer, at, c_symbols, get, expect}
 use Rattle.sp_parse_grammar.specs.Table.{done}
 use Rattle.sp_parse_tokens.specs.declared.scope.Scope.{Scope}
-use Rattle.sp_parse_tokens.specs.declared.scope.AlsoAllowed.TheVariants as purposes
+use Rattle.sp_parse_tokens.specs.declared.scope.AlsoAllowed.TheVariants as also
 use Rattle.sp_parse_tokens.specs.declared.part.Operand.{Operand}
 use Rattle.sp_parse_tokens.specs.declared.part.ReadError.{ReadError}
 use Rattle.sp_parse_tokens.specs.Sorts.{Terminal, terminal, sort_of, c_tokens}
@@ -99,7 +99,7 @@ module _ (types : List ℕ) (scope : Scope) (d : ℕ) (text xs : List Token) (x 
   abbrev default_body : Terminal → Rest g
   default_body z = get g grammar.statement (λ b. done (syntax_trees.default (terminal x) b))
 
-  pub default_stop : head_of types text ≡ Before kinds.Default → IsEnded xs → (s : ReadError) → IsUnexpected types scope tokens.colon purposes.Nothing xs s → IsStop g grammar.statement d text s
+  pub default_stop : head_of types text ≡ Before kinds.Default → IsEnded xs → (s : ReadError) → IsUnexpected types scope tokens.colon also.Nothing xs s → IsStop g grammar.statement d text s
   default_stop head ended s u = subst (λ v. IsStop g grammar.statement d v s) (sym e) (left_stop types scope tokens.colon (λ z. default_body z) (x ∷ xs) xs d (default_on head) ended s u)
 
   pub default_read : 2 ≤ d → head_of types text ≡ Before kinds.Default → (rest : List Token) → IsExpected types tokens.colon xs rest → IsPrefix g d text Default 0 rest
@@ -122,7 +122,7 @@ module _ (types : List ℕ) (scope : Scope) (d : ℕ) (text xs : List Token) (x 
       subst (λ v. IsStop g grammar.statement d v s) (sym e) (stop_part g g g grammar.statement grammar.statement (grammar.level 11) (λ a. a) (λ o. expect g tokens.colon (case_body o.tree)) d (d - 1) (x ∷ xs) xs (case_on head) (omega (arith, room)) s h)
 
   module _ (head : head_of types text ≡ Before kinds.Case) (n : ℕ) (mid : List Token) (o : Operand) (h : IsRead g (grammar.level 11) (d - 1) xs (operand_seen o) n mid) where
-    pub case_unclosed : (s : ReadError) → IsUnexpected types scope tokens.colon purposes.Nothing mid s → IsStop g grammar.statement d text s
+    pub case_unclosed : (s : ReadError) → IsUnexpected types scope tokens.colon also.Nothing mid s → IsStop g grammar.statement d text s
     case_unclosed s u = subst (λ v. IsStop g grammar.statement d v s) (sym e) (left_stop types scope tokens.colon (case_body (tree_of o.tree)) (x ∷ xs) mid d (got (case_on head) h.reads) h.ended s u)
 
     pub case_read : 2 ≤ d → (rest : List Token) → IsExpected types tokens.colon mid rest → IsPrefix g d text (Case o.tree) n rest
@@ -180,7 +180,7 @@ module _ (types : List ℕ) (scope : Scope) (d : ℕ) (text xs : List Token) (x 
   pub for_on : head_of types text ≡ Before kinds.For → IsLeft g (for_rest g (terminal x)) (x ∷ xs) xs
   for_on head = first_taken g grammar.statement (x ∷ xs) xs x (view types (sort_of x.kind)) refl refl (λ y. for_rest g (terminal x)) (for_chosen g (terminal x) (is_labelled types xs) (view types (sort_of x.kind)) (head_at types text xs x (Before kinds.For) e head))
 
-  pub for_unopened : head_of types text ≡ Before kinds.For → IsEnded xs → (s : ReadError) → IsUnexpected types scope tokens.opening purposes.Nothing xs s → IsStop g grammar.statement d text s
+  pub for_unopened : head_of types text ≡ Before kinds.For → IsEnded xs → (s : ReadError) → IsUnexpected types scope tokens.opening also.Nothing xs s → IsStop g grammar.statement d text s
   for_unopened head ended s u = subst (λ v. IsStop g grammar.statement d v s) (sym e) (left_stop types scope tokens.opening (λ z. for_first) (x ∷ xs) xs d (for_on head) ended s u)
 
   -- a stop inside, of which it is known for the text from its first token

@@ -14,7 +14,7 @@ use Rattle.sp_parse_grammar.specs.CTable as grammar
 use Rattle.sp_parse_grammar.specs.CTable.{Context, at, c_symbols, get, expect, ordinary}
 use Rattle.sp_parse_grammar.specs.Table.{Plan, done, ask, Reads, wanted}
 use Rattle.sp_parse_tokens.specs.declared.scope.Scope.{Scope}
-use Rattle.sp_parse_tokens.specs.declared.scope.AlsoAllowed.TheVariants as purposes
+use Rattle.sp_parse_tokens.specs.declared.scope.AlsoAllowed.TheVariants as also
 use Rattle.sp_parse_tokens.specs.declared.part.ReadError.{ReadError}
 use Rattle.sp_parse_tokens.specs.Sorts.{Terminal, terminal, sort_of, c_tokens}
 use Rattle.sp_parse_tokens.specs.SyntaxTrees.{syntax_trees, c_table}
@@ -66,7 +66,7 @@ module _ (types : List ℕ) (scope : Scope) (d : ℕ) (text xs : List Token) (x 
   jump_on : head_of types text ≡ Simple Jump → IsLeft g (jump_rest g (terminal x)) (x ∷ xs) xs
   jump_on head = first_taken g grammar.statement (x ∷ xs) xs x (view types (sort_of x.kind)) refl refl (λ y. jump_rest g (terminal x)) (jump_chosen g (terminal x) (is_labelled types xs) (view types (sort_of x.kind)) (head_at types text xs x (Simple Jump) e head))
 
-  pub jump_stop : head_of types text ≡ Simple Jump → IsEnded xs → (s : ReadError) → IsUnexpected types scope tokens.semicolon purposes.Nothing xs s → IsStop g grammar.statement d text s
+  pub jump_stop : head_of types text ≡ Simple Jump → IsEnded xs → (s : ReadError) → IsUnexpected types scope tokens.semicolon also.Nothing xs s → IsStop g grammar.statement d text s
   jump_stop head ended s u = stop_of s (left_stop types scope tokens.semicolon (λ z. done (syntax_trees.jump (terminal x) z)) (x ∷ xs) xs d (jump_on head) ended s u)
 
   jump_depth : (b : Bool) (p q : Place) → statement_depth (statement (if b then syntax.break_out else syntax.continue_loop) p q) ≡ 1
@@ -88,10 +88,10 @@ module _ (types : List ℕ) (scope : Scope) (d : ℕ) (text xs : List Token) (x 
   goto_end n z = done (syntax_trees.goto (terminal x) n z)
 
   module _ (head : head_of types text ≡ Simple Goto) (n : Token) (ys : List Token) (f : xs ≡ n ∷ ys) where
-    pub goto_unnamed : IsEnded xs → is_name (sort_of n.kind) ≡ false → (s : ReadError) → IsFaultFor types scope purposes.Nothing xs s → IsStop g grammar.statement d text s
+    pub goto_unnamed : IsEnded xs → is_name (sort_of n.kind) ≡ false → (s : ReadError) → IsFaultFor types scope also.Nothing xs s → IsStop g grammar.statement d text s
     goto_unnamed ended other s u =
         let fails = refused (goto_on head) (ap c_tokens f) other in
-        stop_of s (stop_at types scope purposes.Nothing (wanted (ordinary g)) g grammar.statement d (x ∷ xs) xs fails (λ y. refl) ended s u)
+        stop_of s (stop_at types scope also.Nothing (wanted (ordinary g)) g grammar.statement d (x ∷ xs) xs fails (λ y. refl) ended s u)
 
     goto_named : is_name (sort_of n.kind) ≡ true → IsLeft g (expect g tokens.semicolon (goto_end (terminal n))) (x ∷ xs) ys
     goto_named stands = took_token (goto_on head) (ap c_tokens f) stands
@@ -99,7 +99,7 @@ module _ (types : List ℕ) (scope : Scope) (d : ℕ) (text xs : List Token) (x 
     pub goto_ended : IsEnded xs → is_name (sort_of n.kind) ≡ true → IsEnded ys
     goto_ended ended stands = ended_name n ys stands (subst IsEnded f ended)
 
-    pub goto_stop : is_name (sort_of n.kind) ≡ true → IsEnded ys → (s : ReadError) → IsUnexpected types scope tokens.semicolon purposes.Nothing ys s → IsStop g grammar.statement d text s
+    pub goto_stop : is_name (sort_of n.kind) ≡ true → IsEnded ys → (s : ReadError) → IsUnexpected types scope tokens.semicolon also.Nothing ys s → IsStop g grammar.statement d text s
     goto_stop stands ended s u = stop_of s (left_stop types scope tokens.semicolon (goto_end (terminal n)) (x ∷ xs) ys d (goto_named stands) ended s u)
 
     pub goto_read : is_name (sort_of n.kind) ≡ true → 1 ≤ d → (rest : List Token) (end : Place) → end ≡ first_place ys → (closes : IsExpected types tokens.semicolon ys rest) → (made : Statement) (k : ℕ) → k ≡ number_of n.kind → made ≡ statement (syntax.goto_name k) x.place end → IsTaken g grammar.statement d text made 1 rest
@@ -147,7 +147,7 @@ module _ (types : List ℕ) (scope : Scope) (d : ℕ) (text xs : List Token) (x 
     expression_got : IsLeft g (expression_end o) (x ∷ xs) mid
     expression_got = got (expression_on head) (subst (λ v. Reads c_table (at g (grammar.level 13)) (ask (at g (grammar.level 13))) (c_tokens v) o (c_tokens mid)) e h.reads)
 
-    pub expression_stop : (s : ReadError) → IsUnexpected types scope tokens.semicolon purposes.Nothing mid s → IsStop g grammar.statement d text s
+    pub expression_stop : (s : ReadError) → IsUnexpected types scope tokens.semicolon also.Nothing mid s → IsStop g grammar.statement d text s
     expression_stop s u = stop_of s (left_stop types scope tokens.semicolon (λ z. done (syntax_trees.of o.tree z)) (x ∷ xs) mid d expression_got h.ended s u)
 
     pub expression_read : 2 ≤ d → (rest : List Token) (end : Place) → end ≡ first_place mid → (closes : IsExpected types tokens.semicolon mid rest) → (made : Statement) → made ≡ statement (syntax.of o.tree) (place_of o.tree) end → IsTaken g grammar.statement d text made (1 + n) rest
@@ -195,12 +195,12 @@ module _ (types : List ℕ) (scope : Scope) (d : ℕ) (text xs : List Token) (x 
         named_got : IsBehind (named_tail g (terminal x) o) behind
         named_got = got named_first b.reads
 
-        pub named_stop : (s : ReadError) → IsUnexpected types scope tokens.semicolon purposes.Nothing behind s → IsStop g grammar.statement d text s
-        named_stop s u = stop_of s (stop_mark types scope g grammar.statement (grammar.behind_name (terminal x)) (λ v. v) tokens.semicolon purposes.Nothing (λ z. done (syntax_trees.of o.tree z)) g d (x ∷ xs) behind named_got b.ended s u)
+        pub named_stop : (s : ReadError) → IsUnexpected types scope tokens.semicolon also.Nothing behind s → IsStop g grammar.statement d text s
+        named_stop s u = stop_of s (stop_mark types scope g grammar.statement (grammar.behind_name (terminal x)) (λ v. v) tokens.semicolon also.Nothing (λ z. done (syntax_trees.of o.tree z)) g d (x ∷ xs) behind named_got b.ended s u)
 
         pub named_read : (rest : List Token) (end : Place) → end ≡ first_place behind → (closes : IsExpected types tokens.semicolon behind rest) → (made : Statement) → made ≡ statement (syntax.of o.tree) (place_of o.tree) end → IsTaken g grammar.statement d text made (1 + n) rest
         named_read rest end at_first closes made is =
-            let on = on_mark types scope g grammar.statement (grammar.behind_name (terminal x)) (λ v. v) tokens.semicolon purposes.Nothing (λ z. done (syntax_trees.of o.tree z)) g (x ∷ xs) behind rest named_got closes in
+            let on = on_mark types scope g grammar.statement (grammar.behind_name (terminal x)) (λ v. v) tokens.semicolon also.Nothing (λ z. done (syntax_trees.of o.tree z)) g (x ∷ xs) behind rest named_got closes in
             let less = shorter types tokens.semicolon behind rest closes in
             subst (λ v. IsTaken g grammar.statement d v made (1 + n) rest) (sym e) (record {
               read = built g grammar.statement d (1 + n) (x ∷ xs) rest (syntax_trees.of o.tree (terminal closes.first)) made (finished on) (expression_made o.tree behind rest end at_first closes made is) (ap (λ k. 1 + k) b.deep) (omega (arith, b.shallow, room)) closes.ended (omega (arith, a.fewer, b.fewer, less));
@@ -213,7 +213,7 @@ pub expression_stopped : (types : List ℕ) (scope : Scope) (d : ℕ) (text : Li
 expression_stopped types scope d [] ended head room s h = absurd ended
 expression_stopped types scope d (x ∷ xs) ended head room s h = expression_inner types scope d (x ∷ xs) xs x refl head (d - 1) (omega (arith, room)) s h
 
-pub expression_unclosed : (types : List ℕ) (scope : Scope) (d : ℕ) (text : List Token) → IsEnded text → head_of types text ≡ Simple Other → (n : ℕ) (o : Operand) (mid : List Token) → IsRead (there types scope) (grammar.level 13) (d - 1) text o n mid → (s : ReadError) → IsUnexpected types scope tokens.semicolon purposes.Nothing mid s → IsStop (there types scope) grammar.statement d text s
+pub expression_unclosed : (types : List ℕ) (scope : Scope) (d : ℕ) (text : List Token) → IsEnded text → head_of types text ≡ Simple Other → (n : ℕ) (o : Operand) (mid : List Token) → IsRead (there types scope) (grammar.level 13) (d - 1) text o n mid → (s : ReadError) → IsUnexpected types scope tokens.semicolon also.Nothing mid s → IsStop (there types scope) grammar.statement d text s
 expression_unclosed types scope d [] ended head n o mid h s u = absurd ended
 expression_unclosed types scope d (x ∷ xs) ended head n o mid h s u = expression_stop types scope d (x ∷ xs) xs x refl head n o mid h s u
 

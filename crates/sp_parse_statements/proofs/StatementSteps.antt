@@ -15,7 +15,7 @@ use Rattle.sp_parse_grammar.specs.CTable.{Context, at, c_symbols, get, next, clo
 use Rattle.sp_parse_grammar.specs.Table.{Plan, done}
 use Rattle.sp_parse_grammar.specs.Depth.{Nests}
 use Rattle.sp_parse_tokens.specs.declared.scope.Scope.{Scope}
-use Rattle.sp_parse_tokens.specs.declared.scope.AlsoAllowed.TheVariants as purposes
+use Rattle.sp_parse_tokens.specs.declared.scope.AlsoAllowed.TheVariants as also
 use Rattle.sp_parse_tokens.specs.declared.part.Part.{Part}
 use Rattle.sp_parse_tokens.specs.declared.part.ReadError.{ReadError}
 use Rattle.sp_parse_tokens.specs.declared.part.ReadError.TheVariants as stops
@@ -199,8 +199,8 @@ module _ (types : List ℕ) (scope : Scope) (d : ℕ) (text : List Token) (room 
         stop_part f h within i j (grammar.statements []) m (λ ss. close_by within grammar.for_name tokens.unbrace (λ z. k ds ss z)) d (d - 1) first mid (got on a.reads) (omega (arith, down2, room)) s w
 
     module _ (n : ℕ) (ss : List Statement) (last_tokens : List Token) (b : IsRead within (grammar.statements []) (d - 1) mid ss n last_tokens) where
-      pub compound_third : (s : ReadError) → IsUnexpected types scope tokens.unbrace purposes.Name last_tokens s → IsCompoundStop within d text s
-      compound_third s u f h i j m k first on down1 down2 = stop_mark types scope h i j m tokens.unbrace purposes.Name (λ z. k ds ss z) f d first last_tokens (got (got on a.reads) b.reads) b.ended s u
+      pub compound_third : (s : ReadError) → IsUnexpected types scope tokens.unbrace also.Name last_tokens s → IsCompoundStop within d text s
+      compound_third s u f h i j m k first on down1 down2 = stop_mark types scope h i j m tokens.unbrace also.Name (λ z. k ds ss z) f d first last_tokens (got (got on a.reads) b.reads) b.ended s u
 
       pub compound_read : (rest : List Token) (start end : Place) (q : ℕ) (made : Statement) → end ≡ first_place last_tokens → IsExpected types tokens.unbrace last_tokens rest → q ≡ 1 + max l n → made ≡ statement (syntax.block (declarations ds) (all_statements ss)) start end → IsCompound within d start text made q rest
       compound_read rest start end q made at_first closes deepest same = record {
@@ -208,7 +208,7 @@ module _ (types : List ℕ) (scope : Scope) (d : ℕ) (text : List Token) (room 
         statements = ss;
         mark = closes.first;
         makes = same ∙ ap (λ v. statement (syntax.block (declarations ds) (all_statements ss)) start v) (mark_place types tokens.unbrace last_tokens rest end at_first closes);
-        leads = λ f h i j m k first on. on_mark types scope h i j m tokens.unbrace purposes.Name (λ z. k ds ss z) f first last_tokens rest (got (got on a.reads) b.reads) closes;
+        leads = λ f h i j m k first on. on_mark types scope h i j m tokens.unbrace also.Name (λ z. k ds ss z) f first last_tokens rest (got (got on a.reads) b.reads) closes;
         deep = omega (arith, deepest, a.deep, b.deep, ap (λ v. statement_depth v) same);
         shallow = omega (arith, deepest, a.shallow, b.shallow, room);
         ended = closes.ended;

@@ -7,7 +7,7 @@ ghost use Rattle.sp_parse_trees.specs.View.{tree_of};
 ghost use Rattle.sp_parse_tokens.specs.Codes.{mark_seen};
 ghost use Rattle.sp_parse_tokens.specs.Ended.{IsEnded};
 ghost use Rattle.sp_parse_tokens.specs.Makers.{first_place};
-ghost use Rattle.sp_parse_tokens.specs.Scopes.{context_of, purpose_seen};
+ghost use Rattle.sp_parse_tokens.specs.Scopes.{context_of, allowed_seen};
 ghost use Rattle.sp_parse_expr_steps.specs.Reading.{Answers};
 ghost use Rattle.sp_parse_statements.specs.Parts.{IsCondition, IsConditionStop, IsClause, IsClauseStop, IsDoEnd, IsDoEndStop};
 
@@ -99,7 +99,7 @@ pub(crate) fn read_optional<'a>(
 
 /// What might be after an expression, or where there is none: a name.
 fn if_missing(value: &Option<Expr>) -> AlsoAllowed
-    ensures { purpose_seen result ≡ grammar.if_missing (option_map tree_of value.now) }
+    ensures { allowed_seen result ≡ grammar.if_missing (option_map tree_of value.now) }
 {
     match value {
         Some(_) => AlsoAllowed::Nothing,

@@ -6,7 +6,7 @@ use Rattle.sp_tree.specs.declared.fault.FaultKind.TheVariants.{UnexpectedToken, 
 use Rattle.sp_parse_tokens.specs.declared.scope.Scope.{Scope}
 use Rattle.sp_parse_tokens.specs.declared.scope.Context.{Context as CodeContext}
 use Rattle.sp_parse_tokens.specs.declared.scope.AlsoAllowed.{AlsoAllowed}
-use Rattle.sp_parse_tokens.specs.declared.scope.AlsoAllowed.TheVariants as purposes
+use Rattle.sp_parse_tokens.specs.declared.scope.AlsoAllowed.TheVariants as also
 use Rattle.sp_parse_grammar.specs.CTokens as tokens
 use Rattle.sp_parse_grammar.specs.CTokens.{Sort, is_mark, is_name}
 use Rattle.sp_parse_grammar.specs.CTable as grammar
@@ -20,28 +20,28 @@ there types scope = record { types = types; inside = scope.in_function; members 
 abbrev pub context_of : CodeContext → Context
 context_of c = there c.types.now c.scope
 
-abbrev pub purpose_seen : AlsoAllowed → grammar.Purpose
-purpose_seen purposes.Nothing = grammar.plainly
-purpose_seen purposes.Name = grammar.for_name
-purpose_seen purposes.Parameter = grammar.for_parameter
-purpose_seen purposes.TypeSpecifier = grammar.for_member
-purpose_seen purposes.Body = grammar.for_body
+abbrev pub allowed_seen : AlsoAllowed → grammar.AlsoAllowed
+allowed_seen also.Nothing = grammar.plainly
+allowed_seen also.Name = grammar.for_name
+allowed_seen also.Parameter = grammar.for_parameter
+allowed_seen also.TypeSpecifier = grammar.for_member
+allowed_seen also.Body = grammar.for_body
 
 abbrev pub for_parameter : AlsoAllowed → Bool
-for_parameter purposes.Parameter = true
+for_parameter also.Parameter = true
 for_parameter _ = false
 
 abbrev pub for_type : AlsoAllowed → Bool
-for_type purposes.Parameter = true
-for_type purposes.TypeSpecifier = true
+for_type also.Parameter = true
+for_type also.TypeSpecifier = true
 for_type _ = false
 
 abbrev pub for_body : AlsoAllowed → Bool
-for_body purposes.Body = true
+for_body also.Body = true
 for_body _ = false
 
 abbrev pub for_name : AlsoAllowed → Bool
-for_name purposes.Name = true
+for_name also.Name = true
 for_name _ = false
 
 -- the kind of the fault at a token of this sort

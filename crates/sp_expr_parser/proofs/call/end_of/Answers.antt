@@ -1,5 +1,5 @@
 use Rattle.std.proofs.Common.{sym, subst}
-use Rattle.sp_parse_tokens.specs.Scopes.{purpose_seen}
+use Rattle.sp_parse_tokens.specs.Scopes.{allowed_seen}
 use Rattle.sp_parse_expr_steps.specs.Reading.{operand_seen}
 use Rattle.sp_parse_expr_steps.specs.Declaring.{declared_seen}
 use Rattle.sp_expr_parser.specs.declared.call.Call.TheVariants as calls
@@ -17,7 +17,7 @@ pub returns-in-Ok-type_name_part : goal.returns-in-Ok-type_name_part
 returns-in-Ok-type_name_part c =
     let part = c.in-Ok-type_name_part.part in
     let h = c.in-Ok-type_name_part.ensures in
-    let end : IsEnd calls.TypeName c.args.types.now c.args.tokens.now part.rest.now = record { answer = record { tree = h.pending; behind = purpose_seen part.tree.behind }; reads = h.read.reads; ended = h.read.ended } in
+    let end : IsEnd calls.TypeName c.args.types.now c.args.tokens.now part.rest.now = record { answer = record { tree = h.pending; behind = allowed_seen part.tree.behind }; reads = h.read.reads; ended = h.read.ended } in
     subst (λ v. IsEnd v c.args.types.now c.args.tokens.now part.rest.now) (sym c.in-TypeName.is) end
 
 pub returns-in-Ok-specifiers_part : goal.returns-in-Ok-specifiers_part

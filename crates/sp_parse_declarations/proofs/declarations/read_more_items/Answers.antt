@@ -5,7 +5,7 @@ use Rattle.sp_parse_grammar.specs.CTokens as sorts_there
 use Rattle.sp_parse_grammar.specs.CTable as grammar
 use Rattle.sp_parse_grammar.specs.CTable.{begins_items, begins_specifiers}
 use Rattle.sp_parse_tokens.specs.Sorts.{c_tokens}
-use Rattle.sp_parse_tokens.specs.Scopes.{there, purpose_seen}
+use Rattle.sp_parse_tokens.specs.Scopes.{there, allowed_seen}
 use Rattle.sp_parse_expr_steps.specs.Reading.{IsStep}
 use Rattle.sp_parse_expr_steps.proofs.Steps.{begun}
 use Rattle.sp_parse_expr_steps.proofs.Parts.{stop_part}
@@ -25,7 +25,7 @@ items-init c =
     let first = item_part c.args.first in
     let all : map item_seen c.push.new.self.items ≡ first.all = ap (λ v. map item_seen v) (c.in_ok-push.ensures.items ∙ ap (λ v. v ++ c.args.first.tree ∷ []) c.in_ok-all.ensures.items) in
     let names : c.add_name.new.names.items ≡ first.names = c.in_ok-add_name.ensures.ok ∙ ap (λ v. v ++ grammar.with_name c.args.first.declares []) c.new-names.ensures.items in
-    let same : several (map item_seen c.push.new.self.items) c.add_name.new.names.items (purpose_seen c.args.first.behind) ≡ first = several_same all names refl in
+    let same : several (map item_seen c.push.new.self.items) c.add_name.new.names.items (allowed_seen c.args.first.behind) ≡ first = several_same all names refl in
     record {
       step = subst (λ v. IsStep g (grammar.more_items first) (grammar.more_items v) (λ a. a) c.args.tokens.now c.args.tokens.now) (sym same) (begun (grammar.at g (grammar.more_items first)) (c_tokens c.args.tokens.now));
       deep = subst (λ v. c.args.inner ≡ items_depth (all_items v)) (sym all) c.requires.deep;
@@ -41,7 +41,7 @@ returns-in_err-next c =
     let i = c.items.invariant in
     let x = c.next_token.result.0 in
     let xs = c.next_token.result.1.now in
-    let is = several (map item_seen c.items.all.items) c.items.names.items (purpose_seen c.items.behind) in
+    let is = several (map item_seen c.items.all.items) c.items.names.items (allowed_seen c.items.behind) in
     let stands = sym (c.is_mark.ensures ∙ ap (λ s. is_mark sorts_there.comma s) c.sort_at.ensures) ∙ c.if-not-is_mark.false in
     rw (p.1, p.2) (stop_part g g g (grammar.more_items (item_part c.args.first)) (grammar.more_items is) grammar.item (λ a. a) (steps.items_more g is) c.args.depth c.args.depth c.args.tokens.now xs (steps.items_on g (item_part c.args.first) is c.args.tokens.now c.items.rest.now xs x i.step c.next_token.ensures stands) (omega arith) c.in_err-next.field-0.0 c.in_err-next.ensures)
 
@@ -51,7 +51,7 @@ items-preserved c =
     let i = c.items.invariant in
     let x = c.next_token.result.0 in
     let xs = c.next_token.result.1.now in
-    let is = several (map item_seen c.items.all.items) c.items.names.items (purpose_seen c.items.behind) in
+    let is = several (map item_seen c.items.all.items) c.items.names.items (allowed_seen c.items.behind) in
     let next = c.in_ok-next.next in
     let h = c.in_ok-next.ensures in
     let stands = sym (c.is_mark.ensures ∙ ap (λ s. is_mark sorts_there.comma s) c.sort_at.ensures) ∙ c.if-not-is_mark.false in
@@ -60,7 +60,7 @@ items-preserved c =
     let same = several_same all names refl in
     let shorter : length c.items.rest.now ≡ length (x ∷ xs) = ap length c.next_token.ensures in
     record {
-      step = steps.items_step g (item_part c.args.first) is c.args.tokens.now c.items.rest.now xs x i.step c.next_token.ensures (item_part next.tree) (several (map item_seen c.push-in-items.new.self.items) c.add_name-in-items.new.names.items (purpose_seen next.tree.behind)) next.rest.now stands h.reads same;
+      step = steps.items_step g (item_part c.args.first) is c.args.tokens.now c.items.rest.now xs x i.step c.next_token.ensures (item_part next.tree) (several (map item_seen c.push-in-items.new.self.items) c.add_name-in-items.new.names.items (allowed_seen next.tree.behind)) next.rest.now stands h.reads same;
       deep = subst (λ v. c.max-reached.result ≡ items_depth (all_items v)) (sym all) (omega (arith, c.max-reached.ensures, i.deep, h.deep, items_both is.all (item_seen next.tree.tree ∷ [])));
       shallow = omega (arith, c.max-reached.ensures, i.shallow, h.shallow);
       ended = h.ended;
@@ -71,6 +71,6 @@ pub returns : goal.returns
 returns c =
     let g = there c.args.context.types.now c.args.context.scope in
     let i = c.items.invariant in
-    let is = several (map item_seen c.items.all.items) c.items.names.items (purpose_seen c.items.behind) in
+    let is = several (map item_seen c.items.all.items) c.items.names.items (allowed_seen c.items.behind) in
     let other = sym (c.is_mark.ensures ∙ ap (λ s. is_mark sorts_there.comma s) c.sort_at.ensures) ∙ c.if-not-is_mark.true in
     rw c.shrink_to_fit.ensures.items (steps.items_end g (item_part c.args.first) is c.args.tokens.now c.items.rest.now c.next_token.result.1.now c.next_token.result.0 i.step c.next_token.ensures c.args.depth c.items.reached other i.deep i.shallow i.ended i.fewer)

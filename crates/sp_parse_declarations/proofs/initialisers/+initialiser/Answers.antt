@@ -15,7 +15,7 @@ use Rattle.sp_parse_grammar.specs.Table.{done}
 use Rattle.sp_parse_tokens.specs.Sorts.{terminal, sort_of, c_tokens}
 use Rattle.sp_parse_tokens.specs.SyntaxTrees.{syntax_trees}
 use Rattle.sp_parse_tokens.specs.Ended.{IsEnded}
-use Rattle.sp_parse_tokens.specs.Scopes.{there, purpose_seen}
+use Rattle.sp_parse_tokens.specs.Scopes.{there, allowed_seen}
 use Rattle.sp_parse_tokens.proofs.Settled.{inits_snoc}
 use Rattle.sp_parse_expr_steps.specs.Reading.{IsStep, operand_seen}
 use Rattle.sp_parse_expr_steps.proofs.Steps.{begun, got, last}
@@ -23,7 +23,7 @@ use Rattle.sp_parse_expr_steps.proofs.Parts.{stop_part, stop_mark}
 use Rattle.sp_parse_expr_steps.proofs.Marks.{brace_is}
 use Rattle.sp_parse_expr_steps.proofs.ListSteps.{map_more}
 use Rattle.sp_parse_expr_steps.proofs.ParameterSteps.{ended_comma}
-use Rattle.sp_parse_expr_steps.proofs.Suffixes.{purposed}
+use Rattle.sp_parse_expr_steps.proofs.Suffixes.{allowing}
 use Rattle.sp_parse_declarations.specs.Seen.{init_seen, inits_seen}
 use Rattle.sp_parse_declarations.proofs.InitSteps.{single_on, single_read, braced_on, braced_deep, braced_more, braced_close, braced_done, braced_read, inits_more, inits_end, inits_comma, inits_last, inits_on}
 use Rattle.sp_parse_declarations.proofs.initialisers.+initialiser.Goals as goal
@@ -78,9 +78,9 @@ read_init-returns-in_err-rest t c =
     let h = c.in_ok-list.ensures in
     let is = brace_is (view g.types (sort_of x.kind)) (sym (c.is_mark.ensures ∙ ap (λ s. is_mark sorts_there.brace s) c.sort_at.ensures) ∙ c.if-not-is_mark.false) in
     let on = got (got (braced_on g c.args.tokens.now c.next_token.result.1.now x c.next_token.ensures (sym is)) c.in_ok-first.ensures.read.reads) h.reads in
-    let purpose = c.purpose_after-purpose.result in
-    let here = purposed g grammar.init grammar.init (λ a. a) sorts_there.unbrace (braced_done g (terminal x) (inits_seen list.tree)) c.args.tokens.now list.rest.now (if list.tree.comma then grammar.for_name else grammar.plainly) (purpose_seen purpose) (sym c.purpose_after-purpose.ensures) on in
-    rw (p.1, p.2) (stop_mark types c.args.context.scope g grammar.init grammar.init (λ a. a) sorts_there.unbrace purpose (braced_done g (terminal x) (inits_seen list.tree)) g c.args.depth c.args.tokens.now list.rest.now here h.ended c.in_err-rest.field-0.0 c.in_err-rest.ensures)
+    let also_allowed = c.allowed_after-also_allowed.result in
+    let here = allowing g grammar.init grammar.init (λ a. a) sorts_there.unbrace (braced_done g (terminal x) (inits_seen list.tree)) c.args.tokens.now list.rest.now (if list.tree.comma then grammar.for_name else grammar.plainly) (allowed_seen also_allowed) (sym c.allowed_after-also_allowed.ensures) on in
+    rw (p.1, p.2) (stop_mark types c.args.context.scope g grammar.init grammar.init (λ a. a) sorts_there.unbrace also_allowed (braced_done g (terminal x) (inits_seen list.tree)) g c.args.depth c.args.tokens.now list.rest.now here h.ended c.in_err-rest.field-0.0 c.in_err-rest.ensures)
 
 pub read_init-returns : goal.read_init-returns
 read_init-returns t c =
@@ -91,7 +91,7 @@ read_init-returns t c =
     let list = c.in_ok-list.list in
     let is = brace_is (view g.types (sort_of x.kind)) (sym (c.is_mark.ensures ∙ ap (λ s. is_mark sorts_there.brace s) c.sort_at.ensures) ∙ c.if-not-is_mark.false) in
     let makes : init_seen (List list.tree.all list.tree.comma) ≡ syntax.list (inits (map init_seen list.tree.all.items)) list.tree.comma = rw (sym (rolls-List list.tree.all list.tree.comma)) (rw fold-roll-Init refl) in
-    braced_read types c.args.context.scope c.args.depth first.depth list.depth c.args.tokens.now c.next_token.result.1.now first.rest.now list.rest.now c.in_ok-rest.rest.now x (init_seen first.tree) (inits_seen list.tree) (init_seen (List list.tree.all list.tree.comma)) c.purpose_after-purpose.result c.next_token.ensures (sym is) c.requires.room c.in_ok-first.ensures c.in_ok-list.ensures (sym c.purpose_after-purpose.ensures) c.in_ok-rest.ensures makes
+    braced_read types c.args.context.scope c.args.depth first.depth list.depth c.args.tokens.now c.next_token.result.1.now first.rest.now list.rest.now c.in_ok-rest.rest.now x (init_seen first.tree) (inits_seen list.tree) (init_seen (List list.tree.all list.tree.comma)) c.allowed_after-also_allowed.result c.next_token.ensures (sym is) c.requires.room c.in_ok-first.ensures c.in_ok-list.ensures (sym c.allowed_after-also_allowed.ensures) c.in_ok-rest.ensures makes
 
 pub read_inits-inits-init : goal.read_inits-inits-init
 read_inits-inits-init t c =

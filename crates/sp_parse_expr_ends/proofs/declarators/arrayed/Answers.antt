@@ -16,8 +16,8 @@ returns-in_err-rest c =
       size_depth = c.in_ok-length.length.depth;
       mid = c.in_ok-length.length.rest.now;
       read = MatchResult-at_ok _ _ _ c.in_ok-length.ensures.0 c.requires.read;
-      purpose = c.length_purpose-purpose.result;
-      wanted = c.length_purpose-purpose.ensures;
+      also_allowed = c.length_allowed-also_allowed.result;
+      wanted = c.length_allowed-also_allowed.ensures;
       why = MatchResult-at_err _ _ _ c.in_err-rest.ensures c.expect-next.ensures;
     }))
 

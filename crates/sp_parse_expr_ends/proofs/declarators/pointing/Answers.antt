@@ -4,7 +4,7 @@ use Rattle.std.proofs.lemmas.Result.{err_from_is_err_and, MatchResult-at_ok, Mat
 use Rattle.sp_parse_trees.specs.View.{declarator_of}
 use Rattle.sp_parse_grammar.specs.CTable as grammar
 use Rattle.sp_parse_tokens.specs.Sorts.{terminal}
-use Rattle.sp_parse_tokens.specs.Scopes.{there, purpose_seen}
+use Rattle.sp_parse_tokens.specs.Scopes.{there, allowed_seen}
 use Rattle.sp_parse_expr_steps.specs.Declaring.{form_seen, declared_seen}
 use Rattle.sp_parse_expr_steps.proofs.DeclaratorSteps.{behind_qualifiers, declared_same}
 use Rattle.sp_parse_expr_steps.proofs.Qualifiers.{words_of}
@@ -37,7 +37,7 @@ returns c =
       inner = inner;
       inner_depth = c.in_ok-inner.inner.depth;
       read = h.read;
-      seen = declared_same (declared_seen d made.tree) made refl p.1 p.2 (ap purpose_seen p.3);
+      seen = declared_same (declared_seen d made.tree) made refl p.1 p.2 (ap allowed_seen p.3);
       settled = p.0 ∙ (words ∙ ap (λ v. declarator (pointer ks v) star.place) h.settled);
       named = λ e. sym (p.0 ∙ (words ∙ ap (λ v. declarator (pointer ks v) star.place) (sym (h.named (ap is_some (sym p.1) ∙ e)))));
       deeper = refl;

@@ -7,7 +7,7 @@ use Rattle.sp_parse_grammar.specs.CTable as grammar
 use Rattle.sp_parse_grammar.specs.CTable.{get, operand}
 use Rattle.sp_parse_tokens.specs.Sorts.{terminal, c_tokens}
 use Rattle.sp_parse_tokens.specs.SyntaxTrees.{syntax_trees}
-use Rattle.sp_parse_tokens.specs.declared.scope.AlsoAllowed.TheVariants as purposes
+use Rattle.sp_parse_tokens.specs.declared.scope.AlsoAllowed.TheVariants as also
 use Rattle.sp_parse_tokens.specs.Scopes.{there}
 use Rattle.sp_parse_expr_steps.specs.Reading.{operand_seen}
 use Rattle.sp_parse_expr_steps.proofs.Steps.{begun, got, finished}
@@ -27,7 +27,7 @@ returns-in_err-second c =
     let on = after_on g 11 l l (x ∷ xs) (x ∷ xs) xs x (begun (grammar.at g (grammar.after 11 l)) (c_tokens (x ∷ xs))) refl (choice_body g l (terminal x)) c.requires.operator (choice_plan g l x c.requires.operator) in
     let f = c.requires.first in
     let a = operand_seen c.args.first.tree in
-    let behind = on_mark types c.args.context.scope g (grammar.after 11 l) (grammar.after 11 l) (λ o. o) sorts_there.colon purposes.Nothing (λ z. get g (grammar.level 11) (choice_done g l (terminal x) a)) g (x ∷ xs) f.mid c.args.first.rest.now (got on f.read.reads) f.closes in
+    let behind = on_mark types c.args.context.scope g (grammar.after 11 l) (grammar.after 11 l) (λ o. o) sorts_there.colon also.Nothing (λ z. get g (grammar.level 11) (choice_done g l (terminal x) a)) g (x ∷ xs) f.mid c.args.first.rest.now (got on f.read.reads) f.closes in
     rw (p.1, p.2) (stop_part g g g (grammar.after 11 l) (grammar.after 11 l) (grammar.level 11) (λ o. o) (choice_done g l (terminal x) a) c.args.depth (c.args.depth - 1) (x ∷ xs) c.args.first.rest.now behind (omega arith) c.in_err-second.field-0.0 (MatchResult-at_err _ _ _ c.in_err-second.ensures c.requires.read))
 
 pub returns : goal.returns
@@ -44,7 +44,7 @@ returns c =
     let a = operand_seen c.args.first.tree in
     let b = operand_seen c.in_ok-second.second.tree in
     let made = syntax_trees.choice (terminal x) l.tree a.tree b.tree in
-    let behind = on_mark types c.args.context.scope g (grammar.after 11 l) (grammar.after 11 l) (λ o. o) sorts_there.colon purposes.Nothing (λ z. get g (grammar.level 11) (choice_done g l (terminal x) a)) g (x ∷ xs) f.mid c.args.first.rest.now (got on h.reads) f.closes in
+    let behind = on_mark types c.args.context.scope g (grammar.after 11 l) (grammar.after 11 l) (λ o. o) sorts_there.colon also.Nothing (λ z. get g (grammar.level 11) (choice_done g l (terminal x) a)) g (x ∷ xs) f.mid c.args.first.rest.now (got on h.reads) f.closes in
     let same : tree_of c.in_ok-tree.tree ≡ made = c.in_ok-tree.ensures ∙ ap (λ v. syntax_trees.choice (terminal x) (tree_of v.0) (tree_of v.1) b.tree) c.in_ok-second.ensures.1 in
     let less : length f.mid ≡ length (f.closes.first ∷ c.args.first.rest.now) = ap length f.closes.whole in
     let deep : 1 + c.max-2.result ≡ depth_of made = omega (arith, c.max-2.ensures, c.max.ensures, c.requires.deep, h.deep, w.deep) in

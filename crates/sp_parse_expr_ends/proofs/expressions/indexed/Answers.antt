@@ -7,7 +7,7 @@ use Rattle.sp_parse_grammar.specs.CTokens as sorts_there
 use Rattle.sp_parse_grammar.specs.CTable as grammar
 use Rattle.sp_parse_tokens.specs.Sorts.{terminal, sort_of}
 use Rattle.sp_parse_tokens.specs.SyntaxTrees.{syntax_trees}
-use Rattle.sp_parse_tokens.specs.declared.scope.AlsoAllowed.TheVariants as purposes
+use Rattle.sp_parse_tokens.specs.declared.scope.AlsoAllowed.TheVariants as also
 use Rattle.sp_parse_tokens.specs.Scopes.{there}
 use Rattle.sp_parse_expr_steps.proofs.Steps.{got, last}
 use Rattle.sp_parse_expr_steps.proofs.Parts.{stop_part, stop_mark, on_mark}
@@ -35,7 +35,7 @@ returns-in_err-rest c =
     let is = bracket_is (view types (sort_of x.kind)) c.requires.opening in
     let h = MatchResult-at_ok _ _ _ c.in_ok-index.ensures.0 c.requires.read in
     let o = tree_of c.in_ok-index.index.tree.tree in
-    rw (p.1, p.2) (stop_mark types c.args.context.scope g (grammar.suffixes e) (grammar.suffixes e) (λ a. a) sorts_there.unbracket purposes.Nothing (index_more g e (terminal x) o) g c.args.depth (x ∷ c.args.tokens.now) c.in_ok-index.index.rest.now (got (index_on g e x c.args.tokens.now (sym is)) h.reads) h.ended c.in_err-rest.field-0.0 (MatchResult-at_err _ _ _ c.in_err-rest.ensures c.expect-next.ensures))
+    rw (p.1, p.2) (stop_mark types c.args.context.scope g (grammar.suffixes e) (grammar.suffixes e) (λ a. a) sorts_there.unbracket also.Nothing (index_more g e (terminal x) o) g c.args.depth (x ∷ c.args.tokens.now) c.in_ok-index.index.rest.now (got (index_on g e x c.args.tokens.now (sym is)) h.reads) h.ended c.in_err-rest.field-0.0 (MatchResult-at_err _ _ _ c.in_err-rest.ensures c.expect-next.ensures))
 
 pub returns : goal.returns
 returns c =
@@ -48,7 +48,7 @@ returns c =
     let o = tree_of c.in_ok-index.index.tree.tree in
     let closes = MatchResult-at_ok _ _ _ c.in_ok-rest.ensures.0 c.expect-next.ensures in
     let made = syntax_trees.index e (terminal x) o in
-    let behind = on_mark types c.args.context.scope g (grammar.suffixes e) (grammar.suffixes e) (λ a. a) sorts_there.unbracket purposes.Nothing (index_more g e (terminal x) o) g (x ∷ c.args.tokens.now) c.in_ok-index.index.rest.now c.in_ok-rest.rest.now (got (index_on g e x c.args.tokens.now (sym is)) h.reads) closes in
+    let behind = on_mark types c.args.context.scope g (grammar.suffixes e) (grammar.suffixes e) (λ a. a) sorts_there.unbracket also.Nothing (index_more g e (terminal x) o) g (x ∷ c.args.tokens.now) c.in_ok-index.index.rest.now c.in_ok-rest.rest.now (got (index_on g e x c.args.tokens.now (sym is)) h.reads) closes in
     let less : length c.in_ok-index.index.rest.now ≡ length (closes.first ∷ c.in_ok-rest.rest.now) = ap length closes.whole in
     let deep : 1 + c.max.result ≡ depth_of made = omega (arith, c.max.ensures, c.requires.deep, h.deep) in
     suffixed g e made (tree_of c.in_ok-tree.tree) c.args.depth (1 + c.max.result) (x ∷ c.args.tokens.now) c.in_ok-rest.rest.now (last behind) (c.in_ok-tree.ensures ∙ ap (λ v. syntax_trees.index (tree_of v.0) (terminal x) (tree_of v.1)) c.in_ok-rest.ensures.1 ∙ ap (λ v. syntax_trees.index (tree_of v) (terminal x) o) c.in_ok-index.ensures.1) deep (omega (arith, c.max.ensures, h.shallow, c.requires.shallow)) closes.ended (omega (arith, h.fewer, less))

@@ -4,7 +4,7 @@ use Rattle.sp_parse_grammar.specs.CTokens as sorts_there
 use Rattle.sp_parse_grammar.specs.CTable as grammar
 use Rattle.sp_parse_grammar.specs.CTable.{get}
 use Rattle.sp_parse_tokens.specs.Sorts.{terminal, c_tokens}
-use Rattle.sp_parse_tokens.specs.declared.scope.AlsoAllowed.TheVariants as purposes
+use Rattle.sp_parse_tokens.specs.declared.scope.AlsoAllowed.TheVariants as also
 use Rattle.sp_parse_tokens.specs.Scopes.{there}
 use Rattle.sp_parse_expr_steps.specs.Reading.{IsRead, operand_seen}
 use Rattle.sp_parse_expr_steps.proofs.Steps.{begun, got}
@@ -34,7 +34,7 @@ returns-in_err-rest c =
     let on = after_on g 11 l l (x ∷ xs) (x ∷ xs) xs x (begun (grammar.at g (grammar.after 11 l)) (c_tokens (x ∷ xs))) refl (choice_body g l (terminal x)) c.requires.operator (choice_plan g l x c.requires.operator) in
     let h = MatchResult-at_ok _ _ _ c.in_ok-first.ensures.0 c.requires.read in
     let a = operand_seen c.in_ok-first.first.tree in
-    rw (p.1, p.2) (stop_mark types c.args.context.scope g (grammar.after 11 l) (grammar.after 11 l) (λ o. o) sorts_there.colon purposes.Nothing (λ z. get g (grammar.level 11) (choice_done g l (terminal x) a)) g c.args.depth (x ∷ xs) c.in_ok-first.first.rest.now (got on h.reads) h.ended c.in_err-rest.field-0.0 (MatchResult-at_err _ _ _ c.in_err-rest.ensures c.expect-next.ensures))
+    rw (p.1, p.2) (stop_mark types c.args.context.scope g (grammar.after 11 l) (grammar.after 11 l) (λ o. o) sorts_there.colon also.Nothing (λ z. get g (grammar.level 11) (choice_done g l (terminal x) a)) g c.args.depth (x ∷ xs) c.in_ok-first.first.rest.now (got on h.reads) h.ended c.in_err-rest.field-0.0 (MatchResult-at_err _ _ _ c.in_err-rest.ensures c.expect-next.ensures))
 
 pub returns : goal.returns
 returns c =

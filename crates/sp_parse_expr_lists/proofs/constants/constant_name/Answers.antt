@@ -7,7 +7,7 @@ use Rattle.sp_parse_tokens.specs.SyntaxTrees.{syntax_trees}
 use Rattle.sp_parse_tokens.specs.Ended.{IsEnded}
 use Rattle.sp_parse_tokens.specs.Codes.{sort_seen}
 use Rattle.sp_parse_tokens.specs.Scopes.{there}
-use Rattle.sp_parse_tokens.specs.declared.scope.AlsoAllowed.TheVariants as purposes
+use Rattle.sp_parse_tokens.specs.declared.scope.AlsoAllowed.TheVariants as also
 use Rattle.sp_parse_tokens.proofs.Viewing.{ended_other}
 use Rattle.sp_parse_expr_steps.proofs.Steps.{begun}
 use Rattle.sp_parse_expr_steps.proofs.ExpressionSteps.{built}
@@ -24,7 +24,7 @@ returns-in_default c =
     let g = there types c.args.context.scope in
     let x = c.next_token.result.0 in
     let none = subst {0, 0} (λ v. grammar.plan {t = syntax_trees} g grammar.enumerator (terminal x) v ≡ None) c.sort_at.ensures (enumerator_none g (terminal x) c.sort_at.result c.in_default.not-Name) in
-    stop_unread types c.args.context.scope purposes.Name grammar.enumerator grammar.enumerator (λ a. a) c.args.depth c.args.tokens.now c.args.tokens.now c.next_token.result.1.now x (begun (grammar.at g grammar.enumerator) (c_tokens c.args.tokens.now)) c.next_token.ensures none (λ y. refl) c.requires c.fault.result c.fault.ensures
+    stop_unread types c.args.context.scope also.Name grammar.enumerator grammar.enumerator (λ a. a) c.args.depth c.args.tokens.now c.args.tokens.now c.next_token.result.1.now x (begun (grammar.at g grammar.enumerator) (c_tokens c.args.tokens.now)) c.next_token.ensures none (λ y. refl) c.requires c.fault.result c.fault.ensures
 
 pub returns-then-not-is_mark : goal.returns-then-not-is_mark
 returns-then-not-is_mark c =

@@ -4,7 +4,7 @@ use Rattle.sp_parse_grammar.specs.CTokens as sorts_there
 use Rattle.sp_parse_grammar.specs.CTable as grammar
 use Rattle.sp_parse_tokens.specs.Sorts.{terminal, c_tokens}
 use Rattle.sp_parse_tokens.specs.Scopes.{there}
-use Rattle.sp_parse_tokens.specs.declared.scope.AlsoAllowed.TheVariants as purposes
+use Rattle.sp_parse_tokens.specs.declared.scope.AlsoAllowed.TheVariants as also
 use Rattle.sp_parse_expr_steps.proofs.Steps.{begun}
 use Rattle.sp_parse_expr_steps.proofs.Faulting.{stop_unread}
 use Rattle.sp_parse_expr_steps.proofs.StructureSteps.{enum_none}
@@ -25,7 +25,7 @@ returns-in_default c =
     let y = terminal c.args.word in
     let x = c.next_token.result.0 in
     let other = sym (c.is_mark.ensures ∙ ap (λ s. is_mark sorts_there.brace s) c.sort_at.ensures) ∙ c.if-is_mark.false in
-    enum_stops g c.args.depth c.args.word c.args.tokens.now c.requires.word c.fault.result (stop_unread types c.args.context.scope purposes.Nothing (grammar.behind_enum y) (grammar.behind_enum y) (λ a. a) c.args.depth c.args.tokens.now c.args.tokens.now c.next_token.result.1.now x (begun (grammar.at g (grammar.behind_enum y)) (c_tokens c.args.tokens.now)) c.next_token.ensures (enum_none types g y (terminal x) x.kind c.in_default.not-Name other) (λ v. refl) c.requires.ended c.fault.result c.fault.ensures)
+    enum_stops g c.args.depth c.args.word c.args.tokens.now c.requires.word c.fault.result (stop_unread types c.args.context.scope also.Nothing (grammar.behind_enum y) (grammar.behind_enum y) (λ a. a) c.args.depth c.args.tokens.now c.args.tokens.now c.next_token.result.1.now x (begun (grammar.at g (grammar.behind_enum y)) (c_tokens c.args.tokens.now)) c.next_token.ensures (enum_none types g y (terminal x) x.kind c.in_default.not-Name other) (λ v. refl) c.requires.ended c.fault.result c.fault.ensures)
 
 pub returns-then-is_mark-2 : goal.returns-then-is_mark-2
 returns-then-is_mark-2 c =

@@ -6,7 +6,7 @@ use Rattle.sp_parse_tokens.specs.Makers.{is_union, some_members}
 use Rattle.sp_parse_grammar.specs.CTokens as tokens
 use Rattle.sp_parse_tokens.specs.Scopes.{there}
 use Rattle.sp_parse_tokens.specs.Expecting.{IsExpected, IsUnexpected}
-use Rattle.sp_parse_tokens.specs.declared.scope.AlsoAllowed.TheVariants as purposes
+use Rattle.sp_parse_tokens.specs.declared.scope.AlsoAllowed.TheVariants as also
 use Rattle.sp_parse_expr_steps.proofs.StructureSteps.{inner}
 use Rattle.sp_parse_expr_lists.proofs.Opened.{struct_stop, struct_read}
 use Rattle.sp_parse_expr_lists.proofs.MemberLists.{at_brace, members_end}
@@ -32,7 +32,7 @@ returns-in_err-rest c =
       last = rest;
       more = members_end g inside ds rest b c.requires.behind.goes_on.1;
       ended = c.requires.behind.ended;
-      why = subst (λ s. IsUnexpected types s tokens.unbrace purposes.TypeSpecifier rest stop) c.inside_structure.ensures.scope (subst (λ v. IsUnexpected v c.inside_structure.result.scope tokens.unbrace purposes.TypeSpecifier rest stop) c.inside_structure.ensures.types (MatchResult-at_err _ _ _ c.in_err-rest.ensures c.expect-next.ensures));
+      why = subst (λ s. IsUnexpected types s tokens.unbrace also.TypeSpecifier rest stop) c.inside_structure.ensures.scope (subst (λ v. IsUnexpected v c.inside_structure.result.scope tokens.unbrace also.TypeSpecifier rest stop) c.inside_structure.ensures.types (MatchResult-at_err _ _ _ c.in_err-rest.ensures c.expect-next.ensures));
     })))
 
 pub returns : goal.returns

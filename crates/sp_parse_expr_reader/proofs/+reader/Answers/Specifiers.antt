@@ -78,7 +78,7 @@ specifiers::read_specifiers-returns-then-not-is_typed t c =
     let s = view types (sort_of x.kind) in
     let seen = seen_by c.specifiers.seen.0 in
     let none = not_added c.add_specifier.result (add c.args.stores g.inside seen s) c.in_default.not-Some (c.add_specifier.ensures ∙ ap (λ v. add c.args.stores g.inside seen v) c.sort_at-sort.ensures) in
-    specifiers_refused types c.args.context.scope c.args.stores c.specifiers.seen.0 c.args.tokens.now c.specifiers.rest.now c.next_token.result.1.now x c.specifiers.all.items c.specifiers.all.items c.specifiers.typedefs c.args.depth i.so_far c.next_token.ensures none (sym c.is_typed.ensures ∙ c.if-not-is_typed.true) refl i.ended c.fault.result (subst (λ v. IsFaultFor types c.args.context.scope v c.specifiers.rest.now c.fault.result) c.type_purpose-purpose.ensures c.fault.ensures)
+    specifiers_refused types c.args.context.scope c.args.stores c.specifiers.seen.0 c.args.tokens.now c.specifiers.rest.now c.next_token.result.1.now x c.specifiers.all.items c.specifiers.all.items c.specifiers.typedefs c.args.depth i.so_far c.next_token.ensures none (sym c.is_typed.ensures ∙ c.if-not-is_typed.true) refl i.ended c.fault.result (subst (λ v. IsFaultFor types c.args.context.scope v c.specifiers.rest.now c.fault.result) c.type_allowed-also_allowed.ensures c.fault.ensures)
 
 pub specifiers::read_specifiers-returns : goal.specifiers::read_specifiers-returns
 specifiers::read_specifiers-returns t c =

@@ -11,7 +11,7 @@ use Rattle.sp_parse_tokens.specs.Sorts.{terminal, sort_of, c_tokens}
 use Rattle.sp_parse_tokens.specs.SyntaxTrees.{syntax_trees}
 use Rattle.sp_parse_tokens.specs.Ended.{IsEnded}
 use Rattle.sp_parse_tokens.specs.Scopes.{there}
-use Rattle.sp_parse_tokens.specs.declared.scope.AlsoAllowed.TheVariants as purposes
+use Rattle.sp_parse_tokens.specs.declared.scope.AlsoAllowed.TheVariants as also
 use Rattle.sp_parse_tokens.proofs.Settled.{member_depth}
 use Rattle.sp_parse_expr_steps.proofs.Steps.{last, took_token, refused}
 use Rattle.sp_parse_expr_steps.proofs.Marks.{member_is}
@@ -28,7 +28,7 @@ returns-then-not-is_name c =
     let is = member_is (view g.types (sort_of x.kind)) (sym (c.is_mark.ensures ∙ ap (λ s. is_mark sorts_there.member s) c.sort_at.ensures) ∙ c.if-is_mark.true) in
     let other = sym c.is_name.ensures ∙ c.if-not-is_name.true in
     let fails = refused (member_on g e x c.args.tokens.now (sym is)) (ap c_tokens c.next_token.ensures) other in
-    λ depth less. stop_at types c.args.context.scope purposes.Nothing (wanted (grammar.ordinary g)) g (grammar.suffixes e) depth (x ∷ c.args.tokens.now) c.args.tokens.now fails (λ y. refl) c.requires.ended c.fault.result c.fault.ensures
+    λ depth less. stop_at types c.args.context.scope also.Nothing (wanted (grammar.ordinary g)) g (grammar.suffixes e) depth (x ∷ c.args.tokens.now) c.args.tokens.now fails (λ y. refl) c.requires.ended c.fault.result c.fault.ensures
 
 pub returns-then-is_mark : goal.returns-then-is_mark
 returns-then-is_mark c =

@@ -4,7 +4,7 @@ use Rattle.sp_parse_grammar.specs.CTokens.{is_mark, view}
 use Rattle.sp_parse_grammar.specs.CTable as grammar
 use Rattle.sp_parse_tokens.specs.Sorts.{terminal, sort_of, c_tokens}
 use Rattle.sp_parse_tokens.specs.Scopes.{there}
-use Rattle.sp_parse_tokens.specs.declared.scope.AlsoAllowed.TheVariants as purposes
+use Rattle.sp_parse_tokens.specs.declared.scope.AlsoAllowed.TheVariants as also
 use Rattle.sp_parse_expr_steps.specs.Reading.{first_sort, is_operand}
 use Rattle.sp_parse_expr_steps.proofs.Steps.{begun}
 use Rattle.sp_parse_expr_steps.proofs.ExpressionSteps.{first_deep}
@@ -19,7 +19,7 @@ returns-then-not-is_operand c =
     let s = view types (sort_of x.kind) in
     let other = sym (c.is_operand.ensures ∙ ap (λ v. is_operand v) c.sort_at.ensures) ∙ c.if-not-is_operand.true in
     let closed = sym (ap (λ v. is_mark sorts_there.opening (first_sort types v)) c.next_token.ensures) ∙ c.requires.no_group in
-    stop_unread types c.args.context.scope purposes.Name grammar.primary grammar.primary (λ a. a) c.args.depth c.args.tokens.now c.args.tokens.now c.next_token.result.1.now x (begun (grammar.at g grammar.primary) (c_tokens c.args.tokens.now)) c.next_token.ensures (primary_none g (terminal x) s other closed) (λ y. refl) c.requires.ended c.fault.result c.fault.ensures
+    stop_unread types c.args.context.scope also.Name grammar.primary grammar.primary (λ a. a) c.args.depth c.args.tokens.now c.args.tokens.now c.next_token.result.1.now x (begun (grammar.at g grammar.primary) (c_tokens c.args.tokens.now)) c.next_token.ensures (primary_none g (terminal x) s other closed) (λ y. refl) c.requires.ended c.fault.result c.fault.ensures
 
 pub returns-then-depth-lt1 : goal.returns-then-depth-lt1
 returns-then-depth-lt1 c =
