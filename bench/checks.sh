@@ -5,10 +5,7 @@
 set -eu
 top=$(cd "$(dirname "$0")/.." && pwd)
 . "$top/bench/room.sh"
-make_room checks sp_tree sp_parse_trees sp_parse_grammar sp_parse_tokens sp_parse_laws sp_base_kept sp_parse_expr_steps sp_parse_expr_ends sp_parse_expr_lists sp_parse_expr_reader sp_parse_declarations sp_parse_statements \
-    sp_lexer sp_parse_laws sp_parse_laws sp_expr_parser sp_decl_parser sp_types sp_check_operands sp_check_constants sp_check_binary_rules sp_check_unary_rules sp_check_scopes sp_check_env sp_check_members sp_check_type_names \
-    sp_check_primaries sp_check_expr_steps sp_expr_check sp_check_initialisers sp_check_objects sp_check_declarations sp_check_heads sp_check_heads sp_link_renaming sp_check_statement_rules sp_check_mentions sp_check_statement_rules \
-    sp_check_statements sp_base_checked sp_decl_check sp_decl_check sp_link_structs sp_link_agreement sp_link_structs sp_link_conflicts sp_link_entries sp_link_units sp_link_units
+make_room checks sp_lexer sp_decl_parser sp_decl_check sp_link_units
 "$top/tools/takekept" "$room" > "$room/taken.txt" || true
 python3 "$top/bench/checks_texts.py" "$room/texts"
 (cd "$room/crates/checks_bench" && rt run -- "$room"/texts/calls-10000/*.c) > "$room/built.txt"

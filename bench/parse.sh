@@ -4,8 +4,7 @@
 set -eu
 top=$(cd "$(dirname "$0")/.." && pwd)
 . "$top/bench/room.sh"
-make_room parse sp_tree sp_parse_trees sp_parse_grammar sp_parse_tokens sp_parse_laws sp_parse_laws sp_base_kept sp_parse_expr_steps sp_parse_expr_ends sp_parse_expr_lists sp_parse_expr_reader sp_parse_declarations sp_parse_statements \
-    sp_lexer sp_expr_parser sp_parse_laws sp_decl_parser
+make_room parse sp_lexer sp_expr_parser sp_decl_parser
 mkdir -p "$room/texts"
 python3 "$top/bench/parse_texts.py" "$room/texts"
 (cd "$room/crates/parse_bench" && rt run -- "$room/texts/parens-1-expression" expression) > "$room/built.txt"

@@ -1,13 +1,14 @@
 # Sourced by the benches, which set `top`: makes a folder of its own for a bench's program.
-# make_room NAME CRATE..: copies these crates of ours, and bench/NAME/main.rt.in as the crate NAME_bench, and sets `room`. What earlier runs proved
-# there stays.
+# make_room NAME CRATE..: copies these crates of ours with all that they stand on, and
+# bench/NAME/main.rt.in as the crate NAME_bench, and sets `room`. What earlier runs proved there stays.
 make_room() {
     bench=$1
     shift
     room=${SPARROW_BENCH:-${TMPDIR:-/tmp}/sparrow-bench-$bench}
     mkdir -p "$room/crates/${bench}_bench/src"
-    : > "$room/crates.txt"
-    for crate in "$@"; do
+    "$top/tools/needed" "$@" > "$room/crates.txt"
+    crates=$(cut -d : -f 1 "$room/crates.txt" | tr '\n' ' ')
+    for crate in $crates; do
         mkdir -p "$room/crates/$crate"
         for part in src specs proofs; do
             rm -rf "$room/crates/$crate/$part"
@@ -15,9 +16,8 @@ make_room() {
                 cp -R "$top/crates/$crate/$part" "$room/crates/$crate/$part"
             fi
         done
-        grep "^$crate:" "$top/crates.txt" >> "$room/crates.txt"
     done
-    printf '%s_bench: %s anyhow\n' "$bench" "$*" >> "$room/crates.txt"
+    printf '%s_bench: %sanyhow\n' "$bench" "$crates" >> "$room/crates.txt"
     cp "$top/bench/$bench/main.rt.in" "$room/crates/${bench}_bench/src/main.rt"
     [ -d "$room/.git" ] || git init -q "$room"
 }

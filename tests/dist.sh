@@ -7,7 +7,7 @@ room=$(mktemp -d)
 trap 'rm -rf "$room"' EXIT
 mkdir -p "$room/tools" "$room/bin" "$room/crates/sparrow/out"
 cp sparrow "$room"
-cp tools/program.sh tools/sources tools/release "$room/tools"
+cp tools/program.sh tools/needed tools/sources tools/release "$room/tools"
 cat >"$room/crates.txt" <<'END'
 # What is said of the crates.
 sp_b:

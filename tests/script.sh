@@ -10,7 +10,7 @@ top_room=$room/top
 out=$top_room/crates/sparrow/out
 mkdir -p "$top_room/tools" "$room/bin" "$room/fails"
 cp sparrow crates.txt "$top_room"
-cp tools/program.sh tools/sources "$top_room/tools"
+cp tools/program.sh tools/needed tools/sources "$top_room/tools"
 sed -n 's/^\([a-z][a-z0-9_]*\):.*/\1/p' crates.txt | while read -r crate; do
     mkdir -p "$top_room/crates/$crate/src"
     touch -d '1 hour ago' "$top_room/crates/$crate/src/lib.rt"
