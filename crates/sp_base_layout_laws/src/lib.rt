@@ -11,8 +11,8 @@
 //! So of `int a[3] = { 1 };` the one cell `a[]` is of three leaves, one with a value: it is left.
 #![tactic(auto)]
 
-mod shapes;
-mod zeros;
+mod shape_laws;
+mod zero_laws;
 
-pub use shapes::relates;
-pub use zeros::zeros_are_left;
+pub use shape_laws::relates;
+pub use zero_laws::zeros_are_left;

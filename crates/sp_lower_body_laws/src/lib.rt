@@ -11,8 +11,8 @@
 //! draft is formed behind them, and each function has one entry and one exit (`AreLowered`).
 #![tactic(auto)]
 
-mod functions;
-mod statements;
+mod function_laws;
+mod statement_laws;
 
-pub use functions::functions_are_good;
-pub use statements::statements_are_good;
+pub use function_laws::functions_are_good;
+pub use statement_laws::statements_are_good;

@@ -1,5 +1,0 @@
-use Rattle.sp_base_layout_laws.proofs.Left.{zeros_hold}
-use Rattle.sp_base_layout_laws.proofs.zeros.zeros_are_left.Goals as goal
-
-pub returns : goal.returns
-returns c = zeros_hold
