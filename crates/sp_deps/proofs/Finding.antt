@@ -3,7 +3,7 @@ use Rattle.std.proofs.Common.{refl, zero, suc, replicate, ◌≡◌, ◌≢◌, 
 use Rattle.std.specs.Prelude.{AllPairs}
 use Rattle.std.proofs.lemmas.Bool.{false≢true}
 use Rattle.std.proofs.lemmas.Bool.Decides.{nat_tests}
-use Rattle.std.specs.List.{list_any}
+use Rattle.std.specs.List.{All, list_any}
 use Rattle.std.proofs.lemmas.List.{length-replicate, take_all, get_or-take, get_or_default, length-take-le}
 use Rattle.std.proofs.lemmas.List.Elements.{All-contains}
 use Rattle.std.proofs.lemmas.List.Folds.{Any-from_list_any}
@@ -13,6 +13,7 @@ use Rattle.sp_lattice.specs.System.{Meaning, IsSystem, has}
 use Rattle.sp_lattice.specs.Dependency.{Depends}
 use Rattle.sp_lattice.proofs.Paths.{Path-end}
 use Rattle.sp_lattice.specs.Flat.{row_at}
+use Rattle.sp_engine_keeping.specs.Triples.{AreWithin}
 use Rattle.sp_deps.specs.Rows.{held, is_before, same_pair, total, Ascends}
 use Rattle.sp_deps.specs.Answer.{AreDependencies}
 use Rattle.sp_deps.specs.inner.Users.{AreUsers}
@@ -22,6 +23,7 @@ use Rattle.sp_deps.specs.inner.Progress.{IsExcess, AreRows, AreBefore, AreSound,
 use Rattle.sp_deps.specs.declared.triples.DepError.{DepError}
 use Rattle.sp_deps.specs.declared.triples.DepError.TheVariants.{TooMany, NoMemory}
 use Rattle.sp_deps.proofs.Adding.{too_many}
+use Rattle.sp_deps.proofs.Held.{held_at}
 use Rattle.sp_deps.proofs.Lists.{which, eqb-refl, has-take_more, has-get_or}
 use Rattle.sp_deps.proofs.Bools.{and-parts, and-both, or-cases, or-left, or-right}
 
@@ -187,3 +189,16 @@ module _ {V : Type 0} (m : Meaning V) where
   pub cause_from_excess : (location to : ℕ) → has location (m.uses to) ≡ true → (before : List (List (ℕ × ℕ))) (found : List ℕ) (error : DepError) → IsFound m location to found → AreSound m before → IsExcess before found location to error → IsCause m error
   cause_from_excess location to used before found (TooMany count) is_found sound h = (h.0, too_many m location to used before found is_found sound h.1)
   cause_from_excess location to used before found NoMemory is_found sound h = tt
+
+-- the triples are of nodes and locations that are there
+module _ {V : Type 0} (o : Order V) (m : Meaning V) (sys : IsSystem o m) (rows : List (List (ℕ × ℕ))) (done : ℕ → ℕ → Bool) (upto : AreUpTo m rows done) where
+  within_at : (from : ℕ) → from < length rows → AreWithin m.locations (length rows) (row_at rows from)
+  within_at from low k d k_low =
+      let pair = get_or (row_at rows from) k d in
+      let depends = ((upto.exact from pair.0 pair.1).0 (held_at rows from k d k_low)).0 in
+      let below = sys.defs_below from (omega (arith, upto.kept.long)) in
+      let to = Path-end depends.path in
+      (All-contains (λ x. x < m.locations) (m.defs from) pair.0 below (Contains-from_any eqb-true pair.0 (m.defs from) depends.defined), omega (arith, to, upto.kept.long))
+
+  pub within_upto : All (AreWithin m.locations (length rows)) rows
+  within_upto from d low = subst (AreWithin m.locations (length rows)) (sym (get_or_default rows from d [] low)) (within_at from low)

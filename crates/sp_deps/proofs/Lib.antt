@@ -5,7 +5,6 @@ mod Grouping
 mod Growing
 pub mod Held
 mod Lists
-mod Searches
 mod Stretching
 mod Using
 mod Walks

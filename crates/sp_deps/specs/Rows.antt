@@ -1,26 +1,10 @@
 -- Dependencies as rows: for each node the pairs of location and target of those that leave it.
-use Rattle.std.specs.Prelude.{◌≡◌, ◌&&◌, ◌||◌, ℕ, Bool, true, nat_eq, nat_lt, List, length, AllPairs, sum_by}
-use Rattle.std.specs.List.{list_any}
-use Rattle.sp_lattice.specs.Flat.{row_at}
-
-abbrev pub same_pair : ℕ × ℕ → ℕ × ℕ → Bool
-same_pair p q = nat_eq p.0 q.0 && nat_eq p.1 q.1
-
--- whether the rows hold the triple
-abbrev pub held : List (List (ℕ × ℕ)) → ℕ → ℕ → ℕ → Bool
-held rows from location to = list_any (same_pair (location, to)) (row_at rows from)
+use Rattle.std.specs.Prelude.{ℕ, List, length, sum_by}
+pub use Rattle.sp_engine_keeping.specs.Triples.{same_pair, held, is_before, Ascends}
 
 -- how many triples the rows hold, where none stands twice
 abbrev pub total : List (List (ℕ × ℕ)) → ℕ
 total rows = sum_by length rows
-
--- by location, and at one location by target
-abbrev pub is_before : ℕ × ℕ → ℕ × ℕ → Bool
-is_before p q = nat_lt p.0 q.0 || nat_eq p.0 q.0 && nat_lt p.1 q.1
-
--- each pair comes before all later ones, so none stands twice
-abbrev pub Ascends : List (ℕ × ℕ) → Type 0
-Ascends pairs = AllPairs (λ p q. is_before p q ≡ true) pairs
 
 -- the most dependencies that are kept
 abbrev pub most_dependencies : ℕ

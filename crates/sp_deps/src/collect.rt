@@ -70,7 +70,7 @@ pub fn dependencies_with<S: System>(
         )?;
         stretches.leave(touched);
     }
-    let laid = Deps::laid(alloc, &deps)?;
+    let laid = Deps::laid(alloc, deps, system.locations())?;
     Ok(laid)
 }
 

@@ -1,10 +1,12 @@
 //! The dependencies that are kept, and why they may not be.
-ghost use Rattle.std.specs.Prelude.{◌≡◌, ◌≤◌, ◌<◌, ◌+◌, ℕ, true, length, All, replicate, [], nat_eq, IfOk, OnOk};
+ghost use Rattle.std.specs.Prelude.{◌≡◌, ◌≤◌, ◌<◌, ◌+◌, ◌^◌, ℕ, true, length, All, replicate, [], nat_eq, IfOk, OnOk};
 ghost use Rattle.sp_lattice.specs.Flat.{row_at};
+ghost use Rattle.sp_engine_keeping.specs.Triples.{AreWithin};
 ghost use Rattle.sp_deps.specs.Rows.{held, total, is_before, Ascends, most_dependencies};
 ghost use Rattle.sp_deps.specs.inner.Grouped.{added};
 
 use crate::groups::grouped;
+use sp_engine_keeping::Keeping;
 use sp_lattice::rows::Rows;
 use std::alloc::{AllocError, Global};
 use std::marker::Model;
@@ -13,6 +15,13 @@ use thiserror::Error;
 /// The most dependencies that are kept: as pairs of two numbers they take 400 MB, and up to three times that while they
 /// are found, since lists that grow have room for twice what is in them.
 pub const MOST_DEPENDENCIES: u64 = 50_000_000;
+
+/// How many pairs take the memory of a node of a diagram: 24 bytes with its place in the table of
+/// nodes, where a pair takes 8.
+const PAIRS_OF_A_NODE: u64 = 3;
+
+// So no diagram has more nodes than this.
+const _: () = prove!(MOST_DEPENDENCIES / PAIRS_OF_A_NODE <= 1 << 26);
 
 /// Why the dependencies of a system aren't told.
 #[derive(Clone, Copy, Debug, PartialEq, Eq, Error)]
@@ -36,14 +45,14 @@ impl From<AllocError> for DepError {
     }
 }
 
-/// The dependencies of a system, as triples of the node that defines, the location and the node that uses.
+/// The dependencies of a system, as triples of the node that defines, the location and the node
+/// that uses. They are kept as a diagram where that is smaller, else as a list.
 ///
-/// Contracts see a row for each node: the pairs of location and target of the triples that leave it,
-/// ascending by location and then by target. There are at most [`MOST_DEPENDENCIES`].
+/// Contracts see a row for each node: the pairs of location and target of the triples that leave
+/// it, ascending by location and then by target. There are at most [`MOST_DEPENDENCIES`].
 #[derive(Drop)]
 pub struct Deps {
-    alloc: Global,
-    rows: Rows<(u32, u32)>,
+    keeping: Keeping,
     count: u64,
 }
 
@@ -54,9 +63,9 @@ impl Model for Deps {
 
     ghost use Rattle.sp_deps.specs.inner.Kept.{IsKept};
 
-    ghost view = { λ d. d.rows };
+    ghost view = { λ d. d.keeping };
 
-    ghost invariant = { λ d. IsKept d.rows d.count };
+    ghost invariant = { λ d. IsKept d.keeping d.count };
 }
 
 impl Deps {
@@ -72,8 +81,7 @@ impl Deps {
     pub fn holds(&self, from: u32, location: u32, to: u32) -> bool
         ensures { result ≡ held self.now from location to }
     {
-        let row = self.leaving(from);
-        row.binary_search(&(location, to)).is_ok()
+        self.keeping.holds(from, location, to)
     }
 
     /// The pairs of location and target of the triples that leave `from`, ascending; none past the last node.
@@ -81,34 +89,19 @@ impl Deps {
         ensures pairs { IfOk result (λ pairs. pairs.items ≡ row_at self.now from) }
         ensures ascending { IfOk result (λ pairs. Ascends pairs.items) }
     {
-        self.leaving(from).to_vec(self.alloc)
+        self.keeping.after(from)
     }
 
-    /// What [`Deps::after`] copies.
-    fn leaving(&self, from: u32) -> &[(u32, u32)]
-        ensures pairs { result.now ≡ row_at self.now from }
-        ensures ascending { Ascends result.now }
+    /// Keeps what was found, where the locations are fewer than so many.
+    pub(crate) fn laid(alloc: Global, found: Growing, locations: u32) -> Result<Deps, AllocError>
+        requires nodes { length found < 2 ^ 32 }
+        requires within { All (AreWithin locations (length found)) found }
+        ensures { IfOk result (λ deps. deps ≡ found) }
     {
-        let from = from as usize;
-        if from < self.rows.len() {
-            self.rows.row(from)
-        } else {
-            &[]
-        }
-    }
-
-    /// What was found, with the pairs laid out by the nodes that they leave.
-    pub(crate) fn laid(alloc: Global, found: &Growing) -> Result<Deps, AllocError>
-        ensures { IfOk result (λ deps. deps ≡ found.now) }
-    {
-        let count = found.pairs.len();
-        let froms = &found.froms[..count];
-        let rows = grouped(alloc, found.nodes, froms, &found.pairs)?;
-        Ok(Deps {
-            alloc,
-            rows,
-            count: count as u64,
-        })
+        let count = found.count();
+        let rows = found.into_rows(alloc)?;
+        let keeping = Keeping::keep(alloc, rows, locations, count / PAIRS_OF_A_NODE)?;
+        Ok(Deps { keeping, count })
     }
 }
 
@@ -153,6 +146,24 @@ impl Growing {
         ensures few { total self.now ≤ most_dependencies }
     {
         self.pairs.len() as u64 == MOST_DEPENDENCIES
+    }
+
+    /// How many there are.
+    fn count(&self) -> u64
+        ensures total { result ≡ total self.now }
+        ensures few { result ≤ most_dependencies }
+    {
+        self.pairs.len() as u64
+    }
+
+    /// The pairs, laid out by the nodes that they leave.
+    fn into_rows(self, alloc: Global) -> Result<Rows<(u32, u32)>, AllocError>
+        ensures same { IfOk result (λ rows. rows ≡ self) }
+        ensures ascending { IfOk result (All Ascends) }
+    {
+        let froms = &self.froms[..self.pairs.len()];
+        let rows = grouped(alloc, self.nodes, froms, &self.pairs)?;
+        Ok(rows)
     }
 
     /// Adds a triple, behind those that leave the same node.

@@ -1,13 +1,14 @@
-use Rattle.std.proofs.Common.{refl, replicate, [], ◌≡◌, ℕ, true, false, get_or, ◌≤◌, ◌<◌, ◌∙◌, sym, ap, subst, arith}
+use Rattle.std.proofs.Common.{All, length, refl, replicate, [], ◌≡◌, ℕ, true, false, get_or, ◌≤◌, ◌<◌, ◌∙◌, sym, ap, subst, arith}
 use Rattle.sp_lattice.specs.System.{has}
 use Rattle.sp_lattice.specs.Flat.{row_at}
+use Rattle.sp_engine_keeping.specs.Triples.{AreWithin}
 use Rattle.sp_deps.specs.inner.Stretches.{HasTouching}
 use Rattle.sp_deps.proofs.Stretching.{ready_from}
 use Rattle.sp_deps.specs.inner.Users.{AreUsers}
 use Rattle.sp_deps.specs.inner.Walk.{IsFresh}
 use Rattle.sp_deps.specs.inner.Progress.{AreUpTo, is_done}
 use Rattle.sp_deps.specs.Answer.{AreDependencies}
-use Rattle.sp_deps.proofs.Finding.{upto_all, upto_none}
+use Rattle.sp_deps.proofs.Finding.{upto_all, upto_none, within_upto}
 use Rattle.sp_deps.proofs.collect.dependencies_with.Goals as goal
 
 pub add_location-requires-clause-targets : goal.add_location-requires-clause-targets
@@ -38,6 +39,14 @@ locations-init g c =
       heads = refl;
       so_far = subst (λ rows. AreUpTo m rows (is_done 0 [])) (sym (c.none-deps.ensures ∙ ap (λ n. replicate n []) c.nodes-4.ensures)) (upto_none m);
     }
+
+pub laid-requires-clause-within : goal.laid-requires-clause-within
+laid-requires-clause-within g c =
+    let s = c.args.system.now in
+    let m = g.S.System.meaning s in
+    let rows = c.locations.deps in
+    subst (λ n. All (AreWithin n (length rows)) rows) (sym c.locations-2.ensures)
+    (within_upto g.S.Value.Lattice.order m (g.met.S.System.lawful s) rows (is_done c.locations.location []) c.locations.invariant.so_far)
 
 pub returns-clause-exact : goal.returns-clause-exact
 returns-clause-exact g c =

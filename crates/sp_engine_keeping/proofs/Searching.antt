@@ -8,8 +8,13 @@ use Rattle.std.specs.declared.cmp.Ordering.{Ordering}
 use Rattle.std.specs.declared.cmp.Ordering.TheVariants.{Less, Equal, Greater}
 use Rattle.std.proofs.lemmas.Bool.Decides.{nat_tests}
 use Rattle.std.proofs.lemmas.List.Folds.{list_any_at, list_any_none}
-use Rattle.sp_deps.specs.Rows.{same_pair, Ascends}
-use Rattle.sp_deps.proofs.Lists.{which, below}
+use Rattle.sp_engine_keeping.specs.Triples.{same_pair, Ascends}
+
+which : (k n : ℕ) → (k ≡ n) ⊎ (k ≢ n)
+which k n = grind arith
+
+below : (k n : ℕ) → (k < n) ⊎ (n ≤ k)
+below k n = grind arith
 
 abbrev pair_cmp : ℕ × ℕ → ℕ × ℕ → Ordering
 pair_cmp p q = ordering_then (nat_cmp p.0 q.0) (nat_cmp p.1 q.1)

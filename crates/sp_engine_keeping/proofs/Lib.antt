@@ -1,0 +1,4 @@
+pub mod Coding
+pub mod Finding
+pub mod Searching
+pub mod Telling
