@@ -5,6 +5,7 @@ use Rattle.sp_ir.specs.Commands.{Node}
 use Rattle.sp_ir.specs.Programs.{Lowered}
 use Rattle.sp_base_sets.specs.Sets.{has}
 use Rattle.sp_base_sets.specs.Reached.{row, Reached, start, onward as further}
+use Rattle.sp_graph.specs.Accessed.{AccessSets, accesses}
 use Rattle.sp_graph.specs.Calls.{Callees, CallsTo, Leads, direct, onward, IsReached, function_of, function_in}
 use Rattle.sp_graph.specs.Supergraph.{InGraph, InFunction}
 use Rattle.sp_effect_scene.specs.Analysed.{Analysed}
@@ -46,7 +47,7 @@ node-low p n f h = by (slice_get p.nodes n) refl h
     by None e g = absurd (none-some g)
     by (Some node) e g = there-low p.nodes n node e
 
-module _ (a : Analysed) (ns : List ℕ) (sets : List (List ℕ)) (exact : (n : ℕ) → (has n ns ≡ true) ↔ InGraph a.program a.told.calls n) (found : AreAccessed a ns sets) (l : ℕ) where
+module _ (a : Analysed) (ns : List ℕ) (accessed : AccessSets) (exact : (n : ℕ) → (has n ns ≡ true) ↔ InGraph a.program a.told.calls n) (found : AreAccessed a ns accessed) (l : ℕ) where
   -- ---- what is found is accessed
 
   accessed-by : (f : ℕ) → Reached found.callers (row found.owners l) f → Accesses a f l
@@ -97,5 +98,5 @@ module _ (a : Analysed) (ns : List ℕ) (sets : List (List ℕ)) (exact : (n : �
       by (inl e) = subst (λ g. Reached found.callers (row found.owners l) g) e (own (subst (IsReached a.program a.told.calls) (sym e) reached))
       by (inr leads) = all-back f reached h.owner leads (own (reached-then a.program a.told.calls f h.owner reached leads))
 
-  pub accessed-is : (f : ℕ) → IsReached a.program a.told.calls f → (has l (row sets f) ≡ true) ↔ Accesses a f l
+  pub accessed-is : (f : ℕ) → IsReached a.program a.told.calls f → (accesses accessed f l ≡ true) ↔ Accesses a f l
   accessed-is f reached = (λ h. accessed-by f ((found.found f l).0 h), λ h. (found.found f l).1 (found-for f reached h))

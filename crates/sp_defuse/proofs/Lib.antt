@@ -8,3 +8,4 @@ pub mod Spreads
 pub mod Accessing
 pub mod EquationLaws
 pub mod Opening
+pub mod StandFors

@@ -5,6 +5,7 @@ use Rattle.std.specs.Option.{option_eq}
 use Rattle.sp_ir.specs.Programs.{Lowered}
 use Rattle.sp_base_sets.specs.Sets.{has}
 use Rattle.sp_base_sets.specs.Reached.{row, Reached}
+use Rattle.sp_graph.specs.Accessed.{AccessSets, accesses}
 use Rattle.sp_graph.specs.Calls.{function_of}
 use Rattle.sp_effect_scene.specs.Analysed.{Analysed}
 use Rattle.sp_transfer.specs.Effects.{defined_at, used_at}
@@ -26,11 +27,11 @@ pub record AddsTo (test : ℕ → ℕ → Bool) (old new : List (List ℕ)) : Ty
   pub long : length new ≡ length old
   pub exact : (r n : ℕ) → has n (row new r) ≡ (has n (row old r) || test r n)
 
--- a set of locations for each function: those for which calls lead from it to a function of which
--- one of these nodes touches the location
-pub record AreAccessed (a : Analysed) (ns : List ℕ) (sets : List (List ℕ)) : Type 0 where
+-- a function accesses the locations for which calls lead from it to a function of which one of
+-- these nodes touches the location
+pub record AreAccessed (a : Analysed) (ns : List ℕ) (accessed : AccessSets) : Type 0 where
   pub callers : List (List ℕ)
   pub owners : List (List ℕ)
   pub called : (g f : ℕ) → has f (row callers g) ≡ is_called a ns g f
   pub touched : (l f : ℕ) → has f (row owners l) ≡ is_touched a ns l f
-  pub found : (f l : ℕ) → (has l (row sets f) ≡ true) ↔ Reached callers (row owners l) f
+  pub found : (f l : ℕ) → (accesses accessed f l ≡ true) ↔ Reached callers (row owners l) f

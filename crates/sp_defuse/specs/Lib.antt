@@ -6,3 +6,4 @@ pub mod Spreading
 pub mod View
 pub mod Program
 pub mod Open
+pub mod StandIns

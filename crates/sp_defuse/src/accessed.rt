@@ -12,8 +12,10 @@ ghost use Rattle.sp_defuse.specs.Accessed.{is_touched, is_called, AddsTo, AreAcc
 
 use crate::nodes::Node;
 use crate::spreading::spread_all;
+use crate::stand_ins::stand_ins_of;
 use sp_base_sets::NumberSet;
 use sp_effect_scene::Analysis;
+use sp_graph::Accessed;
 use sp_ir::Lowered;
 use std::alloc::{AllocError, Global};
 
@@ -99,13 +101,14 @@ pub(crate) fn accessed(
     alloc: Global,
     analysis: &Analysis,
     nodes: &[Node],
-) -> Result<Vec<NumberSet>, AllocError>
+) -> Result<Accessed, AllocError>
     requires { AreNodes (analysed_of analysis.now) analysis.now.flow.nodes nodes.now }
-    ensures { IfOk result (λ sets.
-        AreAccessed (analysed_of analysis.now) analysis.now.flow.nodes sets.items) }
+    ensures { IfOk result
+        (AreAccessed (analysed_of analysis.now) analysis.now.flow.nodes) }
 {
     let callers = callers_of(alloc, analysis, analysis.flow.nodes())?;
-    let owners = owners_of(alloc, analysis, nodes)?;
+    let mut owners = owners_of(alloc, analysis, nodes)?;
+    let stand_ins = stand_ins_of(alloc, &mut owners)?;
     let sets = spread_all(alloc, &callers, &owners)?;
-    Ok(sets)
+    Ok(Accessed::new(stand_ins, sets))
 }

@@ -16,7 +16,7 @@
 //! ```
 //!
 //! What functions access is found after the nodes' own locations, by one walk along calls backwards
-//! for each location (`spreading`).
+//! for each location (`spreading`), or for one of those that the same functions touch (`stand_ins`).
 //!
 //! The layer above uses that a [`CProgram`] is a `System` of `sp_lattice`, whose meaning is
 //! `meaning_of` of `sp_transfer.specs.Equations` at its equations (`equations_in` of
@@ -32,6 +32,7 @@ mod places;
 mod programs;
 mod sources;
 mod spreading;
+mod stand_ins;
 
 pub use nodes::Node;
 pub use open::open_nodes;

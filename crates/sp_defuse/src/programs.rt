@@ -50,7 +50,7 @@ impl CProgram {
             &analysis.lowered,
             &analysis.flow,
             analysis.pre.calls(),
-            &accessed,
+            accessed,
         )?;
         let sources = Sources::all(alloc, &flow)?;
         Ok(CProgram {

@@ -12,6 +12,7 @@ use Rattle.sp_base_sets.specs.Sets.{has, Ascends}
 use Rattle.sp_base_sets.specs.Reached.{row, Reached, start, onward as go_on, Leads as Follows}
 use Rattle.sp_base_sets.proofs.Members.{eqb-refl}
 use Rattle.sp_base_sets.proofs.Images.{or-cases, or-left}
+use Rattle.sp_graph.specs.Accessed.{AccessSets}
 use Rattle.sp_graph.specs.Calls.{Callees, AreCallees, CallsTo, Leads, direct, onward, IsReached, IsRecursive, function_of, function_in}
 use Rattle.sp_graph.specs.Supergraph.{IsSupergraph, InGraph, InFunction, InFlow, edges_at}
 use Rattle.sp_graph.specs.Rows.{Grows, AreLists, AreEdges, CallsAt, is_inside}
@@ -168,7 +169,7 @@ module _ (p : Lowered) (calls : Callees) (lists : List (List ℕ)) (these : AreL
 
 -- ---- the graph
 
-pub made : (p : Lowered) (calls : Callees) (local : Bool) (nodes : List ℕ) (rows : List (List Edge)) (accessed kept : List (List ℕ)) → Ascends nodes → ((n : ℕ) → (has n nodes ≡ true) ↔ InGraph p calls n) → AreEdges p nodes calls local rows
+pub made : (p : Lowered) (calls : Callees) (local : Bool) (nodes : List ℕ) (rows : List (List Edge)) (accessed : AccessSets) (kept : List (List ℕ)) → Ascends nodes → ((n : ℕ) → (has n nodes ≡ true) ↔ InGraph p calls n) → AreEdges p nodes calls local rows
     → IsSupergraph p calls local (record { nodes = nodes; rows = rows; accessed = accessed; calls = kept })
 made p calls local nodes rows accessed kept ascends exact edges = record {
   ascending = ascends;

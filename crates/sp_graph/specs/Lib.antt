@@ -1,3 +1,4 @@
+pub mod Accessed
 pub mod Calls
 pub mod Supergraph
 pub mod Rows

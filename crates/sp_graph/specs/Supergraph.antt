@@ -5,6 +5,7 @@ use Rattle.std.specs.List.{list_any}
 use Rattle.sp_ir.specs.Programs.{Lowered}
 use Rattle.sp_base_sets.specs.Sets.{has, Ascends}
 use Rattle.sp_base_sets.specs.Reached.{row}
+use Rattle.sp_graph.specs.Accessed.{AccessSets, accesses}
 use Rattle.sp_graph.specs.Calls.{Callees, function_of, call_of, entry_of, exit_of, IsReached}
 use Rattle.sp_graph.specs.declared.edge.Pass.{Pass}
 use Rattle.sp_graph.specs.declared.edge.Pass.TheVariants.{All, Inside, Beside}
@@ -53,7 +54,7 @@ pub record InFlow (p : Lowered) (calls : Callees) (local : Bool) (e : Edge) : Ty
 pub record Graph : Type 0 where
   pub nodes : List ℕ
   pub rows : List (List Edge)
-  pub accessed : List (List ℕ)
+  pub accessed : AccessSets
   pub calls : Callees
 
 -- the edges that end at a node; past the last none
@@ -71,5 +72,5 @@ pub record IsSupergraph (p : Lowered) (calls : Callees) (local : Bool) (g : Grap
 -- some function which a node calls doesn't access
 abbrev pub passes_by : Graph → Pass → ℕ → Bool
 passes_by g All l = true
-passes_by g (Inside f) l = has l (row g.accessed f)
-passes_by g (Beside c) l = list_any (λ f. not (has l (row g.accessed f))) (row g.calls c)
+passes_by g (Inside f) l = accesses g.accessed f l
+passes_by g (Beside c) l = list_any (λ f. not (accesses g.accessed f l)) (row g.calls c)

@@ -5,10 +5,12 @@ ghost use Rattle.sp_ir.specs.Programs.{lowered_of};
 ghost use Rattle.sp_ir.specs.Formed.{IsFormed};
 ghost use Rattle.sp_base_sets.specs.Sets.{has, Ascends};
 ghost use Rattle.sp_base_sets.specs.Reached.{row};
+ghost use Rattle.sp_graph.specs.Accessed.{accesses};
 ghost use Rattle.sp_graph.specs.Calls.{AreCallees, function_of};
 ghost use Rattle.sp_graph.specs.Supergraph.{IsSupergraph, edges_at, passes_by};
 ghost use Rattle.sp_graph.specs.Rows.{is_inside};
 
+use crate::accessed::Accessed;
 use crate::edge::{Edge, Pass};
 use crate::functions::{CallGraph, lists_of};
 use crate::lookups::function_of;
@@ -23,7 +25,7 @@ use std::marker::Model;
 pub struct Flow {
     nodes: NumberSet,
     rows: Vec<Edges>,
-    accessed: Vec<NumberSet>,
+    accessed: Accessed,
     calls: Vec<NumberSet>,
 }
 
@@ -35,7 +37,7 @@ impl Model for Flow {
     ghost view = { λ g. record {
       nodes = g.nodes;
       rows = g.rows.items;
-      accessed = g.accessed.items;
+      accessed = g.accessed;
       calls = g.calls.items;
     } };
 }
@@ -64,7 +66,7 @@ impl Flow {
     {
         match edge.pass {
             Pass::All => true,
-            Pass::Inside(function) => holds(&self.accessed, function, location),
+            Pass::Inside(function) => self.accessed.has(function, location),
             Pass::Beside(call) => match self.calls.get(call as usize) {
                 Some(functions) => lacks(&self.accessed, functions.as_slice(), location),
                 None => false,
@@ -73,21 +75,11 @@ impl Flow {
     }
 }
 
-/// Whether the set of a number has another.
-fn holds(sets: &[NumberSet], number: u32, other: u32) -> bool
-    ensures { result ≡ has other (row sets.now number) }
+/// Whether one of these functions doesn't access a location.
+fn lacks(accessed: &Accessed, functions: &[u32], location: u32) -> bool
+    ensures { result ≡ list_any (λ f. not (accesses accessed.now f location)) functions.now }
 {
-    match sets.get(number as usize) {
-        Some(set) => set.has(other),
-        None => false,
-    }
-}
-
-/// Whether the set of one of these numbers doesn't have another.
-fn lacks(sets: &[NumberSet], numbers: &[u32], other: u32) -> bool
-    ensures { result ≡ list_any (λ n. not (has other (row sets.now n))) numbers.now }
-{
-    numbers.iter().any(|n| !holds(sets, *n, other))
+    functions.iter().any(|f| !accessed.has(*f, location))
 }
 
 /// Whether a node of this function is in the graph, where these functions are reached.
@@ -132,21 +124,21 @@ pub fn supergraph(alloc: Global, lowered: &Lowered, calls: &CallGraph) -> Result
     let flow = Flow {
         nodes,
         rows,
-        accessed: Vec::new(alloc),
+        accessed: Accessed::none(alloc),
         calls: Vec::new(alloc),
     };
     Ok(flow)
 }
 
 /// The supergraph with localised calls: only what a function accesses passes into it and back, and
-/// what some function that a call calls doesn't access passes beside the call. `accessed` has a set
-/// of locations for each function, and `flow` is the supergraph where every location passes.
+/// what some function that a call calls doesn't access passes beside the call. `flow` is the
+/// supergraph where every location passes.
 pub fn localise(
     alloc: Global,
     lowered: &Lowered,
     flow: &Flow,
     calls: &CallGraph,
-    accessed: &[NumberSet],
+    accessed: Accessed,
 ) -> Result<Flow, AllocError>
     requires few { length calls.now < 2 ^ 32 }
     requires long { length calls.now ≡ length (lowered_of lowered.now).nodes }
@@ -154,14 +146,14 @@ pub fn localise(
     ensures graph { IfOk result (λ g. IsSupergraph (lowered_of lowered.now) calls.now false flow.now
         → IsSupergraph (lowered_of lowered.now) calls.now true g) }
     ensures nodes { IfOk result (λ g. g.nodes ≡ flow.now.nodes) }
-    ensures accessed { IfOk result (λ g. g.accessed ≡ accessed.now) }
+    ensures accessed { IfOk result (λ g. g.accessed ≡ accessed) }
     ensures calls { IfOk result (λ g. g.calls ≡ calls.now) }
 {
     let rows = edges_of(alloc, lowered, &flow.nodes, calls.lists(), true)?;
     let localised = Flow {
         nodes: flow.nodes.copy(alloc)?,
         rows,
-        accessed: NumberSet::copies(alloc, accessed)?,
+        accessed,
         calls: NumberSet::copies(alloc, calls.lists())?,
     };
     Ok(localised)

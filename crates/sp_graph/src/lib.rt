@@ -20,12 +20,14 @@
 //! Sparse Global Analyses for C-like Languages", 2012.
 #![tactic(auto)]
 
+mod accessed;
 mod edge;
 mod flow;
 mod functions;
 mod lookups;
 mod rows;
 
+pub use accessed::Accessed;
 pub use edge::{Edge, Pass};
 pub use flow::{Flow, localise, supergraph};
 pub use functions::{CallGraph, recursive};

@@ -6,6 +6,7 @@ use Rattle.std.specs.List.{list_any}
 use Rattle.std.specs.List.Sorted.{IsStrictlyIncreasing}
 use Rattle.sp_lattice.specs.System.{Meaning, has, AllBelow}
 use Rattle.sp_base_sets.specs.Reached.{row}
+use Rattle.sp_graph.specs.Accessed.{accesses}
 use Rattle.sp_graph.specs.Calls.{IsReached}
 use Rattle.sp_graph.specs.declared.edge.Edge.{Edge}
 use Rattle.sp_graph.specs.Supergraph.{Graph, IsSupergraph, edges_at, passes_by}
@@ -84,7 +85,7 @@ pub record AreEquations (e : Equations) : Type 0 where
   pub supergraph : IsSupergraph e.analysed.program e.analysed.told.calls true e.graph
   pub calls : e.graph.calls ≡ e.analysed.told.calls
   pub accessed : (f l : ℕ) → IsReached e.analysed.program e.analysed.told.calls f
-      → (has l (row e.graph.accessed f) ≡ true) ↔ Accesses e.analysed f l
+      → (accesses e.graph.accessed f l ≡ true) ↔ Accesses e.analysed f l
   -- just the nodes from which an edge leads there
   pub into : (j k : ℕ) → k < length (nodes_of e) → has j (row e.into k)
       ≡ (nat_lt j (length (nodes_of e)) && is_joined e.graph (number_of e j) (number_of e k))

@@ -18,6 +18,6 @@ returns-clause-graph c = λ graph.
     let nodes = c.in_ok-copy.field-0 in
     let same = c.in_ok-copy.ensures ∙ ap (λ g. g.nodes) c.flow.view_is in
     let edges = subst (λ xs. AreEdges p nodes xs true c.in_ok-rows.rows.items) c.lists.ensures (subst (λ ns. AreEdges p ns c.lists.result.now true c.in_ok-rows.rows.items) (sym c.in_ok-copy.ensures) c.in_ok-rows.ensures) in
-    made p calls true nodes c.in_ok-rows.rows.items c.in_ok-copies.field-0.items c.in_ok-copies-2.field-0.items
+    made p calls true nodes c.in_ok-rows.rows.items (record { stand_ins = c.accessed.inside.stand_ins.items; sets = c.accessed.inside.sets.items }) c.in_ok-copies.field-0.items
     (subst (λ ns. Ascends ns) (sym same) graph.ascending)
     (subst (λ ns. (n : ℕ) → (has n ns ≡ true) ↔ InGraph p calls n) (sym same) graph.nodes) edges

@@ -19,5 +19,5 @@ returns c =
     let reaches = subst (λ xs. (n : ℕ) → (get_or marks n false ≡ true) ↔ Reached xs (p.main ∷ []) n) c.deref.ensures.value c.in_ok-is_reached.ensures.exact in
     let exact = subst (λ xs. (n : ℕ) → has n nodes ≡ (nat_lt n (length p.nodes) && is_inside xs (function_of p n))) c.deref-2.ensures.value c.in_ok-nodes.ensures in
     let edges = subst (λ xs. AreEdges p nodes xs false c.in_ok-rows.rows.items) c.lists-2.ensures c.in_ok-rows.ensures in
-    made p calls false nodes c.in_ok-rows.rows.items c.new.result.items c.new-2.result.items (subst (λ xs. Ascends xs) c.nodes.view_is c.nodes.invariant)
+    made p calls false nodes c.in_ok-rows.rows.items c.none.result c.new.result.items (subst (λ xs. Ascends xs) c.nodes.view_is c.nodes.invariant)
     (graph_nodes p calls lists these marks nodes reaches exact) edges

@@ -55,5 +55,5 @@ invariant_of-result-clause-equations c =
     equations-known a flow c.args.analysis.graphed g c.in_ok-nodes.nodes.items c.in_ok-sources.sources.items
     (subst (λ (calls : Callees). IsSupergraph a.program calls false flow → IsSupergraph a.program calls true g) c.calls.ensures c.in_ok-flow.ensures.graph)
     c.in_ok-flow.ensures.nodes (c.in_ok-flow.ensures.calls ∙ c.calls.ensures)
-    (subst (AreAccessed a flow.nodes) (sym (c.in_ok-flow.ensures.accessed ∙ c.deref-2.ensures.value)) c.in_ok-accessed.ensures)
+    (subst (AreAccessed a flow.nodes) (sym c.in_ok-flow.ensures.accessed) c.in_ok-accessed.ensures)
     c.in_ok-nodes.ensures c.in_ok-sources.ensures
