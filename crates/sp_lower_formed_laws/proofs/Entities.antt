@@ -1,5 +1,6 @@
 -- Each object of a lowered program is formed.
 use Rattle.std.proofs.Common.{◌≡◌, ◌⊎◌, inl, inr, ℕ, zero, suc, ◌+◌, ◌<◌, Bool, true, false, List, [], ◌++◌, length, Option, Some, None, slice_get, if◌then◌else◌, refl, ap, sym, ◌∙◌, subst, arith}
+use Rattle.std.specs.Prelude.{All}
 use Rattle.std.proofs.lemmas.Option.{none-some}
 use Rattle.sp_types.specs.declared.program.Storage.{Storage}
 use Rattle.sp_types.specs.declared.program.Storage.TheVariants as storage
@@ -9,8 +10,9 @@ use Rattle.sp_types.specs.Programs as program
 use Rattle.sp_types.specs.Programs.{Function, Program}
 use Rattle.sp_ir.specs.declared.program.ObjectKind.{ObjectKind}
 use Rattle.sp_ir.specs.declared.program.ObjectKind.TheVariants as kinds
+use Rattle.sp_ir.specs.Commands.{Leaf}
 use Rattle.sp_ir.specs.Programs.{Object, Lowered}
-use Rattle.sp_ir.specs.Formed.{table_of, is_site, is_local, starts, IsStart, HasStart, HasOwner, HasType, NamesCode, IsObject}
+use Rattle.sp_ir.specs.Formed.{table_of, is_site, is_local, starts, reads, IsStart, HasStart, HasOwner, HasType, NamesCode, IsObject}
 use Rattle.sp_lower_draft.specs.Context.{Context}
 use Rattle.sp_lower_draft.specs.Draft.{Site, Left}
 use Rattle.sp_lower_body.specs.Frames.{known_initial}
@@ -30,7 +32,7 @@ use Rattle.sp_lower_formed_laws.proofs.Objects.{IsProgramObject, program_from, p
 use Rattle.sp_lower_formed_laws.proofs.Locals.{IsSiteLike, site_like, mapped_from}
 use Rattle.sp_lower_formed_laws.proofs.Codes.{code_at}
 use Rattle.sp_lower_formed_laws.proofs.Fits.{gs, c, is, due, os, rs, owners, codes, unit_objects, functions, locals, sites, definitions_there, defined_at, defined_from, locals_stand, owner_is}
-use Rattle.sp_lower_formed_laws.proofs.Whole.{l, sound, lowered, temporaries_there, sites_there, begins_sound, function_below, listed_function, typed_as, no_owner, some_owner, no_start, no_code}
+use Rattle.sp_lower_formed_laws.proofs.Whole.{l, sound, lowered, temporaries_there, sites_there, begins_sound, function_below, listed_function, typed_as, no_owner, some_owner, no_start, none_read, no_code}
 
 result_formed : (p : Program) (s : Signature) → IsFormedSignature p.structs s → IsFormed p.structs (result_of s)
 result_formed p (signature r ps dots) h = h.0
@@ -71,6 +73,9 @@ module _ (p : Program) (names : List (List ℕ)) (typed : IsTypedProgram p) (w :
           (starting.static n o there k)),
     )
 
+    constant_start : All (λ (v : Leaf). reads v.value ≡ false) x.start
+    constant_start = subst (All (λ (v : Leaf). reads v.value ≡ false)) (sym h.start) (starting.constant n o there)
+
     owned_by : is_local (kind_of_storage o.storage) ≡ true → is_lasting o.storage ≡ false → owner_of o.storage (mark_at (owners p names typed w numbered) n) ≡ mark_at (owners p names typed w numbered) n
         → HasOwner low x (is_local x.kind)
     owned_by k local same =
@@ -101,30 +106,35 @@ module _ (p : Program) (names : List (List ℕ)) (typed : IsTypedProgram p) (w :
       typed = typed_as p names typed w numbered starting x o.of h.of given.formed;
       owned = plain_owner storage.Static e refl refl;
       start = static_start (ap (λ t. starts (kind_of_storage t)) e);
+      constant = constant_start;
       code = no_code p names typed w numbered starting n x h.code;
     }
     unit_formed storage.Text e = record {
       typed = typed_as p names typed w numbered starting x o.of h.of given.formed;
       owned = plain_owner storage.Text e refl refl;
       start = static_start (ap (λ t. starts (kind_of_storage t)) e);
+      constant = constant_start;
       code = no_code p names typed w numbered starting n x h.code;
     }
     unit_formed storage.Outside e = record {
       typed = typed_as p names typed w numbered starting x o.of h.of given.formed;
       owned = plain_owner storage.Outside e refl refl;
       start = plain_start storage.Outside e refl refl refl;
+      constant = constant_start;
       code = no_code p names typed w numbered starting n x h.code;
     }
     unit_formed storage.Auto e = record {
       typed = typed_as p names typed w numbered starting x o.of h.of given.formed;
       owned = local_owner storage.Auto e refl refl refl;
       start = plain_start storage.Auto e refl refl refl;
+      constant = constant_start;
       code = no_code p names typed w numbered starting n x h.code;
     }
     unit_formed storage.Formal e = record {
       typed = typed_as p names typed w numbered starting x o.of h.of given.formed;
       owned = local_owner storage.Formal e refl refl refl;
       start = plain_start storage.Formal e refl refl refl;
+      constant = constant_start;
       code = no_code p names typed w numbered starting n x h.code;
     }
 
@@ -146,6 +156,7 @@ module _ (p : Program) (names : List (List ℕ)) (typed : IsTypedProgram p) (w :
     typed = typed_as p names typed w numbered starting x (function f.of) h.of (typed.functions i f there);
     owned = no_owner p names typed w numbered starting x (kinds.Function i) h.kind refl h.owner;
     start = no_start p names typed w numbered starting (length p.objects + i) x (kinds.Function i) h.kind refl h.start h.zero;
+    constant = none_read x h.start;
     code = subst (λ o. NamesCode low (length p.objects + i) o) (sym h.code) (code_named i (mark_at (codes p names typed w numbered) i) refl);
   }
 
@@ -156,6 +167,7 @@ module _ (p : Program) (names : List (List ℕ)) (typed : IsTypedProgram p) (w :
     typed = typed_as p names typed w numbered starting x t h.of f;
     owned = some_owner p names typed w numbered starting x kind k h.is local h.owner below;
     start = no_start p names typed w numbered starting n x kind h.is s h.plain.start h.plain.zero;
+    constant = none_read x h.plain.start;
     code = no_code p names typed w numbered starting n x h.plain.code;
   }
 
@@ -190,6 +202,7 @@ module _ (p : Program) (names : List (List ℕ)) (typed : IsTypedProgram p) (w :
     typed = site_typed x s h f;
     owned = no_owner p names typed w numbered starting x (site_kind s) h.kind (site_heap s).1 h.owner;
     start = no_start p names typed w numbered starting n x (site_kind s) h.kind (site_heap s).2 h.plain.start h.plain.zero;
+    constant = none_read x h.plain.start;
     code = no_code p names typed w numbered starting n x h.plain.code;
   }
 

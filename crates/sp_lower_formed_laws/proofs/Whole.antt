@@ -1,15 +1,16 @@
 -- The objects of a lowered program are formed, and so are its nodes and codes.
 use Rattle.std.proofs.Common.{◌≡◌, ℕ, zero, suc, ◌+◌, ◌<◌, Bool, true, false, List, [], length, Some, None, slice_get, refl, ap, sym, ◌∙◌, subst, arith}
+use Rattle.std.specs.Prelude.{All}
 use Rattle.std.proofs.lemmas.Option.{none-some}
 use Rattle.std.proofs.lemmas.List.Elements.{All-nil}
 use Rattle.sp_types.specs.Types.{CType}
 use Rattle.sp_types.specs.Structs.{IsFormed}
 use Rattle.sp_types.specs.Programs.{Function, Program}
 use Rattle.sp_ir.specs.declared.program.ObjectKind.{ObjectKind}
-use Rattle.sp_ir.specs.Commands.{Command, start, Node}
+use Rattle.sp_ir.specs.Commands.{Leaf, Command, start, Node}
 use Rattle.sp_ir.specs.Regions.{Region}
 use Rattle.sp_ir.specs.Programs.{Object, Lowered}
-use Rattle.sp_ir.specs.Formed.{is_site, is_local, starts, HasStart, HasOwner, HasType, NamesCode, IsEdge, IsCommand}
+use Rattle.sp_ir.specs.Formed.{is_site, is_local, starts, reads, HasStart, HasOwner, HasType, NamesCode, IsEdge, IsCommand}
 use Rattle.sp_lower_draft.specs.Context.{Context}
 use Rattle.sp_lower_draft.specs.Draft.{Left}
 use Rattle.sp_lower_functions.specs.Functions.{Part}
@@ -25,6 +26,10 @@ use Rattle.sp_lower_starts_laws.proofs.Lists.{some_is, below_there}
 use Rattle.sp_lower_formed_laws.proofs.Locals.{temporaries_stand, sites_stand}
 use Rattle.sp_lower_formed_laws.proofs.Codes.{parts_length, codes_length}
 use Rattle.sp_lower_formed_laws.proofs.Fits.{gs, c, is, os, rs, definitions_there, v, defined_at, locals_stand, sites_from, all_fit}
+
+-- without start values nothing is read
+pub none_read : (x : Object) → x.start ≡ [] → All (λ (v : Leaf). reads v.value ≡ false) x.start
+none_read x e = subst (All (λ (v : Leaf). reads v.value ≡ false)) (sym e) (All-nil (λ (v : Leaf). reads v.value ≡ false))
 
 module _ (p : Program) (names : List (List ℕ)) (typed : IsTypedProgram p) (w : Left (List Part)) (numbered : IsNumbered p names w)
     (starting : StartsStand p (c p names typed w numbered) (os p names typed w numbered) (rs p names typed w numbered) (is p names typed w numbered)) where

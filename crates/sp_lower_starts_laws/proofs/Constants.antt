@@ -28,19 +28,11 @@ use Rattle.sp_lower_expr_laws.proofs.Members.{member_good, arrow_good}
 use Rattle.sp_lower_expr_laws.proofs.Operators.{pointer_value, scalar_value, operated_good, element_good}
 use Rattle.sp_lower_expr_laws.proofs.Trees.{tree_formed, tree_floating, tree_good}
 use Rattle.sp_lower_starts_laws.proofs.InKinds.{constant_in}
-use Rattle.sp_lower_starts_laws.proofs.Steady.{at, value_same, place_same}
+use Rattle.sp_lower_starts_laws.proofs.Steady.{and_first, and_second, at, value_same, place_same}
 use Rattle.sp_lower_starts_laws.proofs.Everywhere.{expression_free}
 use Rattle.sp_lower_starts_laws.proofs.Values.{IsFormedValue}
 
 -- ---- sorts
-
-and_first : (a b : Bool) → (a && b) ≡ true → a ≡ true
-and_first true b h = refl
-and_first false b h = h
-
-and_second : (a b : Bool) → (a && b) ≡ true → b ≡ true
-and_second true b h = h
-and_second false b h = false_true h
 
 constant_scalar : (e : Typed) → is_constant e ≡ true → is_scalar (of e) ≡ true
 constant_scalar (typed f (integer k) p m) h = refl

@@ -8,4 +8,5 @@ pub mod Steady
 pub mod Everywhere
 pub mod InKinds
 pub mod Constants
+pub mod Unread
 pub mod Whole

@@ -1,11 +1,11 @@
 -- What is wanted of start values: those of a program's objects are formed.
-use Rattle.std.specs.Prelude.{◌≡◌, ℕ, Bool, true, List, Some, None, slice_get}
+use Rattle.std.specs.Prelude.{◌≡◌, ℕ, Bool, true, false, List, Some, None, slice_get, All}
 use Rattle.sp_types.specs.Programs as program
 use Rattle.sp_types.specs.Programs.{Program}
 use Rattle.sp_ir.specs.Commands.{Leaf}
 use Rattle.sp_ir.specs.Regions.{Region}
 use Rattle.sp_ir.specs.Programs.{Object}
-use Rattle.sp_ir.specs.Formed.{IsStart, starts}
+use Rattle.sp_ir.specs.Formed.{IsStart, starts, reads}
 use Rattle.sp_lower_draft.specs.Context.{Context}
 use Rattle.sp_lower_body.specs.Frames.{Initial, known_initial}
 use Rattle.sp_lower_body.specs.Declarations.{is_automatic}
@@ -20,6 +20,9 @@ pub record StartsStand (p : Program) (c : Context) (os : List Object) (rs : List
   pub static : (n : ℕ) (o : program.Object) → slice_get p.objects n ≡ Some o → starts (kind_of_storage o.storage) ≡ true
       → IsStart (table c os) rs None n o.of (start_of c o.storage (known_initial (slice_get is n)).cells o.start)
       (zero_of o.storage (known_initial (slice_get is n)).zero)
+  -- known before any cell has a value
+  pub constant : (n : ℕ) (o : program.Object) → slice_get p.objects n ≡ Some o
+      → All (λ l. reads l.value ≡ false) (start_of c o.storage (known_initial (slice_get is n)).cells o.start)
   pub automatic : (k from : ℕ) (v : ℕ → Bool) → Fits (record c { function = k; first_temporary = from }) os v
       → (n : ℕ) (o : program.Object) → slice_get p.objects n ≡ Some o → is_automatic o.storage ≡ true
       → AreLeafValues (scene c v) o.of o.start → (ls : List Leaf)
