@@ -69,7 +69,7 @@ begun owners = record {
 }
 
 module _ (owners : List (List ℕ)) (i last : ℕ) (left : List (List ℕ)) (stand_ins : List ℕ) (so_far : SoFar owners i last left stand_ins) where
-  private s : StandFor owners i left stand_ins
+  s : StandFor owners i left stand_ins
   s = so_far.stand
 
   -- it stands for itself
@@ -186,14 +186,14 @@ module _ (callers owners left : List (List ℕ)) (stand_ins : List ℕ) (s : Sta
       by (inl e) = low l f (sym (ap (has f) e) ∙ h)
       by (inr e) = absurd (nothing (sym (ap (has f) e) ∙ h))
 
-  private nowhere : (f : ℕ) → Reached callers [] f → ⊥
+  nowhere : (f : ℕ) → Reached callers [] f → ⊥
   nowhere f (start h) = nothing h
     where
       nothing : has f [] ≡ true → ⊥
       nothing e = cc
   nowhere f (onward {mid} r h) = nowhere mid r
 
-  private past-end : (lists : List (List ℕ)) (k : ℕ) → length lists ≤ k → row lists k ≡ []
+  past-end : (lists : List (List ℕ)) (k : ℕ) → length lists ≤ k → row lists k ≡ []
   past-end [] k past = refl
   past-end (xs ∷ lists) zero past = absurd (omega arith)
   past-end (xs ∷ lists) (suc k) past = past-end lists k (omega arith)
@@ -212,9 +212,10 @@ module _ (callers owners left : List (List ℕ)) (stand_ins : List ℕ) (s : Sta
           let one = get-there stand_ins l (omega (arith, low, s.told)) in
           let two = s.alike l one.0 one.1 in
           let is : accesses a f l ≡ has one.0 (row sets f) = same-set ∙ ap (stood_for (row sets f)) one.1 in
-          let same : row left one.0 ≡ row owners l = two.0 ∙ two.1 in
-          (λ h. subst (λ xs. Reached callers xs f) same ((exact f one.0).0 (sym is ∙ h)),
-           λ r. is ∙ (exact f one.0).1 (subst (λ xs. Reached callers xs f) (sym same) r))
+          let same : row left one.0 ≡ row owners l = two.0 ∙ two.1 in (
+            λ h. subst (λ xs. Reached callers xs f) same ((exact f one.0).0 (sym is ∙ h)),
+            λ r. is ∙ (exact f one.0).1 (subst (λ xs. Reached callers xs f) (sym same) r),
+          )
       by (inr past) =
           let is : accesses a f l ≡ false = same-set ∙ ap (stood_for (row sets f)) (get-past stand_ins l (omega (arith, past, s.told))) in
           (λ h. absurd (false-true (sym is ∙ h)), λ r. absurd (nowhere f (subst (λ xs. Reached callers xs f) (past-end owners l past) r)))

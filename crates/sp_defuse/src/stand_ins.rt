@@ -2,7 +2,7 @@
 //!
 //! Most locations are those of one function, and stand side by side. So what functions access is
 //! found for a few of them alone, and kept for these.
-ghost use Rattle.std.specs.Prelude.{◌≡◌, ◌<◌, ◌^◌, ℕ, length, IfOk, OnOk};
+ghost use Rattle.std.specs.Prelude.{◌≡◌, ◌<◌, ◌^◌, true, length, IfOk};
 ghost use Rattle.sp_base_sets.specs.Reached.{row};
 ghost use Rattle.sp_defuse.specs.StandIns.{StandFor};
 
