@@ -20,9 +20,10 @@ HERE = os.path.dirname(os.path.abspath(__file__))
 TOP = os.path.dirname(HERE)
 sys.path.insert(0, os.path.join(TOP, "source"))
 
-from c.places import Places  # noqa: E402
+from c.places import Place, Places  # noqa: E402
 from c.tokens import Tokens  # noqa: E402
 from contexts.program import Copied, with_copies  # noqa: E402
+from driver.indirect import targets_of  # noqa: E402
 from driver.preprocessor import Preprocessor  # noqa: E402
 
 faults: dict[str, str] = {}
@@ -51,7 +52,18 @@ def placed_tokens(text: str, file: str) -> Counter[tuple[str, str]]:
 def made_of(texts: list[str], size: int) -> Copied:
     """What comes of texts."""
     named = [(f"{number}.c", text) for number, text in enumerate(texts)]
-    return with_copies(named, size) or Copied(texts, 0, {})
+    return with_copies(named, size, lambda: targets_in(named)) or Copied(texts, 0, {})
+
+
+def targets_in(named: list[tuple[str, str]]) -> dict[Place, frozenset[str]]:
+    """To which functions the indirect calls of texts lead, as the program says."""
+    with tempfile.TemporaryDirectory() as room:
+        for file, text in named:
+            with open(os.path.join(room, file), "w", encoding="latin-1", newline="") as opened:
+                opened.write(text)
+        words = [os.path.join(TOP, "sparrow"), "calls", *(file for file, _ in named)]
+        done = subprocess.run(words, cwd=room, capture_output=True, check=True)
+    return targets_of(done.stdout.decode("latin-1"))
 
 
 def try_rows() -> None:
@@ -177,6 +189,28 @@ def try_analysis(room: str) -> None:
         expect(f"no number: {word}", source(word), (3, [], said))
 
 
+def try_indirect() -> None:
+    """What the analysis gains where allocators are called through pointers, and that it loses no
+    alarm at these calls."""
+    path = os.path.join(HERE, "source", "contexts", "allocators.c")
+
+    def source(*words: str) -> list[str]:
+        done = subprocess.run(
+            [os.path.join(TOP, "sparrow"), "source", "--format=plain", *words, path],
+            capture_output=True, text=True, check=False,
+        )
+        return done.stdout.splitlines()
+
+    null = [f"{path}:{place}: pointer: value [0,0]" for place in ("36:42", "37:22")]
+    one = f"{path}:43:3: overrun: offset [3,3], size [3,3]"
+    expect("an allocator of a member", source(), [*null, one, "3 alarms"])
+    without = source("--no-contexts")
+    expect("the same alarms of calls without copies", without[:2], null)
+    # Both blocks are one then, of bytes and of any size: each line that accesses it has an alarm.
+    lines = {line.split(":")[1] for line in without[2:-1]}
+    expect("without copies it is one block", lines, {"38", "39", "41", "43", "44"})
+
+
 def main() -> int:
     """Tries all."""
     with tempfile.TemporaryDirectory() as room:
@@ -185,8 +219,10 @@ def main() -> int:
         try_alike(room, "two files", ["table.c", "blocks.c"], 0)
         try_alike(room, "small functions", ["table.c", "blocks.c"], 120)
         try_alike(room, "static objects", ["counts.c"], 0)
+        try_alike(room, "allocators of members", ["allocators.c"], 0)
         try_limits()
         try_analysis(room)
+        try_indirect()
     return tell(faults)
 
 

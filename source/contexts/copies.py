@@ -9,13 +9,14 @@ from __future__ import annotations
 from typing import Optional
 
 from c.constants import value_of, wrapped
-from c.edits import marker_to
 from c.fresh import FreshNames
 from c.trees import Declaration, Symbol
 from c.types import Integer
 
 from .functions import TYPED, Call, Calls, Candidate, ContextUnit
+from .indirect import ENDING, instead_of
 from .meant import cast_for, tells_elements
+from .placed import edited, marker
 from .scopes import mean_the_same
 from .statics import Lifted
 
@@ -36,6 +37,12 @@ class Site:
         self.unit = caller.unit
         self.before = caller.node.first
         self.texts: list[str] = []
+        # Whether `exit` has to be declared there.
+        self.ends = False
+
+    def text(self) -> str:
+        """What goes there."""
+        return (ENDING if self.ends else "") + "".join(self.texts)
 
 
 class Copier:
@@ -80,17 +87,19 @@ class Copier:
         """A unit's text with the copies that its functions call."""
         edits: dict[int, str] = {}
         heads: dict[int, str] = {}
+        names: dict[Call, str] = {}
         for caller in unit.candidates:
             site = Site(caller)
-            changed = self.renamed(caller, site, 0, None)
-            if changed:
-                edits.update(changed)
-                heads[caller.node.first] = "".join(site.texts)
+            made = self.copies_for(caller, site, 0, None)
+            if made:
+                names.update(made)
+                heads[caller.node.first] = site.text()
         for candidate, lifted in self.lifted.items():
             if candidate.unit is unit:
                 first = candidate.node.first
                 edits.update(lifted.edits())
                 heads[first] = lifted_text(lifted, unit) + heads.get(first, "")
+        name_calls(unit, edits, names)
         if not edits:
             return unit.tokens.text
         tokens = unit.tokens
@@ -98,16 +107,25 @@ class Copier:
         before, behind = tokens.text[: tokens.starts[0]], tokens.text[tokens.end(last) :]
         return before + edited(unit, 0, last, edits, heads) + behind
 
-    def renamed(
+    def copies_for(
         self, caller: Candidate, site: Site, level: int, cast: Optional[str]
-    ) -> dict[int, str]:
-        """The names in a function's text that become those of copies."""
-        edits = {}
+    ) -> dict[Call, str]:
+        """The names of the copies that the calls of a function get."""
+        names = {}
         for call in caller.calls:
+            if call.is_indirect and not self.may_end(caller, site):
+                continue
             name = self.copy_for(caller, call, site, level, cast)
             if name is not None:
-                edits[call.token] = name
-        return edits
+                names[call] = name
+                site.ends |= call.is_indirect
+        return names
+
+    def may_end(self, caller: Candidate, site: Site) -> bool:
+        """Whether `exit` is the library's there, or may be declared."""
+        known = site.unit.scope.names.get("exit")
+        is_other = "exit" in caller.locals or "exit" in self.calls.only
+        return not is_other and (known is None or known.first < site.before)
 
     def copy_for(
         self, caller: Candidate, call: Call, site: Site, level: int, cast: Optional[str]
@@ -117,6 +135,8 @@ class Copier:
         if callee is None or callee not in self.copied:
             return None
         is_wrapper = callee in self.calls.wrappers
+        if call.is_indirect and not is_wrapper:
+            return None
         if level == 0 or tells_elements(call.meant):
             # In a copy from another unit the type has no name here, and there is no cast.
             cast = cast_for(call.meant, site.unit.scope, site.before)
@@ -146,7 +166,7 @@ class Copier:
         for symbol, value in fixed:
             # Where it goes on as an argument its value is known, too.
             symbol.value = value
-        edits.update(self.renamed(callee, site, level + 1, cast))
+        names = self.copies_for(callee, site, level + 1, cast)
         if callee.statics:
             if callee not in self.lifted:
                 self.lifted[callee] = Lifted(callee, self.fresh)
@@ -166,8 +186,18 @@ class Copier:
         for token in range(node.specifiers.first, node.specifiers.last + 1):
             if unit.tokens.values[token] in ("static", "extern"):
                 edits[token] = ""
+        name_calls(unit, edits, names)
         text = edited(unit, node.first, node.last, edits, {})
         return f"\nstatic{marker(unit, node.first)}{text}"
+
+
+def name_calls(unit: ContextUnit, edits: dict[int, str], names: dict[Call, str]) -> None:
+    """Gives calls the names of copies, beside all other edits of their functions."""
+    edits.update((call.token, name) for call, name in names.items() if not call.is_indirect)
+    others = dict(edits)
+    for call, name in names.items():
+        if call.is_indirect:
+            edits.update(instead_of(unit, call, name, others))
 
 
 def fixed_parameters(callee: Candidate, call: Call) -> list[tuple[Symbol, int]]:
@@ -217,31 +247,3 @@ def named(lifted: Lifted, declaration: Declaration) -> dict[int, str]:
     """The new names in a declaration."""
     tokens = range(declaration.first, declaration.last + 1)
     return {token: lifted.names[token] for token in tokens if token in lifted.names}
-
-
-def marker(unit: ContextUnit, token: int) -> str:
-    """A marker line, and blanks up to a token's column, where it isn't too far."""
-    return marker_to(unit.places.of(unit.tokens.starts[token]))
-
-
-def edited(
-    unit: ContextUnit, first: int, last: int, edits: dict[int, str], heads: dict[int, str]
-) -> str:
-    """Tokens with other spellings for some, and texts that go before some."""
-    tokens = unit.tokens
-    parts = []
-    at = tokens.starts[first]
-    for token in sorted({*edits, *heads}):
-        parts.append(tokens.text[at : tokens.starts[token]])
-        at = tokens.starts[token]
-        if token in heads:
-            parts += [heads[token], marker(unit, token)]
-        if token in edits:
-            parts.append(edits[token])
-            if token < last:
-                parts.append(marker(unit, token + 1))
-                at = tokens.starts[token + 1]
-            else:
-                at = tokens.end(token)
-    parts.append(tokens.text[at : tokens.end(last)])
-    return "".join(parts)

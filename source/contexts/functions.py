@@ -2,8 +2,9 @@
 
 from __future__ import annotations
 
-from typing import Optional
+from typing import Callable, Optional
 
+from c.places import Place
 from c.tokens import NAME
 from c.trees import Declaration, Declarator, Expression, FunctionDefinition, Specifiers, Statement, Symbol
 from c.types import Function, Integer, MaybeType, Pointer
@@ -19,13 +20,21 @@ ALLOCATING = TYPED | {"strdup"}
 # The tokens that an allocation wrapper has at most.
 MOST_OF_WRAPPER = 200
 
+# What tells the functions to which indirect calls lead, by their places.
+Targets = Callable[[], dict[Place, frozenset[str]]]
+
 
 class Call:
-    """A direct call, and the type that its result is meant for."""
+    """A call, and the type that its result is meant for. An indirect one has no name until it is
+    known which function it leads to."""
 
-    def __init__(self, node: Expression) -> None:
-        self.name = node.parts[0].text
-        self.token = node.parts[0].first
+    def __init__(self, node: Expression, is_indirect: bool) -> None:
+        function = node.parts[0]
+        self.is_indirect = is_indirect
+        self.name = "" if is_indirect else function.text
+        self.token = function.first
+        # The tokens of an indirect call: what is called, and all of it.
+        self.called, self.last = function.last, node.last
         self.arguments = node.parts[1:]
         self.meant: MaybeType = None
 
@@ -170,12 +179,15 @@ class Gather(Rewriting):
                 candidate.changed.add(id(changed))
 
     def call(self, candidate: Candidate, node: Expression) -> None:
-        """A call of a function by its name."""
+        """A call of a function by its name, or of what may be an allocator."""
         function = node.parts[0]
         symbol = function.symbol
-        if function.kind != "name" or symbol is None or symbol.kind != "function" or symbol.depth:
+        is_name = function.kind == "name" and (symbol is None or symbol.kind == "function")
+        if is_name and (symbol is None or symbol.depth):
             return
-        call = Call(node)
+        if not is_name and not (isinstance(node.type, Pointer) and is_pure(function)):
+            return
+        call = Call(node, not is_name)
         candidate.calls.append(call)
         self.known[id(node)] = call
         inner = node
@@ -234,6 +246,12 @@ class Gather(Rewriting):
             call.meant = kind.result
 
 
+def is_pure(node: Expression) -> bool:
+    """Whether an expression changes nothing, so that it may stand twice."""
+    changes = node.kind in ("assign", "postfix", "call", "block") or node.text in ("++", "--")
+    return not changes and all(map(is_pure, node.parts))
+
+
 def bare(node: Expression) -> Expression:
     """An expression without the parentheses around it."""
     while node.kind == "parenthesis":
@@ -256,15 +274,19 @@ class ContextUnit(Unit):
 class Calls:
     """The functions of all units, and which one a call means."""
 
-    def __init__(self, units: list[ContextUnit]) -> None:
+    def __init__(self, units: list[ContextUnit], targets: Targets) -> None:
         self.units = units
         self.candidates = [each for unit in units for each in unit.candidates]
         self.outside: dict[str, Candidate] = {}
         self.own: dict[tuple[int, str], Candidate] = {}
+        # Functions whose name no other file has.
+        self.only: dict[str, Optional[Candidate]] = {}
         for each in self.candidates:
             self.own[id(each.unit), each.name] = each
+            self.only[each.name] = None if each.name in self.only else each
             if not each.is_static:
                 self.outside.setdefault(each.name, each)
+        self.name_indirect(targets)
         self.uses: dict[Candidate, int] = {}
         for each in self.candidates:
             for call in each.calls:
@@ -273,8 +295,24 @@ class Calls:
                     self.uses[callee] = self.uses.get(callee, 0) + 1
         self.wrappers = self.allocating()
 
+    def name_indirect(self, targets: Targets) -> None:
+        """Gives the indirect calls that lead to one function its name. What they lead to takes a
+        while to find, so it is asked for only where a wrapper may be among it."""
+        found = [
+            (each.unit, call) for each in self.candidates for call in each.calls if call.is_indirect
+        ]
+        if not found or not any(each.may_wrap() for each in self.candidates):
+            return
+        known = targets()
+        for unit, call in found:
+            names = known.get(unit.places.of(unit.tokens.starts[call.token]), frozenset())
+            if len(names) == 1:
+                (call.name,) = names
+
     def callee(self, caller: Candidate, call: Call) -> Optional[Candidate]:
-        """The function that a call means; None where no file defines it."""
+        """The function that a call means; None where no file defines it, or it isn't known."""
+        if call.is_indirect:
+            return self.only.get(call.name)
         own = self.own.get((id(caller.unit), call.name))
         return own if own is not None else self.outside.get(call.name)
 
@@ -310,4 +348,6 @@ class Calls:
     def allocates(self, caller: Candidate, call: Call, wrappers: set[Candidate]) -> bool:
         """Whether a call gives a block: it is the library's, or a wrapper's."""
         callee = self.callee(caller, call)
-        return call.name in ALLOCATING if callee is None else callee in wrappers
+        if callee is None:
+            return call.name in ALLOCATING and not call.is_indirect
+        return callee in wrappers

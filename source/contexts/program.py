@@ -9,7 +9,7 @@ from c.tokens import BAD
 from rewriting.program import RECURSION
 
 from .copies import Copier
-from .functions import Calls, ContextUnit
+from .functions import Calls, ContextUnit, Targets
 
 
 class Copied(NamedTuple):
@@ -20,18 +20,20 @@ class Copied(NamedTuple):
     left: dict[str, int]
 
 
-def with_copies(texts: list[tuple[str, str]], size: int) -> Optional[Copied]:
+def with_copies(
+    texts: list[tuple[str, str]], size: int, targets: Targets
+) -> Optional[Copied]:
     """The texts of a program's files with copies; None where there are none.
 
     Each text comes with its file's name. Allocation wrappers are copied, and functions of up to
-    `size` tokens.
+    `size` tokens. `targets` tells to which functions the indirect calls of these texts lead.
     """
     sys.setrecursionlimit(max(sys.getrecursionlimit(), RECURSION))
     try:
         units = [ContextUnit(text, file) for file, text in texts]
         if any(BAD in unit.tokens.kinds for unit in units):
             return None
-        copier = Copier(Calls(units), size)
+        copier = Copier(Calls(units, targets), size)
         if not copier.copied:
             return None
         copied = [copier.text(unit) for unit in units]

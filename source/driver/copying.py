@@ -26,7 +26,10 @@ class Copying:
         """Copies what there is to copy."""
         from contexts.program import with_copies
 
-        copied = with_copies(list(zip(self.room.texts, self.before)), size)
+        from .indirect import targets_in
+
+        texts = list(zip(self.room.texts, self.before))
+        copied = with_copies(texts, size, lambda: targets_in(self.room))
         if copied is None:
             return
         self.left = copied.left
