@@ -13,6 +13,7 @@ sys.path.insert(0, os.path.join(os.path.dirname(HERE), "source"))
 
 from c.places import Place  # noqa: E402
 from report.baseline import Fingerprints  # noqa: E402
+from report.building import of_places  # noqa: E402
 from report.excerpt import Excerpt  # noqa: E402
 from report.expressions import ACCESS, CALL, CHAIN  # noqa: E402
 from report.folding import Finding, fold  # noqa: E402
@@ -41,6 +42,42 @@ def sentence_faults() -> dict[str, str]:
         found = fold("".join(lines) + f"{len(lines)} alarms\n").findings
         got = [(finding.kind, sentence(finding, None)) for finding in found]
         faults[name] = "" if got == [(kind, said)] else str(got)
+    return faults
+
+
+def follower_faults() -> dict[str, str]:
+    """What alarms of one place become: an overrun of an object of which nothing is known is part of
+    the pointer's warning, and all that tells more stays."""
+    pointer, far = "pointer: value [0,9]", 2**63 - 1
+    rows = {
+        "a size that isn't known": (
+            [pointer, f"overrun: offset [0,0], size [0,{far}]"], [(UNKNOWN, 2)],
+        ),
+        "a size that is known": (
+            [pointer, "overrun: offset [4,4], size [4,4]"], [(UNKNOWN, 1), (OVERRUN, 1)],
+        ),
+        "one of two sizes is known": (
+            [pointer, f"overrun: offset [0,0], size [0,{far}]", "overrun: offset [4,4], size [4,4]"],
+            [(UNKNOWN, 1), (OVERRUN, 2)],
+        ),
+        "a least size": (
+            [pointer, f"overrun: offset [4,4], size [4,{far}]"], [(UNKNOWN, 1), (OVERRUN, 1)],
+        ),
+        "before the object": (
+            [pointer, f"overrun: offset [-2,-1], size [0,{far}]"], [(UNKNOWN, 1), (OVERRUN, 1)],
+        ),
+        "the null pointer": (
+            ["pointer: value [0,0]", f"overrun: offset [0,0], size [0,{far}]"],
+            [(NULL, 1), (OVERRUN, 1)],
+        ),
+    }
+    faults = {}
+    for name, (alarms, want) in rows.items():
+        lines = [f"a.c:1:1: {alarm}\n" for alarm in alarms]
+        found = fold("".join(lines) + f"{len(lines)} alarms\n").findings
+        spots = Spots(OneLine("*p;"), [("a.c", "*p;")], found)
+        got = [(finding.kind, finding.alarms) for finding, _ in of_places(found, spots)]
+        faults[name] = "" if got == want else str(got)
     return faults
 
 
@@ -170,6 +207,7 @@ def main() -> int:
     """Tries all rows."""
     tables = {
         "a sentence": sentence_faults(),
+        "a place": follower_faults(),
         "an expression": expression_faults(),
         "an excerpt": excerpt_faults(),
         "an ignore": ignore_faults(),

@@ -23,6 +23,10 @@ REFUSAL = re.compile(
     r"(.*):([0-9]+):([0-9]+): refused(?: ([A-Z]+[0-9]+))?: ([^\n]*)\n", re.DOTALL
 )
 
+# A place with a kind, and what is found there.
+Where = tuple[str, int, int, str]
+Placed = tuple[Finding, Optional[Spot]]
+
 ORDER = {kind: number for number, kind in enumerate(kinds.KINDS)}
 
 
@@ -64,11 +68,9 @@ def take_findings(
         say(f"{file}:{line}: 'sparrow: ignore' wants a reason")
 
 
-def of_places(
-    findings: list[Finding], spots: Spots
-) -> Iterable[tuple[Finding, Optional[Spot]]]:
+def of_places(findings: list[Finding], spots: Spots) -> Iterable[Placed]:
     """The findings with their spots: those of one kind at one spot, as of a macro, are one."""
-    found: dict[tuple[str, int, int, str], tuple[Finding, Optional[Spot]]] = {}
+    found: dict[Where, Placed] = {}
     for finding in findings:
         spot = spots.of(finding)
         place = finding.place
@@ -80,7 +82,18 @@ def of_places(
             found[key] = first, joined(known, spot)
         else:
             found[key] = finding, spot
-    return found.values()
+    return without_followers(found).values()
+
+
+def without_followers(found: dict[Where, Placed]) -> dict[Where, Placed]:
+    """The same with overruns as part of what they come of: a pointer of which nothing is known."""
+    left = dict(found)
+    for (file, line, column, kind), (finding, _) in found.items():
+        cause = left.get((file, line, column, kinds.UNKNOWN))
+        if kind == kinds.OVERRUN and cause is not None and not finding.is_known:
+            cause[0].join(finding)
+            del left[file, line, column, kind]
+    return left
 
 
 def order(item: Item) -> tuple[tuple[str, int, int], int]:

@@ -19,6 +19,15 @@ NUMBER = re.compile(r"[0-9]+")
 ONE = (1, 1)
 
 
+# A bound this far from 0 tells nothing: it comes of a type's greatest or least number.
+FAR = 2**62
+
+
+def is_unknown(size: Interval) -> bool:
+    """Whether an object may have any size."""
+    return size[0] <= 1 and size[1] >= FAR
+
+
 class Finding:
     """The alarms of one kind at one place, with the hulls of what they tell."""
 
@@ -29,6 +38,8 @@ class Finding:
         self.intervals: dict[str, Interval] = {}
         # The sizes of a type and of elements, of a punned access.
         self.sizes: dict[str, set[int]] = {}
+        # Whether an alarm tells the size of the object, or that the access is before it.
+        self.is_known = False
 
     def widen(self, name: str, interval: Interval) -> None:
         """Takes an interval into the hull of that name."""
@@ -47,13 +58,14 @@ class Finding:
             self.widen("offset", told[0])
             self.widen("count", told[1] if len(told) == 3 else ONE)
             self.widen("size", told[-1])
+            self.is_known |= not is_unknown(told[-1]) or told[0][1] < 0
         elif told:
             self.widen("value", told[0])
-
 
     def join(self, other: Finding) -> None:
         """Takes what another of the same kind tells."""
         self.alarms += other.alarms
+        self.is_known |= other.is_known
         for name, interval in other.intervals.items():
             self.widen(name, interval)
         for name, sizes in other.sizes.items():

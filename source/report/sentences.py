@@ -5,12 +5,11 @@ from __future__ import annotations
 from typing import Optional
 
 from .expressions import ACCESS, CALL, CHAIN
-from .folding import Finding, Interval
+from .folding import FAR, Finding, Interval, is_unknown
 from .kinds import NO_FUNCTION, NULL, OVERRUN, PUNNED, ZERO
 from .spots import Expression
 
-# A bound this far from 0 tells nothing: it comes of a type's greatest or least number.
-FAR = 2**62
+UNSIZED = "the object's size isn't known"
 
 
 def sentence(finding: Finding, expression: Optional[Expression]) -> str:
@@ -33,7 +32,8 @@ def about(finding: Finding, expression: Optional[Expression]) -> str:
         return f"{what} may be no function of as many parameters"
     if finding.kind == NULL:
         return f"{following(expression)} the null pointer"
-    return f"{following(expression)} {number(finding.intervals['value'])}, which is no pointer"
+    said = f"{following(expression)} {number(finding.intervals['value'])}, which is no pointer"
+    return f"{said}, and {UNSIZED}" if "size" in finding.intervals else said
 
 
 def following(expression: Optional[Expression]) -> str:
@@ -107,9 +107,8 @@ def range_of(interval: Interval) -> str:
 
 def has(size: Interval, unit: str = "element") -> str:
     """What an object has."""
-    low, high = size
-    if low <= 1 and high >= FAR:
-        return "the object's size isn't known"
+    if is_unknown(size):
+        return UNSIZED
     return f"the object has {range_of(size)} {unit}{'' if size == (1, 1) else 's'}"
 
 
