@@ -10,7 +10,7 @@ import subprocess
 import sys
 import tempfile
 from html.parser import HTMLParser
-from typing import Any
+from typing import Any, Callable
 
 from report_schema import schema, schema_faults
 from told import tell
@@ -328,11 +328,48 @@ def try_terminal(room: str) -> None:
         expect(f"colours: {name}", got, (True, has_colors))
 
 
+def try_schema(room: str) -> None:
+    """A document that breaks the standard is told by the schema of SARIF."""
+    with open(os.path.join(room, "break.c"), "w", encoding="ascii") as file:
+        file.write("int a[3]; int main(void) { a[3] = 1; return 0; }\n")
+    content = run(room, "--format=sarif", "break.c")[1]
+    rule = schema("sarif")
+    breaks: dict[str, Callable[[Any], object]] = {
+        "another version": lambda value: value.update(version="2.0.0"),
+        "no message": lambda value: value["runs"][0]["results"][0].pop("message"),
+        "a member too many": lambda value: value["runs"][0]["results"][0].update(mark=1),
+        "another level": lambda value: value["runs"][0]["results"][0].update(level="bad"),
+        "a line below 1": lambda value: region_of(value).update(startLine=0),
+        "a rule twice": lambda value: rules_of(value).append(rules_of(value)[0]),
+        "an address with a blank": lambda value: location_of(value).update(uri="a b.c"),
+    }
+    for name, change in breaks.items():
+        value = json.loads(content)
+        change(value)
+        expect(f"broken: {name}", bool(schema_faults(value, rule, rule)), True)
+
+
+def location_of(value: Any) -> Any:
+    """The file of the first result."""
+    return value["runs"][0]["results"][0]["locations"][0]["physicalLocation"]["artifactLocation"]
+
+
+def region_of(value: Any) -> Any:
+    """The region of the first result."""
+    return value["runs"][0]["results"][0]["locations"][0]["physicalLocation"]["region"]
+
+
+def rules_of(value: Any) -> Any:
+    """The rules of the tool."""
+    return value["runs"][0]["tool"]["driver"]["rules"]
+
+
 def main() -> int:
     """Tries all."""
     with tempfile.TemporaryDirectory() as room:
         try_programs(room)
         try_order(room)
+        try_schema(room)
         try_odd(room)
         try_refusals(room)
         try_failures(room)
