@@ -1,7 +1,7 @@
 """Indirect calls of allocation wrappers, as `strm->zalloc(..)`, become calls of copies.
 
-The call as it is written stays on a path that ends: `(ANY ? (CALL, exit(1)) : 0, COPY(..))`. So each
-alarm of what is called stays, too, and nothing comes from there. A compiler takes the copy.
+The call as it is written stays on a path that ends: `(ANY ? (CALL, exit(1)) : 0, COPY(..))`. So
+each alarm of what is called stays, too, and nothing comes from there. A compiler takes the copy.
 """
 
 from __future__ import annotations
@@ -17,7 +17,7 @@ ENDING = "\nextern void exit(int);"
 def instead_of(
     unit: ContextUnit, call: Call, name: str, edits: dict[int, str]
 ) -> dict[int, str]:
-    """The edits that make a call one of a copy. What it is written by has the edits of its tokens."""
+    """The edits that make a call one of a copy; it also stands as it is written, with its edits."""
     within = {
         token: text for token, text in edits.items() if call.token <= token <= call.last
     }

@@ -66,6 +66,6 @@ def run_program(room: Room, request: Request) -> tuple[int, bytes]:
     report = room.path("report")
     program = os.environ["SPARROW_PROGRAM"]
     with Progress("analysing"):
-        status = run([program, "analyse", *request.flags, "--", *room.texts], output=report)
+        status = run([program, "analyse", *request.asked, "--", *room.texts], output=report)
     with open(report, "rb") as file:
         return status, file.read()

@@ -71,7 +71,7 @@ def analyse(request: Request) -> int:
         if request.keep is not None:
             room.keep(request.keep)
         if writer is not None:
-            answer = writer.told(answer)
+            answer = writer.told(answer, room.texts)
         if not is_written(answer):
             return UNWRITTEN
         for note in answer.notes:

@@ -38,6 +38,11 @@ class Request:
         self.files: list[str] = []
         self.report = Wanted()
 
+    @property
+    def asked(self) -> list[str]:
+        """What the program is asked for beside the report."""
+        return ["--values", "--nodes"] if self.report.is_why else self.flags
+
 
 def read_words(words: list[str]) -> Request:
     """The request of the words."""

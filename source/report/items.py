@@ -23,6 +23,10 @@ class Item:
         self.state: Optional[str] = None
         # Why a comment in its line says that it is to be ignored.
         self.justification: Optional[str] = None
+        # The location that its cause gives a value, and what is said of that; and the places of the
+        # cause and of the steps from it.
+        self.cause: Optional[tuple[str, str]] = None
+        self.notes: list[Item] = []
 
     @property
     def place(self) -> tuple[str, int, int]:

@@ -66,7 +66,19 @@ def warning(item: Item) -> dict[str, Any]:
         told["baseline"] = item.state
     if item.justification is not None:
         told["justification"] = item.justification
+    if item.cause is not None:
+        told["reason"] = reason(item)
     return told
+
+
+def reason(item: Item) -> dict[str, Any]:
+    """Where what is wrong comes from, and the steps from there that are told."""
+    cell, what = item.cause or ("", "")
+    first, *steps = [
+        {"file": note.file, "line": note.line, "column": note.column, "message": note.message}
+        for note in item.notes
+    ]
+    return {**first, "location": shown(cell), "what": what, "steps": steps}
 
 
 def refused(refusal: Refused) -> dict[str, Any]:

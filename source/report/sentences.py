@@ -52,13 +52,13 @@ def overrun(finding: Finding, expression: Optional[Expression]) -> str:
     offset, count, size = (finding.intervals[name] for name in ("offset", "count", "size"))
     if count != (1, 1):
         unit = "byte" if is_of_bytes(count, expression) else "element"
-        taken = f"{range_of(count)} {unit}s from offset {range_of(offset)}"
+        taken = f"{range_of(count)} {unit}s from {offset_of(offset)}"
         return f"{access(expression)} may take {taken}, but {has(size, unit)}"
     verb = "be"
     if expression is not None:
         verb = {ACCESS: "be accessed", CALL: "access an element", CHAIN: "be"}[expression.role]
-    where = at_offset(outside(offset, size[0]))
-    return f"{access(expression)} may {verb} {where}, but {has(size)}"
+    where = offset_of(outside(offset, size[0]))
+    return f"{access(expression)} may {verb} at {where}, but {has(size)}"
 
 
 def is_of_bytes(count: Interval, expression: Optional[Expression]) -> bool:
@@ -88,11 +88,11 @@ def outside(offset: Interval, size: int) -> Interval:
     return offset
 
 
-def at_offset(offset: Interval) -> str:
+def offset_of(offset: Interval) -> str:
     """Where an access may be."""
     if offset[0] <= -FAR and offset[1] >= FAR:
-        return "at any offset"
-    return f"at offset {range_of(offset)}"
+        return "any offset"
+    return f"offset {range_of(offset)}"
 
 
 def range_of(interval: Interval) -> str:

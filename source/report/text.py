@@ -9,7 +9,8 @@ TYPE_CHECKING = False
 if TYPE_CHECKING:
     from .items import Item
 
-BOLD, WARNING, ERROR, MARK, PLAIN = "\x1b[1m", "\x1b[1;35m", "\x1b[1;31m", "\x1b[1;32m", "\x1b[0m"
+BOLD, MARK, PLAIN = "\x1b[1m", "\x1b[1;32m", "\x1b[0m"
+COLORS = {"warning": "\x1b[1;35m", "error": "\x1b[1;31m", "note": "\x1b[1;36m"}
 
 
 class Text:
@@ -22,17 +23,24 @@ class Text:
         """The report. Names of files keep bytes that are no text, so that they can be opened."""
         if report.failure is not None:
             return b""
-        lines = [self.told(item, f"{item.message} [{item.kind}]") for item in report.shown]
+        lines = []
+        for item in report.shown:
+            lines.append(self.told(item, f"{item.message} [{item.kind}]"))
+            lines += [self.told(note, note.message, "note") for note in item.notes]
         for refusal in report.refusals:
             code = f" [{refusal.code}]" if refusal.code else ""
             lines.append(self.told(refusal.item, f"{refusal.item.message}{code}", "error"))
         lines.append(last_line(report))
+        lines += [
+            f"{count} come of {raw(note.name)}:{note.line}:{note.column}: {note.message}"
+            for count, note in report.causes
+        ]
         lines += [raw(line) for line in report.values]
         return "".join(f"{line}\n" for line in lines).encode("utf-8", "surrogateescape")
 
     def told(self, item: Item, said: str, word: str = "warning") -> str:
         """The line of an item, and that of its source with a mark."""
-        color = WARNING if word == "warning" else ERROR
+        color = COLORS[word]
         place = self.colored(BOLD, f"{raw(item.name)}:{item.line}:{item.column}:")
         lines = [f"{place} {self.colored(color, f'{word}:')} {said}"]
         spot = item.spot

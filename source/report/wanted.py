@@ -12,6 +12,7 @@ CHOICES = {
 }
 FILES = ("--output", "--baseline")
 UPDATE = "--update-baseline"
+WHY = "--why"
 # What is known at each place is told where there is room for it.
 WITH_VALUES = ("text", "plain", "json")
 
@@ -28,6 +29,9 @@ class Wanted:
         self.chosen = {option: choices[0] for option, choices in CHOICES.items()}
         self.files: dict[str, str] = {}
         self.is_updating = False
+        # Whether the cause of each warning is told, and the values of all nodes.
+        self.is_why = False
+        self.has_values = False
 
     @property
     def format(self) -> str:
@@ -52,8 +56,9 @@ class Wanted:
     def take(self, words: list[str], at: int) -> int:
         """How many words an option takes there, and 0 for others."""
         option, equals, argument = words[at].partition("=")
-        if words[at] == UPDATE:
-            self.is_updating = True
+        if words[at] in (UPDATE, WHY):
+            self.is_updating |= words[at] == UPDATE
+            self.is_why |= words[at] == WHY
             return 1
         if option not in CHOICES and option not in FILES:
             return 0
@@ -76,6 +81,9 @@ class Wanted:
 
     def check(self, has_values: bool) -> None:
         """Ends where options don't go together."""
+        self.has_values = has_values
+        if self.is_why and self.format == "plain":
+            raise Failure(USAGE, f"{WHY} and --format=plain don't go together")
         if self.baseline is None:
             for is_given, option in (
                 (self.is_updating, UPDATE),

@@ -28,6 +28,8 @@ class Report:
         self.hint: str | None = None
         # What is said of the run as a whole.
         self.notes: list[str] = []
+        # The causes of more warnings than one, with how many there are.
+        self.causes: list[tuple[int, Item]] = []
         # The file of the baseline, and how many of its warnings are gone.
         self.baseline: str | None = None
         self.gone = 0

@@ -43,8 +43,11 @@ class Writer:
         self.texts = [(spelled(file), read_text(path)) for file, path in zip(files, paths)]
         self.commented = [spelled(file) for file in files if may_ignore(file)]
 
-    def told(self, answer: Answer) -> Answer:
-        """The answer in its form; with --output nothing of it goes to standard output."""
+    def told(self, answer: Answer, paths: list[str]) -> Answer:
+        """The answer in its form; with --output nothing of it goes to standard output.
+
+        The paths are those of the texts that were analysed.
+        """
         content = b"".join(part for part, _ in answer.parts)
         if self.wanted.format == "plain":
             return written(self.wanted, answer, content)
@@ -56,6 +59,8 @@ class Writer:
         report.notes = answer.notes
         if report.status in (CLEAN, ALARMS):
             self.compare(report)
+            if self.wanted.is_why:
+                self.explain(report, paths)
             if self.commented:
                 from .unused import tell_unused
 
@@ -64,6 +69,15 @@ class Writer:
         told = written(self.wanted, Answer(report.status, answer.parts), content)
         told.notes = answer.notes
         return told
+
+    def explain(self, report: Report, paths: list[str]) -> None:
+        """Gives the warnings their causes, which the values tell."""
+        lines = report.values
+        if report.warnings:
+            from why.notes import explain
+
+            explain(report, [(path, read_text(path)) for path in paths], lines, self.texts)
+        report.values = [line for line in lines if " = " in line] if self.wanted.has_values else []
 
     def compare(self, report: Report) -> None:
         """Compares with the baseline, and finds the status."""

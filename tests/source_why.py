@@ -1,0 +1,107 @@
+"""The causes of warnings that `./sparrow source --why` tells: tests/report/causes.tsv. A row has a
+name, a program with one warning, and the places and texts of its notes with `|` between them."""
+
+from __future__ import annotations
+
+import json
+import os
+import re
+import subprocess
+import sys
+import tempfile
+
+from report_schema import schema, schema_faults
+from told import tell
+
+HERE = os.path.dirname(os.path.abspath(__file__))
+SPARROW = os.path.join(os.path.dirname(HERE), "sparrow")
+
+faults: dict[str, str] = {}
+
+
+def expect(name: str, got: object, want: object) -> None:
+    """Notes whether something is as it must be."""
+    faults[name] = "" if got == want else f"{got!r}\nand not\n{want!r}"
+
+
+def source(room: str, *words: str) -> tuple[int, str, str]:
+    """Status, standard output and standard error of ./sparrow source."""
+    done = subprocess.run(
+        [SPARROW, "source", *words], cwd=room, capture_output=True, text=True, check=False
+    )
+    return done.returncode, done.stdout, done.stderr
+
+
+def write(room: str, text: str) -> None:
+    """Writes the program of a row."""
+    with open(os.path.join(room, "a.c"), "w", encoding="ascii") as file:
+        file.write(text.replace("\\n", "\n"))
+
+
+def try_rows(room: str) -> None:
+    """What is said of each program's warning."""
+    with open(os.path.join(HERE, "report", "causes.tsv"), encoding="ascii") as table:
+        rows = [line.rstrip("\n").split("\t") for line in table if not line.startswith("#")]
+    rule = schema("report")
+    for name, text, want in rows:
+        write(room, text)
+        report = json.loads(source(room, "--why", "--format=json", "a.c")[1])
+        expect(f"{name}: schema", schema_faults(report, rule, rule), [])
+        told = [
+            f"{note['line']}:{note['column']} {note['message']}"
+            for warning in report["warnings"][:1] if "reason" in warning
+            for note in (warning["reason"], *warning["reason"]["steps"])
+        ]
+        expect(f"{name}: one warning", len(report["warnings"]), 1)
+        # A block has the number of its node.
+        expect(name, re.sub(r"%heap\.[0-9]+", "%heap.N", "|".join(told)), want)
+
+
+def try_forms(room: str) -> None:
+    """The same cause in all forms of the report, and of more warnings than one."""
+    write(room, "int *p;\nint main(void)\n{\n  int *q = p;\n  *q = 1;\n  return *q;\n}\n")
+    notes = [
+        "a.c:1:6: note: 'p' starts as 0", "    1 | int *p;", "      |      ^",
+        "a.c:4:8: note: 'main.q' gets it from 'p'", "    4 |   int *q = p;", "      |        ^",
+    ]
+    lines = source(room, "--why", "a.c")[1].splitlines()
+    expect("text: notes", lines[3:9], notes)
+    expect("text: behind each warning", lines[12:18], notes)
+    last = ["2 warnings at 2 places", "2 come of a.c:1:6: 'p' starts as 0"]
+    expect("text: what they come of", lines[18:], last)
+    expect("without it there are none", "note:" in source(room, "a.c")[1], False)
+    value = json.loads(source(room, "--why", "--format=sarif", "a.c")[1])
+    rule = schema("sarif")
+    expect("sarif: schema", schema_faults(value, rule, rule), [])
+    related = value["runs"][0]["results"][0]["relatedLocations"]
+    said = [each["message"]["text"] for each in related]
+    expect("sarif: notes", said, ["'p' starts as 0", "'main.q' gets it from 'p'"])
+    page = source(room, "--why", "--format=html", "a.c")[1]
+    expect("html: notes", page.count("a.c:1:6: &#x27;p&#x27; starts as 0"), 2)
+    values = source(room, "--why", "--values", "a.c")[1].splitlines()
+    expect("values: they stay", "node 2 a.c:4:8: p = [0,0]" in values, True)
+    # The alarms of nodes, which the causes are found by, aren't told.
+    expect("values: no alarm among them", any("pointer: value" in line for line in values), False)
+
+
+def try_words(room: str) -> None:
+    """The word with others, and programs without a warning."""
+    write(room, "int main(void) { return 0; }\n")
+    expect("no warning", source(room, "--why", "a.c"), (0, "0 warnings\n", ""))
+    said = "sparrow: --why and --format=plain don't go together\n"
+    expect("plain", source(room, "--why", "--format=plain", "a.c"), (3, "", said))
+    write(room, "int main(void) { return n; }\n")
+    expect("a refusal", source(room, "--why", "a.c")[0], 2)
+
+
+def main() -> int:
+    """Tries all."""
+    with tempfile.TemporaryDirectory() as room:
+        try_rows(room)
+        try_forms(room)
+        try_words(room)
+    return tell(faults)
+
+
+if __name__ == "__main__":
+    sys.exit(main())
