@@ -57,6 +57,20 @@ def try_rows(room: str) -> None:
         expect(name, re.sub(r"%heap\.[0-9]+", "%heap.N", "|".join(told)), want)
 
 
+def try_objects(room: str) -> None:
+    """The objects that an access through a pointer may leave: those whose size is told."""
+    write(room, "int a[3];\nint main(int n, char **v)\n{\n  int b[5], c[9];\n  int *p = n ? a : b;\n"
+                "  if (n > 2)\n    p = c;\n  return p[4];\n}\n")
+    report = json.loads(source(room, "--why", "--format=json", "a.c")[1])
+    told = [
+        f"{note['line']}:{note['column']} {note['message']}"
+        for note in report["warnings"][0]["objects"]
+    ]
+    expect("an object that the access may leave", told, ["1:5 it may be in 'a[]'"])
+    lines = source(room, "--why", "a.c")[1].splitlines()
+    expect("it is a note in text", lines[3], "a.c:1:5: note: it may be in 'a[]'")
+
+
 def try_forms(room: str) -> None:
     """The same cause in all forms of the report, and of more warnings than one."""
     write(room, "int *p;\nint main(void)\n{\n  int *q = p;\n  *q = 1;\n  return *q;\n}\n")
@@ -98,6 +112,7 @@ def main() -> int:
     """Tries all."""
     with tempfile.TemporaryDirectory() as room:
         try_rows(room)
+        try_objects(room)
         try_forms(room)
         try_words(room)
     return tell(faults)

@@ -133,7 +133,7 @@ def said_of(item: Item, code: str | None) -> str:
     """What is said of an item, below its line."""
     kind = item.kind if code is None else code
     told = f'{item.column}: {escape(item.message)} <span class="kind">[{kind}]</span>'
-    for note in item.notes:
+    for note in item.objects + item.notes:
         where = f"{note.file}:{note.line}:{note.column}: {note.message}"
         told += f'<br><span class="quiet">{escape(where)}</span>'
     number = item.line if item.spot is None else ""

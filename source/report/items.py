@@ -27,6 +27,8 @@ class Item:
         # cause and of the steps from it.
         self.cause: Optional[tuple[str, str]] = None
         self.notes: list[Item] = []
+        # Where the objects are declared, or allocated, that it may be about.
+        self.objects: list[Item] = []
 
     @property
     def place(self) -> tuple[str, int, int]:

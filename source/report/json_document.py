@@ -66,18 +66,22 @@ def warning(item: Item) -> dict[str, Any]:
         told["baseline"] = item.state
     if item.justification is not None:
         told["justification"] = item.justification
+    if item.objects:
+        told["objects"] = [noted(note) for note in item.objects]
     if item.cause is not None:
         told["reason"] = reason(item)
     return told
 
 
+def noted(note: Item) -> dict[str, Any]:
+    """What is said at another place."""
+    return {"file": note.file, "line": note.line, "column": note.column, "message": note.message}
+
+
 def reason(item: Item) -> dict[str, Any]:
     """Where what is wrong comes from, and the steps from there that are told."""
     cell, what = item.cause or ("", "")
-    first, *steps = [
-        {"file": note.file, "line": note.line, "column": note.column, "message": note.message}
-        for note in item.notes
-    ]
+    first, *steps = map(noted, item.notes)
     return {**first, "location": shown(cell), "what": what, "steps": steps}
 
 

@@ -67,9 +67,10 @@ def result(item: Item, regions: Regions, has_ignored: bool) -> dict[str, Any]:
         "partialFingerprints": {"kindAndLine/v1": item.fingerprint},
         "properties": {"alarms": item.finding.alarms},
     }
-    if item.notes:
+    notes = item.objects + item.notes
+    if notes:
         told["relatedLocations"] = [
-            {**location(note, regions), "message": {"text": note.message}} for note in item.notes
+            {**location(note, regions), "message": {"text": note.message}} for note in notes
         ]
     if item.state is not None:
         told["baselineState"] = item.state

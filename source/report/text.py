@@ -26,7 +26,7 @@ class Text:
         lines = []
         for item in report.shown:
             lines.append(self.told(item, f"{item.message} [{item.kind}]"))
-            lines += [self.told(note, note.message, "note") for note in item.notes]
+            lines += [self.told(note, note.message, "note") for note in item.objects + item.notes]
         for refusal in report.refusals:
             code = f" [{refusal.code}]" if refusal.code else ""
             lines.append(self.told(refusal.item, f"{refusal.item.message}{code}", "error"))

@@ -65,6 +65,8 @@ class Gather(Rewriting):
         self.outside: list[Definition] = []
         self.arguments: list[Definition] = []
         self.accesses: dict[Place, list[Definition]] = {}
+        # All objects that are declared.
+        self.objects: dict[str, Definition] = {}
         # The calls of each function, and the formals of each that is defined.
         self.calls: dict[str, list[Definition]] = {}
         self.formals: dict[str, list[Optional[str]]] = {}
@@ -96,6 +98,7 @@ class Gather(Rewriting):
             return
         made = self.new(node.token, node.last)
         made.name = qualified(symbol, made.function)
+        self.objects.setdefault(made.name, made)
         is_extern = "extern" in specifiers.storage
         if node.values is not None:
             made.value = node.values.expression
@@ -149,10 +152,12 @@ class Definitions:
         self.by_location: dict[str, list[Definition]] = {}
         self.starting: dict[str, tuple[Definition, str]] = {}
         self.accesses: dict[Place, list[Definition]] = {}
+        self.objects: dict[str, Definition] = {}
         self.functions: set[str] = set()
         gathered = [gathered_in(Unit(text, file)) for file, text in texts]
         for each in gathered:
             self.functions |= set(each.formals)
+            self.objects.update(each.objects)
             for place, found in each.accesses.items():
                 self.accesses.setdefault(place, []).extend(found)
             for made in each.found:

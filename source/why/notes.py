@@ -3,7 +3,9 @@
 from __future__ import annotations
 
 import sys
+from typing import Optional
 
+from c.places import Place
 from c.tokens import Unreadable
 from driver.failure import say
 from report.folding import Finding
@@ -14,6 +16,7 @@ from report.spots import Spots
 from report.whole import Report, Texts
 from rewriting.program import RECURSION
 
+from .objects import Object, objects_of
 from .search import Cause, Search
 
 # So many steps from the cause to the warning are told.
@@ -30,26 +33,47 @@ def explain(
     sys.setrecursionlimit(max(sys.getrecursionlimit(), RECURSION))
     try:
         search = Search(texts, lines)
-        causes = [(item, search.cause(item.finding)) for item in report.warnings]
+        causes = [
+            (item, search.cause(item.finding), objects_of(search, item.finding))
+            for item in report.warnings
+        ]
     except (Unreadable, RecursionError, ArithmeticError, LookupError, ValueError, TypeError):
         # The warnings are told whatever was overlooked here.
         say("the causes of the warnings can't be told")
         return
-    told = [(item, cause, findings_of(cause)) for item, cause in causes if cause is not None]
-    spots = Spots(Sources(), remembered, [each for _, _, found in told for each in found])
-    for item, cause, findings in told:
-        item.notes = [
-            Item(finding, unescaped(finding.place.file), spots.of(finding), said)
-            for finding, said in zip(findings, sentences_of(cause))
+    told = [
+        (item, cause, places_of(cause), [each for each in objects if is_other(each, cause)])
+        for item, cause, objects in causes
+    ]
+    places = [place for _, _, found, _ in told for place in found]
+    places += [each.place for _, _, _, objects in told for each in objects]
+    spots = Spots(Sources(), remembered, [Finding(place, REFUSED) for place in places])
+    for item, cause, found, objects in told:
+        item.objects = [
+            noted(each.place, f"it may be in '{each.region}'", spots) for each in objects
         ]
-        item.cause = cause.location, cause.what
+        if cause is not None:
+            item.notes = [
+                noted(place, said, spots) for place, said in zip(found, sentences_of(cause))
+            ]
+            item.cause = cause.location, cause.what
     tell_together(report)
 
 
-def findings_of(cause: Cause) -> list[Finding]:
+def noted(place: Place, said: str, spots: Spots) -> Item:
+    """What is said at a place."""
+    finding = Finding(place, REFUSED)
+    return Item(finding, unescaped(place.file), spots.of(finding), said)
+
+
+def is_other(each: Object, cause: Optional[Cause]) -> bool:
+    """Whether the cause of a warning doesn't tell an object already."""
+    return cause is None or cause.location != each.region
+
+
+def places_of(cause: Optional[Cause]) -> list[Place]:
     """The places of a cause and of the steps from it that are told."""
-    places = [cause.place, *(step.place for step in cause.steps[:MOST_STEPS])]
-    return [Finding(place, REFUSED) for place in places]
+    return [] if cause is None else [cause.place, *(step.place for step in cause.steps[:MOST_STEPS])]
 
 
 def sentences_of(cause: Cause) -> list[str]:
