@@ -169,6 +169,12 @@ length='a length must be constant: give the greatest'
 check_hint 'a length' "$length" l.c 'int n; int main(void) { int a[2 * n]; return 0; }'
 check_hint 'a start value is no length' '' l.c 'int n, a[2] = { n }; int main(void) { return 0; }'
 check_hint 'nor is a label' '' l.c 'int main(int n, char **v) { switch (n) { case n: return 0; } }'
+address="an address isn't a number before the program runs: start with 0, and set it in main"
+check_hint 'a text as a number' "$address" \
+    n.c 'unsigned long a = (unsigned long)"text"; int main(void) { return 0; }'
+check_hint 'an address as a number' "$address" \
+    n.c 'int b; long a = (long) &b; int main(void) { return 0; }'
+check_hint 'a call is no address' '' n.c 'int f(void); int a = (int)f(); int main(void) { return 0; }'
 check_hint 'an escape of GNU C' '\033 is standard in place of \e' e.c 'char *a = "x\e[0m";'
 check_hint 'a backslash before an e' '' e.c 'char *a = "\\e \q";'
 is_macro='a macro that no header here and no option defines?'

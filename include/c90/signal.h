@@ -25,6 +25,7 @@ extern int raise(int);
 #define _NEED_sigset_t
 #define _NEED_time_t
 #define _NEED_timespec
+#define _NEED_size_t
 #include <bits/types.h>
 
 #define SIGHUP 1
@@ -84,6 +85,16 @@ typedef struct {
     long _rest[11];
 } siginfo_t;
 
+typedef struct {
+    void *ss_sp;
+    int ss_flags;
+    size_t ss_size;
+} stack_t;
+#define SS_ONSTACK 1
+#define SS_DISABLE 2
+#define MINSIGSTKSZ 2048
+#define SIGSTKSZ 8192
+
 /* The two handlers share their place, as POSIX allows. */
 struct sigaction {
     union {
@@ -100,6 +111,7 @@ struct sigaction {
 extern int kill(pid_t, int);
 extern int killpg(pid_t, int);
 extern int sigaction(int, const struct sigaction *, struct sigaction *);
+extern int sigaltstack(const stack_t *, stack_t *);
 extern int sigaddset(sigset_t *, int);
 extern int sigdelset(sigset_t *, int);
 extern int sigemptyset(sigset_t *);

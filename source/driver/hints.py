@@ -38,10 +38,13 @@ OF_STRICT = frozenset(["F7", "F13", "U1", "U4", "U5", "U6", "U7", "U9", "U10", "
 MOST_BEFORE = 2000
 ESCAPE = "\\033 is standard in place of \\e"
 LENGTH = "a length must be constant: give the greatest"
+ADDRESS = "an address isn't a number before the program runs: start with 0, and set it in main"
 
 # A literal, and a character behind a backslash.
 LITERAL = re.compile(r"""L?(["'])(?:\\.|(?!\1)[^\\\n])*""")
 ESCAPED = re.compile(r"\\(.)")
+# The address of a string or an object that is made a number.
+ADDRESS_AS_NUMBER = re.compile(r"\(\s*(?:unsigned\s+)?(?:long|int)(?:\s+int)?\s*\)\s*[&\"]")
 # What an expression stands in begins with the last of these before it.
 BEGINNING = re.compile(r"[\[;{}=]")
 
@@ -60,6 +63,8 @@ def hint_for(refusal: Refusal, texts: list[str], is_strict: bool) -> Optional[st
             return hint_for_name(text, offset)
         if refusal.code == "F19" and is_length(text, offset):
             return LENGTH
+        if refusal.code == "F19" and ADDRESS_AS_NUMBER.match(text, offset):
+            return ADDRESS
     if refusal.code == "F24":
         return hint_for_call(refusal, texts) or HINTS["F24"]
     return HINTS.get(refusal.code)

@@ -12,6 +12,18 @@
 #define IPC_STAT 2
 #define IPC_PRIVATE ((key_t)0)
 
+struct ipc_perm {
+    key_t __key;
+    uid_t uid;
+    gid_t gid;
+    uid_t cuid;
+    gid_t cgid;
+    mode_t mode;
+    unsigned short __seq;
+    unsigned short __pad;
+    unsigned long __rest[2];
+};
+
 extern key_t ftok(const char *, int);
 
 #endif
