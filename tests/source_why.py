@@ -54,7 +54,7 @@ def try_rows(room: str) -> None:
         ]
         expect(f"{name}: one warning", len(report["warnings"]), 1)
         # A block has the number of its node.
-        expect(name, re.sub(r"%heap\.[0-9]+", "%heap.N", "|".join(told)), want)
+        expect(name, re.sub(r"%(heap|ext)\.[0-9]+", r"%\1.N", "|".join(told)), want)
 
 
 def try_objects(room: str) -> None:

@@ -64,7 +64,7 @@ def place_of(search: Search, region: str) -> Place | None:
     """Where an object is declared, or a block allocated."""
     match = GIVEN.match(region)
     if match is not None:
-        return search.nodes.places.get(int(match.group(1)))
+        return search.nodes.places.get(int(match.group(2)))
     root = region.split("[")[0]
     while root and root not in search.definitions.objects:
         root = root.rpartition(".")[0]

@@ -23,9 +23,12 @@ from .values import Nodes, Uses
 MOST_SEEN = 1000
 COMPUTED = "is computed here"
 BLOCK = "points to a block whose size isn't known"
-UNKNOWN_SIZE = "is a block whose size isn't known"
+UNKNOWN_SIZE = {
+    "heap": "is a block whose size isn't known",
+    "ext": "comes from outside, and its size isn't known",
+}
 # A block, or what comes from outside, with the number of the node that gets it.
-GIVEN = re.compile(r"%(?:heap|ext)\.([0-9]+)")
+GIVEN = re.compile(r"%(heap|ext)\.([0-9]+)")
 
 
 class Step(NamedTuple):
@@ -74,9 +77,9 @@ class Search:
             for target in value.targets if value is not None else ():
                 match = GIVEN.match(target.region)
                 if match is not None and is_unknown(target.size):
-                    place = self.nodes.places.get(int(match.group(1)))
+                    place = self.nodes.places.get(int(match.group(2)))
                     if place is not None:
-                        return Cause(place, match.group(), UNKNOWN_SIZE, [])
+                        return Cause(place, match.group(), UNKNOWN_SIZE[match.group(1)], [])
         return None
 
     def first(self, finding: Finding, badness: Badness, uses: Uses) -> list[State]:
