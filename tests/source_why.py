@@ -71,6 +71,18 @@ def try_objects(room: str) -> None:
     expect("it is a note in text", lines[3], "a.c:1:5: note: it may be in 'a[]'")
 
 
+def try_arguments(room: str) -> None:
+    """What main is given is memory from outside: a pointer that is read there may be any."""
+    write(room, "int main(int n, char **v)\n{\n  return **v;\n}\n")
+    report = json.loads(source(room, "--why", "--format=json", "a.c")[1])
+    told = {each["kind"]: each["reason"]["message"] for each in report["warnings"]}
+    want = {
+        "buffer-overrun": "'main.v' is a parameter of main",
+        "unknown-pointer": "'%ext.0' is memory from outside",
+    }
+    expect("arguments of main", told, want)
+
+
 def try_forms(room: str) -> None:
     """The same cause in all forms of the report, and of more warnings than one."""
     write(room, "int *p;\nint main(void)\n{\n  int *q = p;\n  *q = 1;\n  return *q;\n}\n")
@@ -113,6 +125,7 @@ def main() -> int:
     with tempfile.TemporaryDirectory() as room:
         try_rows(room)
         try_objects(room)
+        try_arguments(room)
         try_forms(room)
         try_words(room)
     return tell(faults)

@@ -16,8 +16,8 @@ from report.kinds import NULL, OVERRUN, UNKNOWN, ZERO
 
 from .badness import PAST, UNSIZED, Badness, badness_of
 from .cells import Cells, calls, computes, constants
-from .definitions import OUTSIDE, STARTS, Definition, Definitions
-from .values import Nodes, Uses
+from .definitions import ARGUMENT, OUTSIDE, STARTS, Definition, Definitions
+from .values import Nodes, Uses, Value
 
 # So many locations are looked at for a warning.
 MOST_SEEN = 1000
@@ -27,6 +27,7 @@ UNKNOWN_SIZE = {
     "heap": "is a block whose size isn't known",
     "ext": "comes from outside, and its size isn't known",
 }
+HELD = "is memory from outside"
 # A block, or what comes from outside, with the number of the node that gets it.
 GIVEN = re.compile(r"%(heap|ext)\.([0-9]+)")
 
@@ -95,7 +96,7 @@ class Search:
                 wanted = badness.of_parts() if computes(part) else badness
                 for location in cells.read(part):
                     value = cells.uses.get(location)
-                    if value is not None and wanted.is_in(value):
+                    if value is not None and is_wrong(location, value, wanted):
                         if not is_moved or value.numbers == (0, 0):
                             found[location, wanted] = None
         return list(found)
@@ -139,7 +140,7 @@ class Search:
         others: list[State] = []
         for read in cells.read(value):
             known = cells.uses.get(read)
-            if known is not None and wanted.is_in(known) and read != location:
+            if known is not None and is_wrong(read, known, wanted) and read != location:
                 others.append((read, wanted))
         if others:
             return None, others
@@ -165,12 +166,29 @@ class Search:
         while root and root not in self.definitions.starting:
             root = root.rpartition(".")[0]
         if not root:
-            return []
+            return self.of_outside(location)
         made, what = self.definitions.starting[root]
         is_set = what == OUTSIDE and root in self.definitions.by_location
         if is_set or (what == STARTS and badness.kind not in (NULL, ZERO)):
             return []
         return [Cause(made.place, location, what, [])]
+
+    def of_outside(self, location: str) -> list[Cause]:
+        """The cause that memory from outside has: what main is given is there from the start."""
+        match = GIVEN.match(location)
+        if match is None or match.group(1) != "ext":
+            return []
+        place = self.nodes.places.get(int(match.group(2)))
+        starts = self.definitions.starting.values()
+        given = [made.place for made, what in starts if what == ARGUMENT]
+        if place is None and match.group(2) == "0" and given:
+            place = given[-1]
+        return [] if place is None else [Cause(place, location, HELD, [])]
+
+
+def is_wrong(location: str, value: Value, badness: Badness) -> bool:
+    """Whether what is read of a location may be wrong: of bytes from outside it is any number."""
+    return badness.is_in(value) or (badness.kind == UNKNOWN and location.startswith("%ext."))
 
 
 def parts_used(node: Expression, kind: str) -> list[Expression]:
