@@ -190,6 +190,24 @@ call='int f(char *a) { return strlen(a); }'
 include='#include <string.h> declares strlen'
 check_hint 'a call without its header' "$include" m.c "$main" f.c "$call"
 check_hint 'a call before the header' "$include" f.c "$call" m.c "$main"
+main='int main(void) { return 0; }'
+check_hint 'another type in another file' "$room/b.c:1:18 declares a with another type" \
+    b.c 'extern const int a[];' a.c "const unsigned a[] = { 1 }; $main"
+check_hint 'of several that of another type' "$room/b.c:1:12 declares a with another type" \
+    c.c 'extern long a;' b.c 'extern int a;' a.c "long a; $main"
+check_hint 'another parameter' "$room/b.c:1:12 declares f with another type" \
+    b.c 'extern int f(int *);' a.c "int f(char *a) { return *a; } $main"
+check_hint 'a static name is of its file alone' "$room/c.c:2:5 declares a with another type" \
+    b.c 'static char a;' c.c $'\nint a;' a.c "long a; $main"
+check_hint 'a name of POSIX in a header of C90' \
+    '<stdio.h> declares getline, too: -D_ANSI_SOURCE hides what is of POSIX there' \
+    a.c $'#include <stdio.h>\nint getline(char *a) { return *a; }'
+check_hint 'a name of another header' \
+    '<unistd.h> declares access, too: give it another name in the source' \
+    a.c $'#include <unistd.h>\nint access(char *a) { return *a; }'
+check_hint 'a name twice in a file' "$room/a.c:1:5 declares a with another type" \
+    a.c $'int a;\nlong a;'
+check_hint 'a name twice in a block' '' a.c 'int f(void) { int a; int a; return 0; }'
 gone='it has to go from the source'
 takes='takes all out, and sizes differ then'
 check_hint 'packed' "$gone; -D'__attribute__(x)=' $takes" a.c 'struct __attribute__((packed)) s { int i; };'

@@ -15,10 +15,8 @@ TAKING_OUT = {"_Alignas": "-D'_Alignas(x)='", "pack": None}
 HINTS = {
     "F8": "is it misspelt, or does no header here have it?"
     " -DNAME=VALUE gives a constant, and -DNAME=TYPE a type",
-    "F9": "-D_ANSI_SOURCE hides the names of POSIX in the headers of C90",
     "F11": "a header or a line before gives this tag to a struct, union or enum already",
     "F23": "a header says extern, and one file defines the object",
-    "F24": "-D_ANSI_SOURCE hides the names of POSIX in the headers of C90",
     "F25": "give all files of one program; a library needs a main that calls it",
     "U2": "#ifdef __SPARROW__ may choose a function that returns a status instead",
     "U3": "most programs have a path without assembly, as by -DNO_ASM",
@@ -65,8 +63,11 @@ def hint_for(refusal: Refusal, texts: list[str], is_strict: bool) -> Optional[st
             return LENGTH
         if refusal.code == "F19" and ADDRESS_AS_NUMBER.match(text, offset):
             return ADDRESS
-    if refusal.code == "F24":
-        return hint_for_call(refusal, texts) or HINTS["F24"]
+    if refusal.code in ("F9", "F24"):
+        from .clashes import hint_of_clash
+
+        call = hint_for_call(refusal, texts) if refusal.code == "F24" else None
+        return call or hint_of_clash(refusal, texts)
     return HINTS.get(refusal.code)
 
 
