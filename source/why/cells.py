@@ -4,7 +4,7 @@ from __future__ import annotations
 
 from c.constants import value_of
 from c.trees import Expression, Symbol
-from c.types import Array
+from c.types import Array, Function
 
 from .values import Uses
 
@@ -61,8 +61,7 @@ class Cells:
         if node.kind in ("name", "member", "index") or (node.kind == "unary" and node.text == "*"):
             return [] if isinstance(node.type, Array) else self.named(node)
         if node.kind == "call":
-            name = node.parts[0].text
-            return [f"{name}.%ret"] if node.parts[0].kind == "name" and name else []
+            return [f"{name}.%ret" for name in self.called(node.parts[0])]
         parts: list[Expression] = []
         if node.kind in ("parenthesis", "cast", "postfix", "prefix"):
             parts = node.parts
@@ -75,6 +74,21 @@ class Cells:
         elif node.kind == "assign" or (node.kind == "binary" and node.text in ARITHMETIC):
             parts = node.parts
         return list(dict.fromkeys(each for part in parts for each in self.read(part)))
+
+    def called(self, node: Expression) -> list[str]:
+        """The functions that a call of an expression may call."""
+        if node.kind == "parenthesis":
+            return self.called(node.parts[0])
+        if is_function(node):
+            return [node.text]
+        if node.kind == "unary" and node.text in ("*", "&") and isinstance(node.type, Function):
+            return self.called(node.parts[0])
+        return self.pointed(node)
+
+
+def is_function(node: Expression) -> bool:
+    """Whether an expression is a function's name."""
+    return node.kind == "name" and (node.symbol is None or node.symbol.kind == "function")
 
 
 def computes(node: Expression) -> bool:
@@ -100,13 +114,14 @@ def constants(node: Expression) -> list[int]:
         return constants(node.parts[0])
     if node.kind == "conditional":
         return [each for part in node.parts[1:] for each in constants(part)]
-    return constants(node.parts[-1]) if node.kind in ("comma", "assign") else []
+    is_last = node.kind == "comma" or (node.kind == "assign" and node.text == "=")
+    return constants(node.parts[-1]) if is_last else []
 
 
 def calls(node: Expression) -> list[Expression]:
-    """The calls by a name whose results an expression's value may be."""
+    """The calls whose results an expression's value may be."""
     if node.kind == "call":
-        return [node] if node.parts[0].kind == "name" else []
+        return [node]
     if node.kind in ("parenthesis", "cast"):
         return calls(node.parts[0])
     if node.kind == "conditional":

@@ -15,7 +15,7 @@ from report.folding import Finding, is_unknown
 from report.kinds import NULL, OVERRUN, UNKNOWN, ZERO
 
 from .badness import PAST, UNSIZED, Badness, badness_of
-from .cells import Cells, calls, computes, constants
+from .cells import Cells, calls, computes, constants, is_function
 from .definitions import ARGUMENT, OUTSIDE, STARTS, Definition, Definitions
 from .values import Nodes, Uses, Value
 
@@ -153,6 +153,8 @@ class Search:
             if badness.is_of(constant):
                 return f"is set to {constant}"
         for call in calls(value):
+            if not is_function(call.parts[0]):
+                return "is what an indirect call gives"
             name = call.parts[0].text
             if name in KNOWN and badness.kind == UNSIZED:
                 return BLOCK
