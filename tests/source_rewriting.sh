@@ -193,7 +193,7 @@ check_hint 'a call before the header' "$include" f.c "$call" m.c "$main"
 main='int main(void) { return 0; }'
 check_hint 'another type in another file' "$room/b.c:1:18 declares a with another type" \
     b.c 'extern const int a[];' a.c "const unsigned a[] = { 1 }; $main"
-check_hint 'of several that of another type' "$room/b.c:1:12 declares a with another type" \
+check_hint 'of several that of another type' "$room/c.c:1:13 declares a with another type" \
     c.c 'extern long a;' b.c 'extern int a;' a.c "long a; $main"
 check_hint 'another parameter' "$room/b.c:1:12 declares f with another type" \
     b.c 'extern int f(int *);' a.c "int f(char *a) { return *a; } $main"
