@@ -1,0 +1,4 @@
+pub mod Accesses
+pub mod View
+pub mod Cuts
+pub mod Laws
