@@ -207,6 +207,15 @@ check_hint 'a name of another header' \
     a.c $'#include <unistd.h>\nint access(char *a) { return *a; }'
 check_hint 'a name twice in a file' "$room/a.c:1:5 declares a with another type" \
     a.c $'int a;\nlong a;'
+extern='a header says extern, and one file defines the object'
+check_hint 'the object defined before' "$room/b.c:1:5 defines a, too; $extern" \
+    c.c 'extern int a;' b.c 'int a = 1;' a.c "int a = 2; $main"
+echo 'int a;' >"$room/h.h"
+check_hint 'an object that a header defines' "$extern" \
+    b.c '#include "h.h"' a.c $'#include "h.h"\nint main(void) { return 0; }'
+check_hint 'the function defined before' "$room/b.c:1:18 defines f, too" \
+    c.c 'static int f(void) { return 0; }' b.c 'int f(void); int f(void) { return 0; }' \
+    a.c "int f(void) { return 1; } $main"
 check_hint 'a name twice in a block' '' a.c 'int f(void) { int a; int a; return 0; }'
 gone='it has to go from the source'
 takes='takes all out, and sizes differ then'

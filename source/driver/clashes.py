@@ -1,4 +1,4 @@
-"""The declaration against which another one of its name is refused (F9 and F24)."""
+"""The declaration against which another one of its name is refused (F9, F23 and F24)."""
 
 from __future__ import annotations
 
@@ -16,14 +16,16 @@ from .texts import read_text
 
 OF_POSIX = "-D_ANSI_SOURCE hides what is of POSIX there"
 RENAME = "give it another name in the source"
+EXTERN = "a header says extern, and one file defines the object"
 
 
 class Declared(NamedTuple):
-    """A declarator at file scope: its place, its type, and whether other units mean it, too."""
+    """A declarator at file scope, and whether other units mean it, too, and whether it defines."""
 
     place: Place
     type: MaybeType
     is_linked: bool
+    is_definition: bool
 
 
 def hint_of_clash(refusal: Refusal, texts: list[str]) -> Optional[str]:
@@ -44,6 +46,18 @@ def hint_of_clash(refusal: Refusal, texts: list[str]) -> Optional[str]:
     return None
 
 
+def hint_of_second(refusal: Refusal, texts: list[str]) -> str:
+    """What is said of the definition before the one at the place of a refusal."""
+    place = Place(refusal.file.decode("latin-1"), refusal.line, refusal.column)
+    for name in names_at(refusal, texts):
+        for text in texts:
+            for each in declared_in(read_text(text), text, name):
+                if each.place != place and each.is_linked and each.is_definition:
+                    said = f"{told(each.place)} defines {name}, too"
+                    return said if isinstance(each.type, Function) else f"{said}; {EXTERN}"
+    return EXTERN
+
+
 def is_meant(refusal: Refusal, other: Declared, found: list[Declared], place: Place) -> bool:
     """Whether another declaration is of the same unit, or has linkage with it (C90 6.1.2.2)."""
     is_own_unit = any(each.place == place for each in found)
@@ -60,14 +74,18 @@ def declared_in(text: str, path: str, name: str) -> Iterator[Declared]:
         if isinstance(part, Unread):
             continue
         is_linked = not {"static", "typedef"}.intersection(part.specifiers.storage)
+        is_object = not {"extern", "typedef"}.intersection(part.specifiers.storage)
         if isinstance(part, FunctionDefinition):
-            declarators = [part.declarator]
+            declarators, has_body = [part.declarator], True
         else:
-            declarators = part.declarators
+            declarators, has_body = part.declarators, False
         for declarator in declarators:
             if declarator.name == name:
                 place = places.of(tokens.starts[declarator.token])
-                yield Declared(place, declarator.type, is_linked)
+                is_definition = has_body or (
+                    is_object and not isinstance(declarator.type, Function)
+                )
+                yield Declared(place, declarator.type, is_linked, is_definition)
 
 
 def is_same(one: MaybeType, other: MaybeType) -> bool:
@@ -102,7 +120,11 @@ def sentence(name: str, other: Declared, is_unlike: bool) -> str:
         beginning = os.path.join(folder, part, "")
         if other.place.file.startswith(beginning):
             return f"<{other.place.file[len(beginning) :]}> declares {name}, too: {advice}"
-    file, line, column = other.place
-    file = os.fsdecode(file.encode("latin-1"))
     how = " with another type" if is_unlike else ", too"
-    return f"{file}:{line}:{column} declares {name}{how}"
+    return f"{told(other.place)} declares {name}{how}"
+
+
+def told(place: Place) -> str:
+    """A place as it is written."""
+    file, line, column = place
+    return f"{os.fsdecode(file.encode('latin-1'))}:{line}:{column}"

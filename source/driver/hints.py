@@ -16,7 +16,6 @@ HINTS = {
     "F8": "is it misspelt, or does no header here have it?"
     " -DNAME=VALUE gives a constant, and -DNAME=TYPE a type",
     "F11": "a header or a line before gives this tag to a struct, union or enum already",
-    "F23": "a header says extern, and one file defines the object",
     "F25": "give all files of one program; a library needs a main that calls it",
     "U2": "#ifdef __SPARROW__ may choose a function that returns a status instead",
     "U3": "most programs have a path without assembly, as by -DNO_ASM",
@@ -68,6 +67,10 @@ def hint_for(refusal: Refusal, texts: list[str], is_strict: bool) -> Optional[st
 
         call = hint_for_call(refusal, texts) if refusal.code == "F24" else None
         return call or hint_of_clash(refusal, texts)
+    if refusal.code == "F23":
+        from .clashes import hint_of_second
+
+        return hint_of_second(refusal, texts)
     return HINTS.get(refusal.code)
 
 
