@@ -30,7 +30,7 @@ half_to-suc : (r : ℕ) (m : Entries) → half_to (suc r) m ≡ half_to r m ++ l
 unfolding half_to
 half_to-suc r m = refl
 
-half_to-length : (n : ℕ) (m : Entries) → length (half_to n m) ≡ start n
+pub half_to-length : (n : ℕ) (m : Entries) → length (half_to n m) ≡ start n
 unfolding half_to start
 half_to-length zero m = refl
 half_to-length (suc n) m =
@@ -150,7 +150,7 @@ octagon-equal o bounds room is = record {
   };
 }
 
-whole_by-is : (o : Octagon) (bounds : List ℤ) (t : Bool) (h : is_octagon o.size bounds ≡ t) → t ≡ true → ((r c : ℕ) → r < 16 → c < 16 → entries_of bounds r c ≡ entries o r c) → whole_by o.size bounds t h ≡ o
+pub whole_by-is : (o : Octagon) (bounds : List ℤ) (t : Bool) (h : is_octagon o.size bounds ≡ t) → t ≡ true → ((r c : ℕ) → r < 16 → c < 16 → entries_of bounds r c ≡ entries o r c) → whole_by o.size bounds t h ≡ o
 unfolding whole_by
 whole_by-is o bounds true h e is = octagon_same _ o refl (λ r c hr hc. is r c (omega (arith, o.facts.few)) (omega (arith, o.facts.few)))
 whole_by-is o bounds false h e is = absurd (false≢true e)

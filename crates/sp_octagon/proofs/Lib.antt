@@ -15,3 +15,4 @@ pub mod Closed
 pub mod AllLaws
 pub mod Sound
 pub mod Halves
+pub mod HalfOrder

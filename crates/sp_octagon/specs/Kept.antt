@@ -1,11 +1,13 @@
 -- Octagons in the room of their size. Since (r, c) equals the entry from c's negative to r's negative, of each
 -- row r only the columns up to r or its negative are kept, whichever is greater: 2n(n + 1) for n members.
-use Rattle.std.specs.Prelude.{◌≡◌, ◌⊎◌, max, ℕ, zero, suc, ◌+◌, ◌-◌, ◌*◌, ◌%◌, ◌<◌, ◌≤◌, Bool, true, false, ◌&&◌, if◌then◌else◌, nat_lt, List, [], ◌++◌, slice_index_or, ℤ}
+use Rattle.std.specs.Prelude.{◌≡◌, ◌⊎◌, max, ℕ, zero, suc, ◌+◌, ◌-◌, ◌*◌, ◌%◌, ◌<◌, ◌≤◌, Bool, true, false, ◌&&◌, if◌then◌else◌, nat_lt, List, [], ◌++◌, slice_index_or, length, ℤ, int_le}
+use Rattle.std.specs.Int.{int_max}
 use Rattle.std.proofs.Common.{refl}
 use Rattle.sp_octagon.specs.declared.octagon.Octagon.{Octagon}
 use Rattle.sp_octagon.specs.Entries.{Entries, unbounded, negative}
 use Rattle.sp_octagon.specs.Changes.{no_bounds}
 use Rattle.sp_octagon.specs.Octagons.{rows, entries}
+use Rattle.sp_octagon.specs.Order.{all_below}
 use Rattle.sp_octagon.specs.Made.{listed, bounds_of, every, is_octagon, octagon_from_test}
 
 -- how many columns of a row are kept
@@ -49,6 +51,10 @@ unfoldable pub whole_by : (size : ℕ) (bounds : List ℤ) (t : Bool) → is_oct
 whole_by size bounds true h = record { size = size; bounds = bounds; facts = octagon_from_test size bounds h }
 whole_by size bounds false h = nothing_known
 
+-- the octagon of this size without a bound off the diagonal
+unfoldable pub boundless : ℕ → Octagon
+boundless n = whole_by n (bounds_of no_bounds) (is_octagon n (bounds_of no_bounds)) refl
+
 -- the octagon that is kept so, two members without bounds where there is none
 unfoldable pub whole : ℕ → List ℤ → Octagon
 whole size kept = let bounds = bounds_of (kept_entries size kept) in whole_by size bounds (is_octagon size bounds) refl
@@ -57,3 +63,13 @@ whole size kept = let bounds = bounds_of (kept_entries size kept) in whole_by si
 pub record IsKept (size : ℕ) (kept : List ℤ) : Type 0 where
   pub sized : (whole size kept).size ≡ size
   pub half : half_of (whole size kept) ≡ kept
+
+-- whether no number is greater than that in the same place of the other list
+abbrev pub list_le : List ℤ → List ℤ → Bool
+list_le xs ys = all_below (length xs) (λ k. int_le (slice_index_or xs k unbounded) (slice_index_or ys k unbounded))
+
+-- each place of `new` has the greater of what a and b have there
+pub record IsGreater (a b new : List ℤ) : Type 0 where
+  pub room : length new ≡ length a
+  pub greater : (k : ℕ) → k < length a
+      → slice_index_or new k unbounded ≡ int_max (slice_index_or a k unbounded) (slice_index_or b k unbounded)

@@ -1,10 +1,11 @@
 //! Octagons in the room of their size, for where they are kept.
-ghost use Rattle.std.specs.Prelude.{◌≡◌, ◌+◌, ◌*◌, ◌<◌, ◌≤◌, ◌++◌, length, IfOk, OnOk};
+ghost use Rattle.std.specs.Prelude.{◌≡◌, ◌+◌, ◌*◌, ◌<◌, ◌≤◌, ◌++◌, length, not, IfOk, OnOk};
 ghost use Rattle.sp_octagon.specs.Entries.{entries_of};
 ghost use Rattle.sp_octagon.specs.Made.{listed};
-ghost use Rattle.sp_octagon.specs.Kept.{width, start};
+ghost use Rattle.sp_octagon.specs.Kept.{width, start, list_le, IsGreater};
 ghost use Rattle.sp_octagon.specs.inner.Reading.{ReadTo};
-ghost use Rattle.sp_octagon.specs.Octagons.{rows, entries};
+ghost use Rattle.sp_octagon.specs.Octagons.{rows, entries, octagon_le};
+ghost use Rattle.sp_octagon.specs.Functions.{joined};
 
 use crate::octagon::{Clearing, Octagon, set_pair};
 use crate::passes::change_entries;
@@ -50,6 +51,39 @@ fn push_row(bounds: &mut Vec<i128>, octagon: &Octagon, row: usize) -> Result<(),
     Ok(())
 }
 
+// Whether no bound is greater than that in the same place of the others.
+fn is_within(bounds: &[i128], others: &[i128]) -> bool
+    requires { length bounds.now ≡ length others.now }
+    ensures { result ≡ list_le bounds.now others.now }
+{
+    'places: for place in 0..bounds.len() {
+        let bound = bounds[place];
+        let other = others[place];
+        if bound > other {
+            return false;
+        }
+    }
+    true
+}
+
+// Raises each bound to that in the same place of the others, where that is greater, and says whether any grew.
+fn raise(bounds: &mut [i128], others: &[i128]) -> bool
+    requires { length bounds.old ≡ length others.now }
+    ensures value { IsGreater bounds.old others.now bounds.new }
+    ensures grew { result ≡ not (list_le others.now bounds.old) }
+{
+    let mut grew = false;
+    'places: for place in 0..others.len() {
+        let bound = bounds[place];
+        let other = others[place];
+        if bound < other {
+            bounds[place] = other;
+            grew = true;
+        }
+    }
+    grew
+}
+
 impl Kept {
     /// Keeps an octagon.
     pub fn new(alloc: Global, octagon: &Octagon) -> Result<Kept, AllocError>
@@ -88,6 +122,25 @@ impl Kept {
             size: self.size,
             bounds: self.bounds.clone()?,
         })
+    }
+
+    /// Whether no entry is greater than that of a kept octagon of the same size. It opens neither and takes no
+    /// memory.
+    pub fn leq(&self, other: &Kept) -> bool
+        requires { self.now.size ≡ other.now.size }
+        ensures { result ≡ octagon_le self.now other.now }
+    {
+        is_within(self.bounds.as_slice(), other.bounds.as_slice())
+    }
+
+    /// Raises each entry to that of a kept octagon of the same size, where that is greater, and says whether any
+    /// grew. It opens neither and takes no memory.
+    pub fn join_into(&mut self, other: &Kept) -> bool
+        requires { self.old.size ≡ other.now.size }
+        ensures value { self.new ≡ joined self.old other.now }
+        ensures grew { result ≡ not (octagon_le other.now self.old) }
+    {
+        raise(self.bounds.as_mut_slice(), other.bounds.as_slice())
     }
 
     /// The octagon that is kept.

@@ -50,6 +50,7 @@ impl Octagon {
     ghost use Rattle.sp_octagon.specs.Changes.{no_bounds, with_pair};
     ghost use Rattle.sp_octagon.specs.Points.{Point};
     ghost use Rattle.sp_octagon.specs.Octagons.{rows, entries, bound_of, Becomes, octagon_le, OctagonHolds};
+    ghost use Rattle.sp_octagon.specs.Kept.{boundless};
 
     /// The octagon of `n` members without a bound off the diagonal.
     pub fn top(n: u32) -> Octagon
@@ -59,6 +60,7 @@ impl Octagon {
         ensures entries { (r c : ℕ) → r < 2 * n → c < 2 * n → entries result r c ≡ no_bounds r c }
         ensures greatest { (other : Octagon) → other.size ≡ n → octagon_le other result ≡ true }
         ensures holds { (p : Point) → OctagonHolds result p }
+        ensures value { result ≡ boundless n }
     {
         let mut bounds = [0; ROOM];
         change_entries(&mut bounds, 16, &Clearing);

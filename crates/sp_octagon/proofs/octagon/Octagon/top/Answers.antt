@@ -7,6 +7,7 @@ use Rattle.sp_octagon.specs.Changes.{no_bounds}
 use Rattle.sp_octagon.specs.Octagons.{rows, entries}
 use Rattle.sp_octagon.proofs.Numbers.{which}
 use Rattle.sp_octagon.proofs.OrderLaws.{test_from_below}
+use Rattle.sp_octagon.proofs.HalfOrder.{boundless-is}
 use Rattle.sp_octagon.proofs.octagon.Octagon.top.Goals as goal
 
 same_row : (i j : ℕ) → (i == j) ≡ true → i ≡ j
@@ -32,3 +33,6 @@ returns-clause-greatest c = λ other same.
     let row : i < 16 = omega (arith, other.facts.few) in
     let column : j < 16 = omega (arith, other.facts.few) in
     rw (c.change_entries.ensures.inside i j row column) (below_none other i j row column))
+
+pub returns-clause-value : goal.returns-clause-value
+returns-clause-value c = boundless-is _ c.args.n refl c.change_entries.ensures.inside
