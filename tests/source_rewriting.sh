@@ -208,8 +208,12 @@ check_hint 'a name of another header' \
 check_hint 'a name twice in a file' "$room/a.c:1:5 declares a with another type" \
     a.c $'int a;\nlong a;'
 extern='a header says extern, and one file defines the object'
-check_hint 'the object defined before' "$room/b.c:1:5 defines a, too; $extern" \
+check_hint 'the object defined before' "$room/b.c:1:5 defines a, too" \
     c.c 'extern int a;' b.c 'int a = 1;' a.c "int a = 2; $main"
+check_hint 'an external object with a value' "$room/b.c:1:12 defines a, too" \
+    b.c 'extern int a = 1;' a.c "int a = 2; $main"
+check_hint 'an object without a value' "$room/b.c:1:5 defines a, too; $extern" \
+    b.c 'int a;' a.c "int a; $main"
 echo 'int a;' >"$room/h.h"
 check_hint 'an object that a header defines' "$extern" \
     b.c '#include "h.h"' a.c $'#include "h.h"\nint main(void) { return 0; }'

@@ -20,12 +20,14 @@ EXTERN = "a header says extern, and one file defines the object"
 
 
 class Declared(NamedTuple):
-    """A declarator at file scope, and whether other units mean it, too, and whether it defines."""
+    """A declarator at file scope, and whether other units mean it, too, and how it defines."""
 
     place: Place
     type: MaybeType
     is_linked: bool
     is_definition: bool
+    # An object without a value, which a header may say with extern (C90 6.7.2).
+    is_tentative: bool
 
 
 def hint_of_clash(refusal: Refusal, texts: list[str]) -> Optional[str]:
@@ -54,7 +56,7 @@ def hint_of_second(refusal: Refusal, texts: list[str]) -> str:
             for each in declared_in(read_text(text), text, name):
                 if each.place != place and each.is_linked and each.is_definition:
                     said = f"{told(each.place)} defines {name}, too"
-                    return said if isinstance(each.type, Function) else f"{said}; {EXTERN}"
+                    return f"{said}; {EXTERN}" if each.is_tentative else said
     return EXTERN
 
 
@@ -74,7 +76,7 @@ def declared_in(text: str, path: str, name: str) -> Iterator[Declared]:
         if isinstance(part, Unread):
             continue
         is_linked = not {"static", "typedef"}.intersection(part.specifiers.storage)
-        is_object = not {"extern", "typedef"}.intersection(part.specifiers.storage)
+        is_own = not {"extern", "typedef"}.intersection(part.specifiers.storage)
         if isinstance(part, FunctionDefinition):
             declarators, has_body = [part.declarator], True
         else:
@@ -82,10 +84,11 @@ def declared_in(text: str, path: str, name: str) -> Iterator[Declared]:
         for declarator in declarators:
             if declarator.name == name:
                 place = places.of(tokens.starts[declarator.token])
-                is_definition = has_body or (
-                    is_object and not isinstance(declarator.type, Function)
-                )
-                yield Declared(place, declarator.type, is_linked, is_definition)
+                has_value = declarator.values is not None
+                is_object = not isinstance(declarator.type, Function)
+                is_tentative = is_own and is_object and not has_value
+                is_definition = has_body or has_value or is_tentative
+                yield Declared(place, declarator.type, is_linked, is_definition, is_tentative)
 
 
 def is_same(one: MaybeType, other: MaybeType) -> bool:
