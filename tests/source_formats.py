@@ -125,7 +125,7 @@ def try_order(room: str) -> None:
 def write_odd(room: str) -> None:
     """A file with a name, bytes and lines as they are seldom, whose each statement alarms."""
     lines = [
-        b"int a[3]; static int n = 3;",
+        b"int a[3]; enum { n = 3 };",
         b"int main(void) {",
         b"\ta[n] = 1; /* \xc3\xa9 \xff \x1b[1m <b>&amp; \" */ a[n] = 2;\r",
         b"/* \xc3\xa9 */ a[n] = 3;",
