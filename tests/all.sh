@@ -10,4 +10,6 @@ for name in script install rows examples statuses cases source dist; do
     echo "== tests/$name.sh"
     bash "tests/$name.sh" || failed+=("tests/$name.sh")
 done
+echo "== tests/soundness.py"
+python3 tests/soundness.py || failed+=("tests/soundness.py")
 [ ${#failed[@]} -eq 0 ] || { echo "FAILED: ${failed[*]}"; exit 1; }
