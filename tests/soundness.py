@@ -19,6 +19,7 @@ from collections import Counter
 from pathlib import Path
 from typing import Optional
 
+from soundness_gcc import Comparison
 from soundness_machine import Machine, Outcome
 from soundness_probes import Prober, repaired, shrunk
 from soundness_programs import generated
@@ -126,16 +127,28 @@ def words() -> argparse.Namespace:
     return parser.parse_args()
 
 
+def against_gcc(seeds: range) -> int:
+    with tempfile.TemporaryDirectory() as folder:
+        comparison = Comparison(folder)
+        for seed in seeds:
+            program, runs, probes = made(seed)
+            comparison.one(seed, program, runs + probes)
+        return comparison.tell()
+
+
 def main() -> int:
     asked = words()
     sys.setrecursionlimit(20000)
+    seeds = range(asked.seed, asked.seed + asked.programs)
+    if asked.against_gcc:
+        return against_gcc(seeds)
     top = Path(__file__).resolve().parent.parent
     program = asked.program or subprocess.run([str(top / "sparrow"), "--program"], check=True, capture_output=True,
                                               text=True).stdout.strip()
     with tempfile.TemporaryDirectory() as folder:
         tester = Tester(program, list(MODES), folder)
         tester.modes = asked.modes.split(",") if asked.modes else [mode for mode in MODES if tester.takes(mode)]
-        for seed in range(asked.seed, asked.seed + asked.programs):
+        for seed in seeds:
             tester.one(seed)
         return tester.tell()
 

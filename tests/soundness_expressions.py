@@ -91,7 +91,7 @@ class Scope:
         if far and (not near or self.often(0.3)):
             it, way, behind = self.rng.choice(far)
             pointer = self.down(Name(it), way)
-            followed: Expression = Follow(pointer) if self.often(0.6) else Index(pointer, self.index(3))
+            followed: Expression = Follow(pointer) if self.often(0.9 if len(behind) else 0.6) else Index(pointer, self.index(3))
             return self.down(followed, behind)
         if not near:
             return None
@@ -126,14 +126,14 @@ class Scope:
     def index(self, count: int) -> Expression:
         """Mostly within 0 and the count."""
         kind = self.rng.random()
-        if kind < 0.35 or not self.private:
+        if kind < 0.45 or not self.private:
             return Constant(self.rng.randrange(count))
         name = Name(self.rng.choice(self.private))
-        if kind < 0.75:
+        if kind < 0.76:
             return name
-        if kind < 0.82:
+        if kind < 0.83:
             return Binary("&", name, Constant((1 << (count.bit_length() - 1)) - 1))
-        if kind < 0.88:
+        if kind < 0.89:
             return Binary("%", Cast(UNSIGNED, name), Constant(count, UNSIGNED))
         if kind < 0.95:
             return Binary(self.rng.choice("+-"), name, Constant(1))

@@ -13,9 +13,10 @@ from soundness_spots import (Fault, Frame, NoVerdict, Spot, Stop, Thing, Value, 
 from soundness_statements import Program, Statement
 from soundness_tree import (VOID, Address, Array, Assign, Binary, Call, Cast, Choice, Compare, Constant, Declaration,
                             Expression, Follow, Index, Initial, Int, Library, Logical, Member, Name, Null, Pointer, Record,
-                            Routine, Size, Step, Type, Unary, Void, decayed)
+                            Routine, Size, Step, Type, Unary, Void)
 
-MAX_STEPS = 20000
+# Few runs take as many, and they tell no more than shorter ones.
+MAX_STEPS = 4000
 MAX_CALLS = 40
 # A block past this isn't made: a real malloc gives a null pointer then.
 MAX_BLOCK = 100000
@@ -35,7 +36,8 @@ class Machine:
 
     def __init__(self, program: Program) -> None:
         self.program = program
-        self.codes = {routine: code_of(routine) for routine in program.routines}
+        self.codes: dict[Routine, Code] = {}
+        self.renew(program.routines)
         self.watched: set[int] = set()
         self.watch: Callable[[Statement], None] = lambda statement: None
         self.values: dict[type, Callable[[Any], Value]] = {
@@ -43,6 +45,10 @@ class Machine:
             Index: self.read, Follow: self.read, Member: self.read, Address: self.address, Unary: self.unary,
             Binary: self.binary, Compare: self.compare, Logical: self.logical, Choice: self.choice, Cast: self.cast,
             Assign: self.assign, Step: self.step, Call: self.call, Library: self.library}
+
+    def renew(self, routines: list[Routine]) -> None:
+        """Takes their bodies anew."""
+        self.codes.update({routine: code_of(routine) for routine in routines})
 
     def run(self, inputs: list[int]) -> Outcome:
         self.inputs, self.taken = inputs, 0
@@ -226,11 +232,8 @@ class Machine:
     def compare(self, it: Compare) -> Value:
         left, right = self.value(it.left), self.value(it.right)
         if isinstance(left, int) and isinstance(right, int):
-            kinds = decayed(it.left.kind), decayed(it.right.kind)
-            if isinstance(kinds[0], Int) and isinstance(kinds[1], Int):
-                kind = Binary("+", it.left, it.right).kind
-                assert isinstance(kind, Int)
-                left, right = kind.wrapped(left), kind.wrapped(right)
+            if it.common is not None:
+                left, right = it.common.wrapped(left), it.common.wrapped(right)
             return ordered(it.sign, left, right)
         if it.sign in ("==", "!="):
             return int(self.same(left, right) == (it.sign == "=="))
@@ -294,6 +297,9 @@ class Machine:
     def address(self, it: Address) -> Value:
         if isinstance(it.of, Routine):
             return it.of
+        pointer = it.of.pointer if isinstance(it.of, Follow) else it.of.base if isinstance(it.of, Index) else None
+        if pointer is not None and isinstance(pointer.kind, Pointer) and not isinstance(self.value(pointer), Spot):
+            raise NoVerdict("the address of what no pointer leads to")
         spot = self.place(it.of)
         if not 0 <= spot.at <= spot.length:
             raise NoVerdict("a pointer leaves its row")
@@ -335,11 +341,10 @@ class Machine:
             if not isinstance(kind, Pointer) or any(it != (first[0], at) for at, it in enumerate(found)):
                 raise NoVerdict("parts of a pointer")
             return first[0]
-        number = 0
-        for byte in reversed(found):
-            if not isinstance(byte, int):
-                raise NoVerdict("unwritten")
-            number = number << 8 | byte
+        try:
+            number = int.from_bytes(bytes(found), "little")  # type: ignore[arg-type]
+        except TypeError:
+            raise NoVerdict("unwritten") from None
         return kind.wrapped(number) if isinstance(kind, Int) else number
 
     def store(self, spot: Spot, kind: Type, value: Value) -> None:

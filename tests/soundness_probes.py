@@ -33,9 +33,9 @@ def position(body: list[Statement], statement: Statement) -> int:
 
 def repaired(rng: random.Random, program: Program, inputs: list[list[int]]) -> None:
     """Takes out what ends the runs, until they are as long as is wanted, or nothing ends them."""
-    wanted = rng.choice([0, 30, 100, 300, 1000])
-    for _ in range(12):
-        machine = Machine(program)
+    wanted = rng.choice([0, 50, 200, 500, 2000])
+    machine = Machine(program)
+    for _ in range(25):
         for numbers in inputs:
             outcome = machine.run(numbers)
             if outcome.what != "ended" and outcome.steps < wanted:
@@ -64,6 +64,7 @@ def take_out(program: Program, machine: Machine) -> bool:
         it.value = Constant(0) if isinstance(kind, Int) else Cast(kind, Null(kind))
     else:
         del body[position(body, it)]
+    machine.renew([machine.routine])
     return True
 
 
@@ -77,6 +78,7 @@ class Prober:
         self.rng, self.program, self.inputs = rng, program, inputs
         self.which, self.sink = [Name(it) for it in program.objects[:2]]
         self.machine = Machine(program)
+        self.first = program.routines[-1].body[0]
         self.found: list[tuple[Statement, Statement, list[int]]] = []
         self.scopes: dict[Routine, Scope] = {}
 
@@ -94,7 +96,7 @@ class Prober:
 
     def look(self, statement: Statement, numbers: list[int]) -> None:
         """Adds a probe of what some place holds before the statement."""
-        if isinstance(statement, (While, For)):
+        if isinstance(statement, (While, For)) or statement is self.first:
             return
         scope = self.scope()
         wanted = Int if self.rng.random() < 0.75 else Pointer

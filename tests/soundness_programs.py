@@ -100,19 +100,23 @@ class Maker:
             return None
         return self.initial(kind, before)
 
-    def initial(self, kind: Type, before: Sequence[Declaration]) -> Optional[Initial]:
+    def initial(self, kind: Type, before: Sequence[Declaration]) -> Initial:
+        """Constants for a part of an object, or more of it; addresses are of objects that stand before."""
         if isinstance(kind, Int):
             return Constant(self.rng.choice(SMALL))
-        if isinstance(kind, Array) and isinstance(kind.of, (Int, Array)):
-            return [self.initial(kind.of, before) or Constant(0) for _ in range(self.rng.randrange(1, kind.count + 1))]
-        if isinstance(kind, Pointer):
-            spots = [it for it in before if kind.to in (it.kind, it.kind.of if isinstance(it.kind, Array) else None)]
-            if spots and self.often(0.85):
-                it = self.rng.choice(spots)
-                if isinstance(it.kind, Array):
-                    return Address(Index(Name(it), Constant(self.rng.randrange(it.kind.count))))
-                return Address(Name(it))
-        return None
+        if isinstance(kind, Array):
+            return [self.initial(kind.of, before) for _ in range(self.rng.randrange(1, kind.count + 1))]
+        if isinstance(kind, Record):
+            members = [*kind.members.values()]
+            return [self.initial(it, before) for it in members[:1 if kind.union else self.rng.randrange(1, len(members) + 1)]]
+        spots = [it for it in before if it.storage in ("global", "static") and kind.to in (
+            it.kind, it.kind.of if isinstance(it.kind, Array) else None)] if isinstance(kind, Pointer) else []
+        if not spots or self.often(0.15):
+            return Null(kind)
+        it = self.rng.choice(spots)
+        if isinstance(it.kind, Array):
+            return Address(Index(Name(it), Constant(self.rng.randrange(it.kind.count))))
+        return Address(Name(it))
 
     def locals(self, scope: Scope, storage: str, name: str, kind: Type) -> Declaration:
         """An object of a function, mostly with a start value."""
@@ -120,11 +124,13 @@ class Maker:
         if storage == "static":
             initial = self.constant(kind, self.objects)
         elif self.often(0.85):
-            initial = scope.small() if isinstance(kind, Int) else self.initial(kind, self.objects)
-            if isinstance(kind, Pointer):
+            initial = self.initial(kind, self.objects)
+            if isinstance(kind, Int):
+                initial = scope.small()
+            elif isinstance(kind, Pointer):
                 initial = scope.pointer(kind.to)
-            elif isinstance(kind, Record) and not kind.union:
-                initial = scope.place(kind) if self.often(0.7) else None
+            elif isinstance(kind, Record) and not kind.union and self.often(0.5):
+                initial = scope.place(kind)
         made = Declaration(name, kind, storage, initial)
         scope.add(made)
         return made
@@ -169,7 +175,7 @@ class Maker:
             body = moves.body(self.rng.randrange(2, 6))
             made.body = [stop, *body[:len(body) // 2], *again, *body[len(body) // 2:]]
         else:
-            made.body = moves.body(self.rng.randrange(2, 8))
+            made.body = moves.body(self.rng.randrange(3, 9))
         if end is not None:
             made.body.append(end)
         self.routines.append(made)
@@ -190,5 +196,5 @@ class Maker:
         made = Routine("main", Function(INT, ()), [])
         moves = self.inside(made, [], [*self.routines])
         start: Body = [Do(Assign(Name(self.which), Library("input")))]
-        made.body = [*start, *moves.body(self.rng.randrange(6, 18)), Return(Constant(0))]
+        made.body = [*start, *moves.body(self.rng.randrange(8, 26)), Return(Constant(0))]
         self.routines.append(made)

@@ -286,10 +286,16 @@ class Binary:
 
 @dataclass(eq=False)
 class Compare:
+    """Of numbers, in their common type, or of pointers."""
+
     sign: str
     left: Expression
     right: Expression
     kind: Type = INT
+
+    def __post_init__(self) -> None:
+        numbers = isinstance(self.left.kind, Int) and isinstance(self.right.kind, Int)
+        self.common = common(self.left.kind, self.right.kind) if numbers else None
 
     def text(self) -> str:
         return f"({self.left.text()} {self.sign} {self.right.text()})"
