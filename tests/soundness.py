@@ -64,24 +64,24 @@ class Tester:
             self.counts[f"without verdict: {outcome.why}" if outcome.why else outcome.what] += 1
         for mode in self.modes:
             alarms = self.alarms(text, mode)
-            for numbers, outcome in outcomes:
-                if outcome.what in ERRORS or alarms is None:
-                    self.judge(program, seed, mode, numbers, outcome, alarms)
+            errors = [run for run in outcomes if run[1].what in ERRORS]
+            missed = [run for run in errors if alarms is None or (run[1].line, run[1].what) not in alarms]
+            self.passed += len(errors) - len(missed)
+            self.failed += max(len(missed), int(alarms is None))
+            if alarms is None:
+                print(f"FAILED seed {seed}, {mode}: no report\n{text}", file=sys.stderr)
+            elif missed:
+                self.tell_missed(seed, mode, *missed[0])
 
-    def judge(self, program: Program, seed: int, mode: str, numbers: list[int], outcome: Outcome,
-              alarms: Optional[set[tuple[int, str]]]) -> None:
-        if alarms is not None and (outcome.line, outcome.what) in alarms:
-            self.passed += 1
-            return
-        self.failed += 1
-        if alarms is None:
-            print(f"FAILED seed {seed}, {mode}: no report\n{program.text()}", file=sys.stderr)
-            return
-        shrunk(program, lambda: self.missed(program, numbers, mode) is not None)
-        missed = self.missed(program, numbers, mode)
-        assert missed is not None
-        print(f"FAILED seed {seed}, {mode}: {missed.what} at line {missed.line} without an alarm, inputs {numbers}\n"
+    def tell_missed(self, seed: int, mode: str, numbers: list[int], outcome: Outcome) -> None:
+        """Writes the program, and what is left of it when all has gone without which it fails too."""
+        program = made(seed)[0]
+        print(f"FAILED seed {seed}, {mode}: {outcome.what} at line {outcome.line} without an alarm, inputs {numbers}\n"
               f"{program.text()}", file=sys.stderr)
+        shrunk(program, lambda: self.missed(program, numbers, mode) is not None)
+        left = self.missed(program, numbers, mode)
+        if left is not None:
+            print(f"The same, shrunk: {left.what} at line {left.line}\n{program.text()}", file=sys.stderr)
 
     def missed(self, program: Program, numbers: list[int], mode: str) -> Optional[Outcome]:
         """The first error of a run, where the report hasn't it."""

@@ -174,7 +174,7 @@ class Prober:
 # Shrinking
 
 
-def shrunk(program: Program, fails: Callable[[], bool], tries: int = 600) -> None:
+def shrunk(program: Program, fails: Callable[[], bool], tries: int = 300) -> None:
     """Takes out statements, objects and functions as long as it still fails."""
     again = True
     while again:
