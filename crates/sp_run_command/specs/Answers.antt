@@ -42,9 +42,9 @@ pub record HasReport (engine : Engine) (wanted : Wanted) (p : Lowered) (names : 
   pub report : IsReportOf names wanted equations bytes count
 
 -- A program is past the limit of an engine, and the bytes refuse it where the first file begins.
-pub record IsTooLarge (engine : Engine) (p : Lowered) (names : List (List ℕ)) (bytes : List ℕ) : Type 0 where
+pub record IsTooLarge (engine : Engine) (sharp : Bool) (p : Lowered) (names : List (List ℕ)) (bytes : List ℕ) : Type 0 where
   pub equations : Equations
-  pub are : AreEquationsOf p wanted.sharp equations
+  pub are : AreEquationsOf p sharp equations
   pub kind : FaultKind
   pub past : IsPast engine equations kind
   pub bytes_are : bytes ≡ fault_text names (record { kind = kind; place = start_place })
@@ -57,7 +57,7 @@ reporting (suc n) = Alarms
 -- The bytes are what is written for a program, with this status.
 pub data IsAnswerTo (engine : Engine) (wanted : Wanted) (p : Lowered) (names : List (List ℕ)) (status : Status) (bytes : List ℕ) : Type 0 where
   reported : (count : ℕ) → status ≡ reporting count → HasReport engine wanted p names count bytes → IsAnswerTo engine wanted p names status bytes
-  too_large : status ≡ Refused → IsTooLarge engine p names bytes → IsAnswerTo engine wanted p names status bytes
+  too_large : status ≡ Refused → IsTooLarge engine wanted.sharp p names bytes → IsAnswerTo engine wanted p names status bytes
 
 -- nothing was evaluated; or the program isn't past the engine's limit, and there are at most as many
 -- evaluations as the engine may use on it
