@@ -11,5 +11,5 @@ for name in script install rows examples statuses cases source dist; do
     bash "tests/$name.sh" || failed+=("tests/$name.sh")
 done
 echo "== tests/soundness.py"
-python3 tests/soundness.py --modes plain || failed+=("tests/soundness.py")
+python3 tests/soundness.py || failed+=("tests/soundness.py")
 [ ${#failed[@]} -eq 0 ] || { echo "FAILED: ${failed[*]}"; exit 1; }
