@@ -45,6 +45,7 @@ impl Analysis {
     ghost use Rattle.sp_base_sets.specs.Sets.{has};
     ghost use Rattle.sp_ir.specs.Formed.{IsFormed};
     ghost use Rattle.sp_points_rules.specs.Leaves.{leaf_points};
+    ghost use Rattle.sp_ir.specs.Regions.{is_cell_at};
     ghost use Rattle.sp_points_rules.specs.Paths.{reaches, object_at};
     ghost use Rattle.sp_effect_rows.specs.Setting.{count, cell_of};
     ghost use Rattle.sp_value.specs.Slots.{known_of};
@@ -73,13 +74,15 @@ impl Analysis {
         })
     }
 
-    /// The regions of a region's object, among them all that is under it.
+    /// The cells of a region's object, among them all that is under it.
     pub fn under(&self, region: u32) -> &[u32]
         ensures under { (c : ℕ) → reaches (analysed_of self.now).program region c ≡ true
             → has c result.now ≡ true }
         ensures own { (c : ℕ) → has c result.now ≡ true
             → object_at (analysed_of self.now).program c
             ≡ object_at (analysed_of self.now).program region }
+        ensures cells { (c : ℕ) → has c result.now ≡ true
+            → is_cell_at (analysed_of self.now).program.regions c ≡ true }
     {
         under(&self.lowered, &self.groups, region)
     }

@@ -5,6 +5,7 @@ use Rattle.sp_tree.specs.declared.fault.FaultKind.TheVariants.{TooManyNodes, Too
 use Rattle.sp_types.specs.Programs.{Program}
 use Rattle.sp_ir.specs.Programs.{Lowered, lowered_of}
 use Rattle.sp_ir.specs.declared.program.Lowered.{Lowered as CodeLowered}
+use Rattle.sp_lower_objects.specs.Regions.{most_regions}
 use Rattle.sp_lower.specs.Programs.{start_place, IsLowering}
 use Rattle.sp_lower.specs.declared.program.LowerError.{LowerError}
 use Rattle.sp_lower.specs.declared.program.LowerError.TheVariants as errors
@@ -15,9 +16,6 @@ use Rattle.sp_lower.specs.declared.limits.Outcome.TheVariants as outcomes
 
 abbrev pub most_nodes : ℕ
 most_nodes = 500000
-
-abbrev pub most_regions : ℕ
-most_regions = 200000
 
 -- it is within them
 abbrev pub Fits : Lowered → Type 0

@@ -11,16 +11,13 @@ ghost use Rattle.sp_lower.specs.Answers.{EndsAt};
 use crate::building::whole;
 use sp_ir::{Lowered, Object};
 use sp_lower_functions::Functions;
-use sp_lower_objects::regions_fit;
+use sp_lower_objects::{MAX_REGIONS, regions_fit};
 use sp_tree::FaultKind;
 use sp_types::Program;
 use std::alloc::{AllocError, Global};
 
 /// The most nodes, as many as the analysis has room for.
 pub const MAX_NODES: usize = 500_000;
-
-/// The most regions.
-pub const MAX_REGIONS: u64 = 200_000;
 
 /// How a lowering ends.
 #[derive(Drop)]

@@ -48,4 +48,4 @@ module _ (p : Program) (names : List (List ℕ)) (typed : IsTypedProgram p) (w :
 pub lowering_formed : LoweringsAreFormed
 lowering_formed p names l typed lowering fits =
     subst (λ (x : Lowered). Fits x → IsFormed x) (sym lowering.is)
-    (λ f. whole_formed p names typed lowering.functions lowering.numbered (starts_stand p names typed lowering.functions lowering.numbered) f) fits
+    (λ f. whole_formed p names typed lowering.functions lowering.numbered (starts_stand p names typed lowering.functions lowering.numbered f.1) f) fits

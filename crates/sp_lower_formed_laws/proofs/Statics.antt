@@ -1,5 +1,5 @@
 -- The start values of the objects of a well-typed program are formed in its lowering.
-use Rattle.std.proofs.Common.{◌≡◌, ℕ, Bool, true, false, ◌||◌, List, [], Some, slice_get, refl, ap, sym, ◌∙◌}
+use Rattle.std.proofs.Common.{◌≡◌, ℕ, ◌≤◌, Bool, true, false, ◌||◌, List, [], length, Some, slice_get, refl, ap, sym, ◌∙◌}
 use Rattle.sp_types.specs.Layout.{layout}
 use Rattle.sp_types.specs.declared.extents.Extent.{Extent}
 use Rattle.sp_types.specs.Programs as program
@@ -8,6 +8,7 @@ use Rattle.sp_ir.specs.Programs.{Object}
 use Rattle.sp_ir.specs.Formed.{is_site, is_local}
 use Rattle.sp_lower_draft.specs.Draft.{Left}
 use Rattle.sp_lower_functions.specs.Functions.{Part}
+use Rattle.sp_lower_objects.specs.Regions.{most_regions}
 use Rattle.sp_lower.specs.Programs.{first_site, counts_in, IsNumbered}
 use Rattle.sp_lower_program_laws.proofs.Pointers.{pointers-hold}
 use Rattle.sp_check_typing.specs.Programs.{lasts, sees, IsTypedProgram}
@@ -51,5 +52,6 @@ module _ (p : Program) (names : List (List ℕ)) (typed : IsTypedProgram p) (w :
   units_lowered : ObjectsStand p.objects (os p names typed w numbered)
   units_lowered n o there = let x = unit_object p names typed w numbered n o there in (x.0, x.1, x.2.of, x.2.kind)
 
-  pub starts_stand : StartsStand p (c p names typed w numbered) (os p names typed w numbered) (rs p names typed w numbered) (is p names typed w numbered)
-  starts_stand = starts_hold p names (first_site p names (counts_in p names)) (os p names typed w numbered) typed units_lowered static_fit
+  pub starts_stand : length (rs p names typed w numbered) ≤ most_regions
+      → StartsStand p (c p names typed w numbered) (os p names typed w numbered) (rs p names typed w numbered) (is p names typed w numbered)
+  starts_stand few = starts_hold p names (first_site p names (counts_in p names)) (os p names typed w numbered) typed units_lowered few static_fit

@@ -1,2 +1,3 @@
 pub mod Lengths
+pub mod Past
 pub mod Pushed

@@ -38,6 +38,10 @@ all_regions ss n (o ∷ os) = object_regions ss n o.kind o.of ++ all_regions ss 
 
 -- ---- how many there are
 
+-- the most that a program may have
+abbrev pub most_regions : ℕ
+most_regions = 200000
+
 abbrev pub kind_count : List Struct → ObjectKind → Option CType → ℕ
 kind_count ss kind None = 1
 kind_count ss kind (Some t) =

@@ -27,5 +27,5 @@ pub use initials::initials_of;
 pub use making::{add_locals, add_sites, start_site, takes_pointer};
 pub use objects::{add_functions, add_program_objects, function_names};
 pub use owners::{codes_of, defined, mark_at, owners_of};
-pub use regions::{regions_fit, regions_of};
+pub use regions::{MAX_REGIONS, regions_fit, regions_of};
 pub use routines::routines_of;

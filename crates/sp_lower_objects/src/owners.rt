@@ -49,7 +49,7 @@ fn no_codes(alloc: Global, functions: &[FunctionDef]) -> Result<Vec<Option<u32>>
     Ok(marks)
 }
 
-/// The functions of these numbers in the program. A number of no function is want of memory.
+/// The functions of these numbers in the program. A number of no function gives none.
 pub fn defined<'a>(
     alloc: Global,
     functions: &'a [FunctionDef],
@@ -60,10 +60,9 @@ pub fn defined<'a>(
 {
     let mut defined = Vec::new(alloc);
     for definition in definitions {
-        let Some(function) = function_at(functions, *definition) else {
-            return Err(AllocError);
-        };
-        defined.push(function)?;
+        if let Some(function) = function_at(functions, *definition) {
+            defined.push(function)?;
+        }
     }
     Ok(defined)
 }

@@ -13,6 +13,9 @@ use sp_lower_draft::size_of;
 use sp_types::{CType, StructType};
 use std::alloc::{AllocError, Global};
 
+/// The most regions of a program.
+pub const MAX_REGIONS: u64 = 200_000;
+
 fn root_count(kind: ObjectKind) -> Option<u64>
     ensures { result ≡ root_count kind }
 {

@@ -1,5 +1,5 @@
 -- The start of an object of the program, from the values of its leaves.
-use Rattle.std.proofs.Common.{◌≡◌, ℕ, ◌+◌, ◌≤◌, ◌==◌, Bool, false, List, [], ◌∷◌, Option, Some, None, slice_get, if◌then◌else◌, refl, ap, sym, ◌∙◌, subst, arith}
+use Rattle.std.proofs.Common.{◌≡◌, ℕ, ◌+◌, ◌≤◌, ◌==◌, ◌||◌, nat_lt, Bool, false, List, [], length, ◌∷◌, Option, Some, None, slice_get, if◌then◌else◌, refl, ap, sym, ◌∙◌, subst, arith}
 use Rattle.std.specs.Prelude.{All}
 use Rattle.std.proofs.lemmas.List.Elements.{All-head, All-tail}
 use Rattle.std.proofs.lemmas.Bool.Decides.{nat_tests}
@@ -15,22 +15,22 @@ use Rattle.sp_ir.specs.Shapes.{Shape, region, regions, HasShape}
 use Rattle.sp_ir.specs.Terrain.{size_in, size_of}
 use Rattle.sp_ir.specs.Formed.{IsStart}
 use Rattle.sp_base_layouts.specs.Layouts.{layout_of}
-use Rattle.sp_base_layouts.specs.Leaves.{leaf_region, start_cells, zero_cells}
+use Rattle.sp_base_layouts.specs.Leaves.{leaf_region, start_cells}
 use Rattle.sp_base_layout_laws.specs.Laws.{HaveMembers}
 use Rattle.sp_base_layout_laws.proofs.Shaped.{is-shaped}
 use Rattle.sp_lower_draft.specs.Context.{Context}
 use Rattle.sp_lower_starts.specs.Starts.{start_value}
 use Rattle.sp_lower_body.specs.Frames.{Initial, known_initial}
 use Rattle.sp_lower_objects.specs.Codes.{known_number}
-use Rattle.sp_lower_objects.specs.Initials.{initials_from}
+use Rattle.sp_lower_objects.specs.Initials.{object_region_count, is_past, no_cells, all_cells, initials_from}
 use Rattle.sp_lower_objects.specs.Objects.{start_leaves}
-use Rattle.sp_lower_objects.specs.Regions.{all_regions}
+use Rattle.sp_lower_objects.specs.Regions.{all_regions, most_regions}
 use Rattle.sp_check_typing.specs.Starts.{IsLeafValue, AreLeafValues}
 use Rattle.sp_lower_expr_laws.specs.Stands.{table, scene}
 use Rattle.sp_lower_body_laws.specs.Frames.{AreLeavesOf}
 use Rattle.sp_lower_starts_laws.specs.Laws.{ObjectsStand}
 use Rattle.sp_lower_starts_laws.proofs.Lists.{StandFrom, stand_first, stand_rest, stand_all}
-use Rattle.sp_lower_starts_laws.proofs.Roots.{root_from, standing, root_number, initial_is}
+use Rattle.sp_lower_starts_laws.proofs.Roots.{root_from, standing, root_number, regions_there, initial_is}
 use Rattle.sp_lower_starts_laws.proofs.Leaves.{shape_floats}
 use Rattle.sp_lower_starts_laws.proofs.Unique.{one_shape}
 use Rattle.sp_lower_starts_laws.proofs.Values.{IsFormedValue, AreFilled, filled_start}
@@ -39,6 +39,9 @@ use Rattle.sp_lower_starts_laws.proofs.Values.{IsFormedValue, AreFilled, filled_
 
 zero_not : (n : ℕ) → 1 ≤ n → (n == 0) ≡ false
 zero_not n h = grind (arith, nat_tests)
+
+not_past : (m n : ℕ) → n ≤ m → nat_lt m n ≡ false
+not_past m n h = grind (arith, nat_tests)
 
 -- what has a size has a layout
 sized_layout : (ss : List Struct) (t : CType) → 1 ≤ size_of ss t → (e : Extent) × (layout ss t ≡ Some e)
@@ -51,7 +54,7 @@ sized_layout ss t h = by (layout ss t) refl h
 -- ---- one object
 
 module _ (c : Context) (os : List Object) (lowered : ObjectsStand c.objects os) (table_formed : IsTable c.structs) (some : HaveMembers c.structs)
-    (n : ℕ) (o : program.Object) (there : slice_get c.objects n ≡ Some o) (big : 1 ≤ size_of c.structs o.of) where
+    (few : length (all_regions c.structs 0 os) ≤ most_regions) (n : ℕ) (o : program.Object) (there : slice_get c.objects n ≡ Some o) (big : 1 ≤ size_of c.structs o.of) where
   abbrev root : ℕ
   root = root_from c.structs 0 c.objects n
 
@@ -59,10 +62,14 @@ module _ (c : Context) (os : List Object) (lowered : ObjectsStand c.objects os) 
   shape = layout_of c.structs o.of
 
   abbrev cells : Initial
-  cells = record { cells = start_cells (layout_of c.structs o.of) (root_from c.structs 0 c.objects n) o.start; zero = zero_cells (layout_of c.structs o.of) (root_from c.structs 0 c.objects n) o.start }
+  cells = all_cells c.structs (root_from c.structs 0 c.objects n) o
+
+  within : is_past c.structs root o.of ≡ false
+  within = let low = regions_there c.structs c.objects os lowered n o there in not_past most_regions (root + object_region_count c.structs o.of) (omega (arith, low, few))
 
   pub initial_here : known_initial (slice_get (initials_from c.structs 0 c.objects) n) ≡ cells
-  initial_here = ap known_initial (initial_is c.structs c.objects 0 n o there) ∙ ap (λ b. if b then record { cells = []; zero = [] } else cells) (zero_not (size_of c.structs o.of) big)
+  initial_here = ap known_initial (initial_is c.structs c.objects 0 n o there) ∙ ap (λ b. if b || is_past c.structs root o.of then no_cells else cells) (zero_not (size_of c.structs o.of) big)
+      ∙ ap (λ b. if b then no_cells else cells) within
 
   regions_here : StandFrom (all_regions c.structs 0 os) root (regions n [] (Some 1) shape)
   regions_here = subst (λ b. StandFrom (all_regions c.structs 0 os) root (if b then region n [] None 1 (Some 0) ∷ [] else regions n [] (Some 1) shape)) (zero_not (size_of c.structs o.of) big)

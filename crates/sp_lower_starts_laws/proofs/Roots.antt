@@ -19,7 +19,7 @@ use Rattle.sp_lower_objects.specs.Objects.{kind_of_storage}
 use Rattle.sp_lower_objects.specs.Regions.{typed_regions, object_regions, kind_regions, all_regions}
 use Rattle.sp_lower_objects.proofs.Lengths.{length-regions}
 use Rattle.sp_lower_starts_laws.specs.Laws.{ObjectsStand}
-use Rattle.sp_lower_starts_laws.proofs.Lists.{StandFrom, stand_left, stand_right, there_below, some_is, place_cases, position_first}
+use Rattle.sp_lower_starts_laws.proofs.Lists.{StandFrom, stand_left, stand_right, there_below, below_there, some_is, place_cases, position_first}
 
 -- ---- the regions of one object
 
@@ -195,6 +195,19 @@ root_number ss objects os lowered n o e =
       where
         apart : (a b : ℕ) → b < a → nat_eq a b ≡ false
         apart a b low = grind (arith, nat_tests)
+
+-- all regions of the object are among those of the program
+pub regions_there : (ss : List Struct) (objects : List program.Object) (os : List Object) → ObjectsStand objects os
+    → (n : ℕ) (o : program.Object) → slice_get objects n ≡ Some o
+    → root_from ss 0 objects n + object_region_count ss o.of ≤ length (all_regions ss 0 os)
+regions_there ss objects os lowered n o e =
+    let xs : List Region = typed_regions ss n (Some 1) o.of in
+    let root : HasRoot n [] xs = typed_root ss n o.of in
+    let some : 0 < length xs = below_there xs 0 root.0 root.1 in
+    let last : (x : Region) × (slice_get xs (length xs - 1) ≡ Some x) = there_below xs (length xs - 1) (omega (arith, some)) in
+    let low : root_from ss 0 objects n + (length xs - 1) < length (all_regions ss 0 os) =
+    below_there (all_regions ss 0 os) (root_from ss 0 objects n + (length xs - 1)) last.0 ((standing ss objects os lowered n o e).0 (length xs - 1) last.0 last.1) in
+    omega (arith, low, some, typed_length ss n o.of)
 
 -- ---- the cells of its start values are counted from there
 pub initial_is : (ss : List Struct) (objects : List program.Object) (r n : ℕ) (o : program.Object) → slice_get objects n ≡ Some o

@@ -1,5 +1,5 @@
 -- The start values of all objects of a program.
-use Rattle.std.proofs.Common.{◌≡◌, ℕ, ◌≤◌, Bool, true, false, List, [], ◌∷◌, ◌+◌, Some, None, slice_get, slice_index_or, refl, sym, subst}
+use Rattle.std.proofs.Common.{◌≡◌, ℕ, ◌≤◌, Bool, true, false, List, [], ◌∷◌, length, ◌+◌, Some, None, slice_get, slice_index_or, refl, sym, subst}
 use Rattle.std.specs.Prelude.{All}
 use Rattle.std.proofs.lemmas.List.Elements.{All-nil, All-cons, All-head, All-tail}
 use Rattle.sp_types.specs.declared.program.Storage.{Storage}
@@ -19,7 +19,7 @@ use Rattle.sp_lower_body.specs.Declarations.{is_automatic}
 use Rattle.sp_lower_objects.specs.Codes.{number_in}
 use Rattle.sp_lower_objects.specs.Initials.{initials_from}
 use Rattle.sp_lower_objects.specs.Objects.{kind_of_storage, start_leaf, start_leaves, start_of, zero_of}
-use Rattle.sp_lower_objects.specs.Regions.{all_regions}
+use Rattle.sp_lower_objects.specs.Regions.{all_regions, most_regions}
 use Rattle.sp_lower.specs.Programs.{program_context}
 use Rattle.sp_check_typing.specs.Programs.{IsTypedProgram, HasStaticStart, sees, scene_of}
 use Rattle.sp_check_typing.specs.Statements.{is_lasting}
@@ -34,7 +34,8 @@ use Rattle.sp_lower_starts_laws.proofs.Objects.{initial_here, start_good, automa
 use Rattle.sp_lower_starts_laws.proofs.Constants.{start_value_good}
 use Rattle.sp_lower_starts_laws.proofs.Unread.{start_value_reads}
 
-module _ (p : Program) (names : List (List ℕ)) (site : ℕ) (os : List Object) (h : IsTypedProgram p) (lowered : ObjectsStand p.objects os) where
+module _ (p : Program) (names : List (List ℕ)) (site : ℕ) (os : List Object) (h : IsTypedProgram p) (lowered : ObjectsStand p.objects os)
+    (few : length (all_regions p.structs 0 os) ≤ most_regions) where
   abbrev c : Context
   c = program_context p names site
 
@@ -55,8 +56,8 @@ module _ (p : Program) (names : List (List ℕ)) (site : ℕ) (os : List Object)
         → IsStart (table c os) (all_regions p.structs 0 os) None n o.of (start_leaves c (known_initial (slice_get is n)).cells 0 o.start) (known_initial (slice_get is n)).zero
     static_start s =
         subst (λ (i : Initial). IsStart (table c os) (all_regions p.structs 0 os) None n o.of (start_leaves c i.cells 0 o.start) (known_initial (slice_get is n)).zero)
-        (sym (initial_here c os lowered h.structs h.members n o there s.sized))
-        (start_good c os lowered h.structs h.members n o there s.sized (sees p.objects []) None _ s.known.values
+        (sym (initial_here c os lowered h.structs h.members few n o there s.sized))
+        (start_good c os lowered h.structs h.members few n o there s.sized (sees p.objects []) None _ s.known.values
         (static_filled c os (layout_of p.structs o.of) (root_from p.structs 0 p.objects n) o.start (values_good s)))
 
     stored_start : (s : Storage) → starts (kind_of_storage s) ≡ true → HasStaticStart p o s
@@ -96,9 +97,9 @@ module _ (p : Program) (names : List (List ℕ)) (site : ℕ) (os : List Object)
       → IsStart (table c os) (all_regions p.structs 0 os) (Some k) n o.of ls (known_initial (slice_get is n)).zero
   automatic_start k from v n o there big values ls are =
       let d : Context = record c { function = k; first_temporary = from } in
-      start_good d os lowered h.structs h.members n o there big v (Some k) ls values
+      start_good d os lowered h.structs h.members few n o there big v (Some k) ls values
       (automatic_filled d os (layout_of p.structs o.of) (root_from p.structs 0 p.objects n) o.start ls
-      (subst (λ (i : Initial). AreLeavesOf d os i.cells o.start ls) (initial_here c os lowered h.structs h.members n o there big) are))
+      (subst (λ (i : Initial). AreLeavesOf d os i.cells o.start ls) (initial_here c os lowered h.structs h.members few n o there big) are))
 
 automatic_local : (s : Storage) → is_automatic s ≡ true → is_lasting s ≡ false
 automatic_local storage.Auto h = refl
@@ -108,8 +109,8 @@ automatic_local storage.Outside h = false_true h
 automatic_local storage.Text h = false_true h
 
 pub starts_hold : StartsHold
-starts_hold p names site os h lowered fits = record {
-  static = λ n o there t. stored_start p names site os h lowered fits n o there o.storage t (h.objects n o there).start;
-  constant = λ n o there. stored_constant p names site os h lowered o (known_initial (slice_get (initials_from p.structs 0 p.objects) n)).cells o.storage (h.objects n o there).start;
-  automatic = λ k from v f n o there a values ls are. automatic_start p names site os h lowered k from v n o there ((h.objects n o there).sized (automatic_local o.storage a)) values ls are;
+starts_hold p names site os h lowered few fits = record {
+  static = λ n o there t. stored_start p names site os h lowered few fits n o there o.storage t (h.objects n o there).start;
+  constant = λ n o there. stored_constant p names site os h lowered few o (known_initial (slice_get (initials_from p.structs 0 p.objects) n)).cells o.storage (h.objects n o there).start;
+  automatic = λ k from v f n o there a values ls are. automatic_start p names site os h lowered few k from v n o there ((h.objects n o there).sized (automatic_local o.storage a)) values ls are;
 }

@@ -4,7 +4,8 @@
 //! `sp_lower_starts`) name no local object, so they are formed outside of all functions. An automatic
 //! object's leaves have the values that its block computes. In both each value goes to the cell of
 //! its leaf, which is kept as bytes or has elements of the leaf's type, and the cells with a leaf
-//! that has no value are the ones that the object's start lists (`IsStart` of `sp_ir`).
+//! that has no value are the ones that the object's start lists (`IsStart` of `sp_ir`). An object past
+//! the limit of regions has no cells, so the law is that of programs within it.
 //!
 //! So `static int *p = &a[2];` starts with the address of an element of `a` in the one cell of `p`.
 #![tactic(auto)]

@@ -184,13 +184,13 @@ same_number (Some n) c h = ap (λ x. Some x) (eqb-true n c h)
 pub reached_low : (p : Lowered) (q c : ℕ) → reaches p q c ≡ true → c < length p.regions
 reached_low p q c h = cell_low p c (parts (is_cell_at p.regions c) (option_eq nat_eq (descend p (Some q) (between p q c)) (Some c)) h).0
 
-pub all_groups : (p : Lowered) (formed : IsFormed p) (groups : List (List ℕ)) → length groups ≡ length p.objects → ((k : ℕ) → k < length p.regions → object_at p k < length groups → has k (row groups (object_at p k)) ≡ true)
+pub all_groups : (p : Lowered) (formed : IsFormed p) (groups : List (List ℕ)) → length groups ≡ length p.objects → ((k : ℕ) → k < length p.regions → is_cell_at p.regions k ≡ true → object_at p k < length groups → has k (row groups (object_at p k)) ≡ true)
     → (q c : ℕ) → reaches p q c ≡ true → has c (row groups (object_at p q)) ≡ true
 all_groups p formed groups long there q c h =
     let two = parts (is_cell_at p.regions c) (option_eq nat_eq (descend p (Some q) (between p q c)) (Some c)) h in
     let low = cell_low p c two.0 in
     let same = descend_object p q c (between p q c) (same_number (descend p (Some q) (between p q c)) c two.1) in
-    subst (λ o. has c (row groups o) ≡ true) same (there c low (by (slice_get p.regions c) refl low))
+    subst (λ o. has c (row groups o) ≡ true) same (there c low two.0 (by (slice_get p.regions c) refl low))
   where
     past : (rs : List Region) (n : ℕ) → n < length rs → slice_get rs n ≡ None → ⊥
     past [] n low e = omega (arith, low)

@@ -64,12 +64,14 @@ object_in (Some r) = r.object
 abbrev pub object_at : Lowered → ℕ → ℕ
 object_at p q = object_in (slice_get p.regions q)
 
--- the cells under a region are in the list of its object, which has regions of that object alone;
--- and just these regions have a leaf that is a pointer
+-- The list of an object has the cells of its regions: what is in it is a cell of that object, and all
+-- that is under one of its regions is in it. Just the pointers' regions have a leaf that is a pointer.
 pub record AreGroups (p : Lowered) (groups : Groups) : Type 0 where
   pub under : (q c : ℕ) → reaches p q c ≡ true
       → has c (row groups.objects.items (object_at p q)) ≡ true
   pub own : (o c : ℕ) → has c (row groups.objects.items o) ≡ true → object_at p c ≡ o
+  pub cells : (o c : ℕ) → has c (row groups.objects.items o) ≡ true
+      → is_cell_at p.regions c ≡ true
   pub pointers : (c : ℕ) → has c groups.pointers ≡ leaf_points p c
 
 -- ---- what a region is

@@ -2,6 +2,7 @@
 ghost use Rattle.std.specs.Prelude.{◌≡◌, ◌<◌, ◌⊎◌, ℕ, true, length, IfOk, OnOk};
 ghost use Rattle.sp_ir.specs.Programs.{lowered_of};
 ghost use Rattle.sp_ir.specs.Formed.{IsFormed};
+ghost use Rattle.sp_ir.specs.Regions.{is_cell_at};
 ghost use Rattle.sp_base_sets.specs.Sets.{has};
 ghost use Rattle.sp_base_sets.specs.Reached.{row};
 ghost use Rattle.sp_points_rules.specs.Paths.{object_at, reaches, AreGroups};
@@ -12,7 +13,7 @@ use sp_base_sets::NumberSet;
 use sp_ir::Lowered;
 use std::alloc::{AllocError, Global};
 
-/// The regions of each object, and those with a leaf that is a pointer.
+/// The cells of each object, and the regions with a leaf that is a pointer.
 #[derive(Drop)]
 pub struct Groups {
     pub objects: Vec<NumberSet>,
@@ -34,17 +35,21 @@ fn add_to(groups: &mut Vec<NumberSet>, object: u32, region: u32) -> Result<(), A
     Ok(())
 }
 
-/// For each object the set of its regions.
+/// For each object the set of its cells.
 fn by_object(alloc: Global, lowered: &Lowered) -> Result<Vec<NumberSet>, AllocError>
     requires { IsFormed (lowered_of lowered.now) }
     ensures under { IfOk result (λ groups. (q c : ℕ) → reaches (lowered_of lowered.now) q c ≡ true
         → has c (row groups.items (object_at (lowered_of lowered.now) q)) ≡ true) }
     ensures own { IfOk result (λ groups. (o c : ℕ) → has c (row groups.items o) ≡ true
         → object_at (lowered_of lowered.now) c ≡ o) }
+    ensures cells { IfOk result (λ groups. (o c : ℕ) → has c (row groups.items o) ≡ true
+        → is_cell_at (lowered_of lowered.now).regions c ≡ true) }
 {
     let mut groups = NumberSet::empty_sets(alloc, lowered.objects.len())?;
     for region in 0..lowered.regions.len() as u32 {
-        add_to(&mut groups, object_at(lowered, region), region)?;
+        if lowered.regions.is_cell(region) {
+            add_to(&mut groups, object_at(lowered, region), region)?;
+        }
     }
     Ok(groups)
 }

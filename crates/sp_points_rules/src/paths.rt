@@ -115,7 +115,7 @@ pub fn object_at(lowered: &Lowered, region: u32) -> u32
     }
 }
 
-/// What may be under a region: all of its object.
+/// What may be under a region: the cells of its object.
 pub fn under<'a>(lowered: &Lowered, groups: &'a Groups, region: u32) -> &'a [u32]
     ensures { result.now ≡
         row groups.now.objects.items (object_at (lowered_of lowered.now) region) }

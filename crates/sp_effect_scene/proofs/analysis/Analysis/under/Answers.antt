@@ -9,3 +9,6 @@ returns-clause-under c = λ k h. ap (has k) c.under.ensures ∙ c.args.self.now.
 
 pub returns-clause-own : goal.returns-clause-own
 returns-clause-own c = λ k h. c.args.self.now.grouped.own (object_at (lowered_of c.args.self.now.lowered) c.args.region) k (ap (has k) (sym c.under.ensures) ∙ h)
+
+pub returns-clause-cells : goal.returns-clause-cells
+returns-clause-cells c = λ k h. c.args.self.now.grouped.cells (object_at (lowered_of c.args.self.now.lowered) c.args.region) k (ap (has k) (sym c.under.ensures) ∙ h)
