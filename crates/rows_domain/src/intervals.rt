@@ -6,7 +6,7 @@ ghost use Rattle.sp_interval.specs.Interval.{IsFormed};
 
 use crate::fields::{self, field};
 use sp_interval::Interval;
-use sp_lattice::{Ladder, Lattice, Range};
+use sp_lattice::{Ladder, Lattice, MOST_CONSTANTS, Range};
 use std::alloc::{AllocError, Global};
 
 // The call of this name.
@@ -144,7 +144,7 @@ fn answer_one(
             None => Ok(None),
         },
         "snap" => {
-            let ladder = Ladder::new(alloc, &fields::constants(alloc, operator)?)?;
+            let ladder = Ladder::new(alloc, &fields::constants(alloc, operator)?, MOST_CONSTANTS)?;
             Ok(Some(fields::show(alloc, interval.snap(&ladder))?))
         }
         _ => Ok(None),

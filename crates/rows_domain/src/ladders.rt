@@ -1,7 +1,7 @@
 //! Rows on the ladder: `ladder CONSTANTS down V`, `ladder CONSTANTS up V`, `ladder CONSTANTS
 //! points`.
 use crate::fields;
-use sp_lattice::{HIGHEST, LOWEST, Ladder};
+use sp_lattice::{HIGHEST, LOWEST, Ladder, MOST_CONSTANTS};
 use std::alloc::{AllocError, Global};
 
 // Where the ladder moves the number, down or up; none where it is out of the ladder's bounds.
@@ -36,7 +36,7 @@ pub(crate) fn answer(
     way: &str,
     number: &str,
 ) -> Result<Option<String>, AllocError> {
-    let ladder = Ladder::new(alloc, &fields::constants(alloc, constants)?)?;
+    let ladder = Ladder::new(alloc, &fields::constants(alloc, constants)?, MOST_CONSTANTS)?;
     if way == "points" {
         return Ok(Some(points(alloc, &ladder)?));
     }

@@ -6,7 +6,7 @@ ghost use Rattle.sp_interval.specs.Interval.{IsFormed};
 
 use crate::fields::{self, field};
 use sp_interval::Interval;
-use sp_lattice::Ladder;
+use sp_lattice::{Ladder, MOST_CONSTANTS};
 use sp_octagon::{Kept, Octagon};
 use std::alloc::{AllocError, Global};
 
@@ -167,7 +167,7 @@ impl Pair {
 
     // `snap CONSTANTS`
     fn snap(&mut self, alloc: Global, constants: &str) -> Result<(), AllocError> {
-        let ladder = Ladder::new(alloc, &fields::constants(alloc, constants)?)?;
+        let ladder = Ladder::new(alloc, &fields::constants(alloc, constants)?, MOST_CONSTANTS)?;
         self.first.snap(&ladder);
         Ok(())
     }

@@ -106,6 +106,6 @@ pub fn answer_to<L: Ledger>(
         Ok(lowered) => lowered,
         Err(error) => return refused(alloc, &names, error),
     };
-    let program = CProgram::new(alloc, Analysis::new(alloc, lowered)?)?;
+    let program = CProgram::new(alloc, Analysis::new(alloc, lowered, false)?, false)?;
     answer_on(alloc, question, &program, steps)
 }

@@ -1,5 +1,5 @@
 -- What is found along calls backwards is what functions access.
-use Rattle.std.proofs.Common.{◌≡◌, ◌⊎◌, ◌↔◌, inl, inr, ℕ, zero, suc, ◌<◌, true, ◌&&◌, ◌||◌, List, [], ◌∷◌, length, Option, Some, None, refl, sym, ◌∙◌, subst, arith}
+use Rattle.std.proofs.Common.{◌≡◌, ◌⊎◌, ◌↔◌, inl, inr, ℕ, zero, suc, ◌<◌, Bool, true, ◌&&◌, ◌||◌, List, [], ◌∷◌, length, Option, Some, None, refl, sym, ◌∙◌, subst, arith}
 use Rattle.std.specs.Prelude.{slice_get}
 use Rattle.sp_ir.specs.Commands.{Node}
 use Rattle.sp_ir.specs.Programs.{Lowered}
@@ -47,18 +47,18 @@ node-low p n f h = by (slice_get p.nodes n) refl h
     by None e g = absurd (none-some g)
     by (Some node) e g = there-low p.nodes n node e
 
-module _ (a : Analysed) (ns : List ℕ) (accessed : AccessSets) (exact : (n : ℕ) → (has n ns ≡ true) ↔ InGraph a.program a.told.calls n) (found : AreAccessed a ns accessed) (l : ℕ) where
+module _ (a : Analysed) (sharp : Bool) (ns : List ℕ) (accessed : AccessSets) (exact : (n : ℕ) → (has n ns ≡ true) ↔ InGraph a.program a.told.calls n) (found : AreAccessed a sharp ns accessed) (l : ℕ) where
   -- ---- what is found is accessed
 
-  accessed-by : (f : ℕ) → Reached found.callers (row found.owners l) f → Accesses a f l
+  accessed-by : (f : ℕ) → Reached found.callers (row found.owners l) f → Accesses a sharp f l
   accessed-by f (start h) =
-      let one = any-found (λ n. (defined_at a n l || used_at a n l) && is_of a.program f n) ns (sym (found.touched l f) ∙ h) in
+      let one = any-found (λ n. (defined_at a sharp n l || used_at a n l) && is_of a.program f n) ns (sym (found.touched l f) ∙ h) in
       record {
         node = one.0;
         owner = f;
-        inside = function-is a.program f one.0 (second-true (defined_at a one.0 l || used_at a one.0 l) (is_of a.program f one.0) one.2);
+        inside = function-is a.program f one.0 (second-true (defined_at a sharp one.0 l || used_at a one.0 l) (is_of a.program f one.0) one.2);
         led_to = inl refl;
-        touches = first-true (defined_at a one.0 l || used_at a one.0 l) (is_of a.program f one.0) one.2;
+        touches = first-true (defined_at a sharp one.0 l || used_at a one.0 l) (is_of a.program f one.0) one.2;
       }
   accessed-by f (further {mid} r h) =
       let one = any-found (λ n. has mid (row a.told.calls n) && is_of a.program f n) ns (sym (found.called mid f) ∙ h) in
@@ -87,16 +87,16 @@ module _ (a : Analysed) (ns : List ℕ) (accessed : AccessSets) (exact : (n : �
   all-back f reached g (direct c) r = back f g reached c r
   all-back f reached g (onward {mid} s c) r = all-back f reached mid s (back mid g (reached-then a.program a.told.calls f mid reached s) c r)
 
-  found-for : (f : ℕ) → IsReached a.program a.told.calls f → Accesses a f l → Reached found.callers (row found.owners l) f
+  found-for : (f : ℕ) → IsReached a.program a.told.calls f → Accesses a sharp f l → Reached found.callers (row found.owners l) f
   found-for f reached h = by h.led_to
     where
       own : IsReached a.program a.told.calls h.owner → Reached found.callers (row found.owners l) h.owner
-      own r = start (found.touched l h.owner ∙ found-any (λ n. (defined_at a n l || used_at a n l) && is_of a.program h.owner n) ns h.node (listed h.node h.owner h.inside r)
-          (both-true (defined_at a h.node l || used_at a h.node l) (is_of a.program h.owner h.node) h.touches (of-function a.program h.owner h.node h.inside)))
+      own r = start (found.touched l h.owner ∙ found-any (λ n. (defined_at a sharp n l || used_at a n l) && is_of a.program h.owner n) ns h.node (listed h.node h.owner h.inside r)
+          (both-true (defined_at a sharp h.node l || used_at a h.node l) (is_of a.program h.owner h.node) h.touches (of-function a.program h.owner h.node h.inside)))
 
       by : (h.owner ≡ f) ⊎ Leads a.program a.told.calls f h.owner → Reached found.callers (row found.owners l) f
       by (inl e) = subst (λ g. Reached found.callers (row found.owners l) g) e (own (subst (IsReached a.program a.told.calls) (sym e) reached))
       by (inr leads) = all-back f reached h.owner leads (own (reached-then a.program a.told.calls f h.owner reached leads))
 
-  pub accessed-is : (f : ℕ) → IsReached a.program a.told.calls f → (accesses accessed f l ≡ true) ↔ Accesses a f l
+  pub accessed-is : (f : ℕ) → IsReached a.program a.told.calls f → (accesses accessed f l ≡ true) ↔ Accesses a sharp f l
   accessed-is f reached = (λ h. accessed-by f ((found.found f l).0 h), λ h. (found.found f l).1 (found-for f reached h))

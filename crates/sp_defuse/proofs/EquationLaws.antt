@@ -1,5 +1,5 @@
 -- What is kept stands for the equations of the program.
-use Rattle.std.proofs.Common.{◌≡◌, ◌↔◌, ℕ, ◌<◌, ◌^◌, Bool, true, false, List, [], length, map, get_or, sym, ap, ◌∙◌, subst, arith}
+use Rattle.std.proofs.Common.{◌≡◌, ◌↔◌, ℕ, ◌<◌, ◌^◌, Bool, true, false, List, [], Option, Some, None, length, map, get_or, sym, ap, ◌∙◌, subst, arith}
 use Rattle.std.specs.List.Sorted.{IsStrictlyIncreasing}
 use Rattle.std.proofs.Props.{props}
 use Rattle.std.proofs.Math.Logic.{∥∥₁_elim}
@@ -14,6 +14,8 @@ use Rattle.sp_effect_scene.specs.Whole.{IsAnalysed}
 use Rattle.sp_effect_scene.specs.Analysed.{Analysed, setting_of}
 use Rattle.sp_transfer.specs.Effects.{defined_at, used_at}
 use Rattle.sp_transfer.specs.Equations.{number_of, passes_between, AreLocations, AreEquations}
+use Rattle.sp_transfer.specs.Parts.{AreCuts}
+use Rattle.sp_transfer.specs.declared.effects.Cuts.{Cuts}
 use Rattle.sp_defuse.specs.declared.nodes.Node.{Node}
 use Rattle.sp_defuse.specs.declared.sources.Sources.{Sources}
 use Rattle.sp_defuse.specs.Nodes.{IsNode, AreNodes}
@@ -26,13 +28,13 @@ use Rattle.sp_defuse.proofs.Accessing.{accessed-is}
 -- ---- the equations
 
 -- a graph with the nodes of the supergraph, and what functions access in it
-pub record IsLocalised (a : Analysed) (flow g : Graph) : Type 0 where
+pub record IsLocalised (a : Analysed) (sharp : Bool) (flow g : Graph) : Type 0 where
   pub graph : IsSupergraph a.program a.told.calls true g
   pub nodes : g.nodes ≡ flow.nodes
   pub calls : g.calls ≡ a.told.calls
-  pub found : AreAccessed a flow.nodes g.accessed
+  pub found : AreAccessed a sharp flow.nodes g.accessed
 
-module _ (a : Analysed) (flow g : Graph) (local : IsLocalised a flow g) (xs : List Node) (ss : List Sources) (are : AreNodes a flow.nodes xs) (lead : AreSources g g.nodes ss) where
+module _ (a : Analysed) (sharp : Bool) (flow g : Graph) (local : IsLocalised a sharp flow g) (xs : List Node) (ss : List Sources) (are : AreNodes a sharp flow.nodes xs) (lead : AreSources g g.nodes ss) where
   in-graph : (n : ℕ) → (has n flow.nodes ≡ true) ↔ InGraph a.program a.told.calls n
   in-graph n = subst (λ ns. (has n ns ≡ true) ↔ InGraph a.program a.told.calls n) local.nodes (local.graph.nodes n)
 
@@ -42,21 +44,21 @@ module _ (a : Analysed) (flow g : Graph) (local : IsLocalised a flow g) (xs : Li
   number : (k : ℕ) → get_or flow.nodes k 0 ≡ get_or g.nodes k 0
   number k = sym (ap (λ ns. get_or ns k 0) local.nodes)
 
-  are-locations : (test : ℕ → ℕ → Bool) (items : Node → List ℕ) → ((n : ℕ) (x : Node) → IsNode a n x → AreLocations a (test n) (items x)) → (k : ℕ) → k < length g.nodes → AreLocations a (test (get_or g.nodes k 0)) (row (map items xs) k)
+  are-locations : (test : ℕ → ℕ → Bool) (items : Node → List ℕ) → ((n : ℕ) (x : Node) → IsNode a sharp n x → AreLocations a (test n) (items x)) → (k : ℕ) → k < length g.nodes → AreLocations a (test (get_or g.nodes k 0)) (row (map items xs) k)
   are-locations test items of k low =
-      let here = each-get (IsNode a) flow.nodes xs k (omega (arith, low, long)) are in
+      let here = each-get (IsNode a sharp) flow.nodes xs k (omega (arith, low, long)) are in
       subst (λ n. AreLocations a (test n) (row (map items xs) k)) (number k)
       (subst (AreLocations a (test (get_or flow.nodes k 0))) (sym (here.2 items)) (of (get_or flow.nodes k 0) here.0 here.1))
 
-  are-equations : AreEquations (equations_of a g xs ss)
+  are-equations : AreEquations (equations_of a sharp g xs ss)
   are-equations = record {
     supergraph = local.graph;
     calls = local.calls;
-    accessed = λ f l reached. accessed-is a flow.nodes g.accessed in-graph local.found l f reached;
+    accessed = λ f l reached. accessed-is a sharp flow.nodes g.accessed in-graph local.found l f reached;
     into = λ j k low.
         let here = each-get (IsSources g) g.nodes ss k low lead in
         ap (has j) (here.2 (λ (s : Sources). s.places)) ∙ here.1.places j;
-    defs = are-locations (defined_at a) (λ (x : Node). x.defs.items) (λ n x is. is.defs);
+    defs = are-locations (defined_at a sharp) (λ (x : Node). x.defs.items) (λ n x is. is.defs);
     uses = are-locations (used_at a) (λ (x : Node). x.uses.items) (λ n x is. is.uses);
   }
 
@@ -89,47 +91,61 @@ module _ (a : Analysed) (flow : Graph) (graph : ∥ IsSupergraph a.program a.tol
           let most = ascending-few flow.nodes (length a.told.calls) nodes-rise (nodes-low whole) in
           omega (arith, most, w.callees.long, w.formed.few_nodes)
 
-  pub equations-known : (g : Graph) (xs : List Node) (ss : List Sources) → (IsSupergraph a.program a.told.calls false flow → IsSupergraph a.program a.told.calls true g) → g.nodes ≡ flow.nodes → g.calls ≡ a.told.calls
-      → AreAccessed a flow.nodes g.accessed → AreNodes a flow.nodes xs → AreSources g g.nodes ss → ∥ AreEquations (equations_of a g xs ss) ∥₁
-  equations-known g xs ss localised nodes calls found are lead =
-      ∥∥₁_elim graph (hlevel props) (λ is. ∣ are-equations a flow g (record { graph = localised is; nodes = nodes; calls = calls; found = found }) xs ss are lead ∣₁)
+  pub equations-known : (sharp : Bool) (g : Graph) (xs : List Node) (ss : List Sources) → (IsSupergraph a.program a.told.calls false flow → IsSupergraph a.program a.told.calls true g) → g.nodes ≡ flow.nodes → g.calls ≡ a.told.calls
+      → AreAccessed a sharp flow.nodes g.accessed → AreNodes a sharp flow.nodes xs → AreSources g g.nodes ss → ∥ AreEquations (equations_of a sharp g xs ss) ∥₁
+  equations-known sharp g xs ss localised nodes calls found are lead =
+      ∥∥₁_elim graph (hlevel props) (λ is. ∣ are-equations a sharp flow g (record { graph = localised is; nodes = nodes; calls = calls; found = found }) xs ss are lead ∣₁)
 
-pub numbers-are : (a : Analysed) (ns : List ℕ) (xs : List Node) → AreNodes a ns xs → map (λ (x : Node). x.number) xs ≡ ns
-numbers-are a ns xs are = each-map (IsNode a) (λ (x : Node). x.number) (λ n x is. is.number) ns xs are
+pub numbers-are : (a : Analysed) (sharp : Bool) (ns : List ℕ) (xs : List Node) → AreNodes a sharp ns xs → map (λ (x : Node). x.number) xs ≡ ns
+numbers-are a sharp ns xs are = each-map (IsNode a sharp) (λ (x : Node). x.number) (λ n x is. is.number) ns xs are
 
 -- what is known of the node at a place
-module _ (a : Analysed) (g : Graph) (xs : List Node) (ss : List Sources) (k : ℕ) (there : k < length g.nodes) where
+module _ (a : Analysed) (sharp : Bool) (g : Graph) (xs : List Node) (ss : List Sources) (k : ℕ) (there : k < length g.nodes) where
   pub node-low : map (λ (x : Node). x.number) xs ≡ g.nodes → k < length xs
   node-low numbers = omega (arith, there, ap length numbers, length-map xs (λ (x : Node). x.number))
 
   module _ (numbers : map (λ (x : Node). x.number) xs ≡ g.nodes) (x : Node) (is : x ≡ get_or xs k x) where
-    pub number-kept : number_of (equations_of a g xs ss) k ≡ x.number
+    pub number-kept : number_of (equations_of a sharp g xs ss) k ≡ x.number
     number-kept = sym (ap (λ ns. get_or ns k 0) numbers) ∙ get_or-map (λ (y : Node). y.number) xs k x 0 (node-low numbers) ∙ ap (λ (y : Node). y.number) (sym is)
 
-    pub defs-kept : row (equations_of a g xs ss).defs k ≡ x.defs.items
+    pub defs-kept : row (equations_of a sharp g xs ss).defs k ≡ x.defs.items
     defs-kept = get_or-map (λ (y : Node). y.defs.items) xs k x [] (node-low numbers) ∙ ap (λ (y : Node). y.defs.items) (sym is)
 
-    pub uses-kept : row (equations_of a g xs ss).uses k ≡ x.uses.items
+    pub uses-kept : row (equations_of a sharp g xs ss).uses k ≡ x.uses.items
     uses-kept = get_or-map (λ (y : Node). y.uses.items) xs k x [] (node-low numbers) ∙ ap (λ (y : Node). y.uses.items) (sym is)
 
-    locations-at : AreEquations (equations_of a g xs ss) → AreLocations a (defined_at a x.number) x.defs.items
-    locations-at are = subst (AreLocations a (defined_at a x.number)) defs-kept (subst (λ n. AreLocations a (defined_at a n) (row (equations_of a g xs ss).defs k)) number-kept (are.defs k there))
+    locations-at : AreEquations (equations_of a sharp g xs ss) → AreLocations a (defined_at a sharp x.number) x.defs.items
+    locations-at are = subst (AreLocations a (defined_at a sharp x.number)) defs-kept (subst (λ n. AreLocations a (defined_at a sharp n) (row (equations_of a sharp g xs ss).defs k)) number-kept (are.defs k there))
 
-    used-there : AreEquations (equations_of a g xs ss) → AreLocations a (used_at a x.number) x.uses.items
-    used-there are = subst (AreLocations a (used_at a x.number)) uses-kept (subst (λ n. AreLocations a (used_at a n) (row (equations_of a g xs ss).uses k)) number-kept (are.uses k there))
+    used-there : AreEquations (equations_of a sharp g xs ss) → AreLocations a (used_at a x.number) x.uses.items
+    used-there are = subst (AreLocations a (used_at a x.number)) uses-kept (subst (λ n. AreLocations a (used_at a n) (row (equations_of a sharp g xs ss).uses k)) number-kept (are.uses k there))
 
-    module _ (are : ∥ AreEquations (equations_of a g xs ss) ∥₁) where
+    module _ (are : ∥ AreEquations (equations_of a sharp g xs ss) ∥₁) where
       pub defs-rise : IsStrictlyIncreasing x.defs.items
       defs-rise = ∥∥₁_elim are (hlevel props) (λ h. (locations-at h).ascend)
 
       pub defs-low : AllBelow (count (setting_of a)) x.defs.items
       defs-low = ∥∥₁_elim are (hlevel props) (λ h. (locations-at h).below)
 
-      pub defs-are : (l : ℕ) → has l x.defs.items ≡ defined_at a x.number l
+      pub defs-are : (l : ℕ) → has l x.defs.items ≡ defined_at a sharp x.number l
       defs-are = ∥∥₁_elim are (hlevel props) (λ h. (locations-at h).are)
 
       pub uses-rise : IsStrictlyIncreasing x.uses.items
       uses-rise = ∥∥₁_elim are (hlevel props) (λ h. (used-there h).ascend)
+
+-- ---- cuts
+
+cuts-prop : (a : Analysed) (sharp : Bool) (n : ℕ) (cuts : Option Cuts) → IsProp (AreCuts a sharp n cuts)
+cuts-prop a sharp n None = hlevel props
+cuts-prop a sharp n (Some cuts) = hlevel props
+
+cuts-there : (a : Analysed) (sharp : Bool) (ns : List ℕ) (xs : List Node) (k : ℕ) (x : Node) → k < length ns → x ≡ get_or xs k x → AreNodes a sharp ns xs → AreCuts a sharp x.number x.cuts
+cuts-there a sharp ns xs k x low is are =
+    let node : IsNode a sharp (get_or ns k 0) x = subst (IsNode a sharp (get_or ns k 0)) (sym is) (each-at (IsNode a sharp) ns xs k 0 x low are) in
+    subst (λ n. AreCuts a sharp n x.cuts) (sym node.number) node.cuts
+
+pub cuts-known : (a : Analysed) (sharp : Bool) (ns : List ℕ) (xs : List Node) (k : ℕ) (x : Node) → k < length ns → x ≡ get_or xs k x → ∥ AreNodes a sharp ns xs ∥₁ → AreCuts a sharp x.number x.cuts
+cuts-known a sharp ns xs k x low is made = ∥∥₁_elim made (cuts-prop a sharp x.number x.cuts) (λ are. cuts-there a sharp ns xs k x low is are)
 
 -- what is known of the sources at a place
 pub places-kept : (ss : List Sources) (k : ℕ) (s : Sources) → k < length ss → s ≡ get_or ss k s → s.places ≡ row (map (λ (t : Sources). t.places) ss) k

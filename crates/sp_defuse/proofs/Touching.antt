@@ -60,36 +60,36 @@ module _ (a : Analysed) (ns : List ℕ) where
       (λ r f. ap (λ (xs : List ℕ). has r xs && option_eq nat_eq (Some f) function) rows_are ∙ ap (λ (o : Option ℕ). has r (row a.told.calls (get_or ns i 0)) && option_eq nat_eq (Some f) o) function_is))
       (λ g f. list_any_more (λ n. has g (row a.told.calls n) && is_of a.program f n) ns i 0 low)
 
-  pub touched-more : (i : ℕ) (node : Node) (none b0 b1 b2 : List (List ℕ)) (defs uses : List ℕ) (function : Option ℕ) → i < length ns → IsNode a (get_or ns i 0) node → defs ≡ node.defs.items → uses ≡ node.uses.items → function ≡ function_of a.program node.number
-      → AddsTo (is_touched a (take i ns)) none b0 → AddsTo (λ r f. has r defs && option_eq nat_eq (Some f) function) b0 b1 → AddsTo (λ r f. has r uses && option_eq nat_eq (Some f) function) b1 b2 → AddsTo (is_touched a (take (i + 1) ns)) none b2
-  touched-more i node none b0 b1 b2 defs uses function low is defs_are uses_are function_is first second third =
-      adds-then mid (by used_at) (is_touched a (take (i + 1) ns)) none b1 b2
-      (adds-then (is_touched a (take i ns)) (by defined_at) mid none b0 b1 first (adds-same (λ r f. has r defs && option_eq nat_eq (Some f) function) (by defined_at) b0 b1 second (λ l f. same defined_at defs node.defs.items defs_are is.defs l f)) (λ l f. refl))
-      (adds-same (λ r f. has r uses && option_eq nat_eq (Some f) function) (by used_at) b1 b2 third (λ l f. same used_at uses node.uses.items uses_are is.uses l f))
-      (λ l f. list_any_more (λ n. (defined_at a n l || used_at a n l) && is_of a.program f n) ns i 0 low
-      ∙ ap (λ b. is_touched a (take i ns) l f || b) (and-or (defined_at a (get_or ns i 0) l) (used_at a (get_or ns i 0) l) (is_of a.program f (get_or ns i 0)))
-      ∙ or-regroup (is_touched a (take i ns) l f) (by defined_at l f) (by used_at l f))
+  pub touched-more : (sharp : Bool) (i : ℕ) (node : Node) (none b0 b1 b2 : List (List ℕ)) (defs uses : List ℕ) (function : Option ℕ) → i < length ns → IsNode a sharp (get_or ns i 0) node → defs ≡ node.defs.items → uses ≡ node.uses.items → function ≡ function_of a.program node.number
+      → AddsTo (is_touched a sharp (take i ns)) none b0 → AddsTo (λ r f. has r defs && option_eq nat_eq (Some f) function) b0 b1 → AddsTo (λ r f. has r uses && option_eq nat_eq (Some f) function) b1 b2 → AddsTo (is_touched a sharp (take (i + 1) ns)) none b2
+  touched-more sharp i node none b0 b1 b2 defs uses function low is defs_are uses_are function_is first second third =
+      adds-then mid (by (used_at a)) (is_touched a sharp (take (i + 1) ns)) none b1 b2
+      (adds-then (is_touched a sharp (take i ns)) (by (defined_at a sharp)) mid none b0 b1 first (adds-same (λ r f. has r defs && option_eq nat_eq (Some f) function) (by (defined_at a sharp)) b0 b1 second (λ l f. same (defined_at a sharp) defs node.defs.items defs_are is.defs l f)) (λ l f. refl))
+      (adds-same (λ r f. has r uses && option_eq nat_eq (Some f) function) (by (used_at a)) b1 b2 third (λ l f. same (used_at a) uses node.uses.items uses_are is.uses l f))
+      (λ l f. list_any_more (λ n. (defined_at a sharp n l || used_at a n l) && is_of a.program f n) ns i 0 low
+      ∙ ap (λ b. is_touched a sharp (take i ns) l f || b) (and-or (defined_at a sharp (get_or ns i 0) l) (used_at a (get_or ns i 0) l) (is_of a.program f (get_or ns i 0)))
+      ∙ or-regroup (is_touched a sharp (take i ns) l f) (by (defined_at a sharp) l f) (by (used_at a) l f))
     where
-      by : (Analysed → ℕ → ℕ → Bool) → ℕ → ℕ → Bool
-      by test l f = test a (get_or ns i 0) l && is_of a.program f (get_or ns i 0)
+      by : (ℕ → ℕ → Bool) → ℕ → ℕ → Bool
+      by test l f = test (get_or ns i 0) l && is_of a.program f (get_or ns i 0)
 
       mid : ℕ → ℕ → Bool
-      mid l f = is_touched a (take i ns) l f || (defined_at a (get_or ns i 0) l && is_of a.program f (get_or ns i 0))
+      mid l f = is_touched a sharp (take i ns) l f || (defined_at a sharp (get_or ns i 0) l && is_of a.program f (get_or ns i 0))
 
       here : function ≡ function_of a.program (get_or ns i 0)
       here = function_is ∙ ap (function_of a.program) is.number
 
-      same : (test : Analysed → ℕ → ℕ → Bool) (ls items : List ℕ) → ls ≡ items → AreLocations a (test a (get_or ns i 0)) items → (l f : ℕ) → (has l ls && option_eq nat_eq (Some f) function) ≡ (test a (get_or ns i 0) l && is_of a.program f (get_or ns i 0))
+      same : (test : ℕ → ℕ → Bool) (ls items : List ℕ) → ls ≡ items → AreLocations a (test (get_or ns i 0)) items → (l f : ℕ) → (has l ls && option_eq nat_eq (Some f) function) ≡ (test (get_or ns i 0) l && is_of a.program f (get_or ns i 0))
       same test ls items are locations l f =
           ap (λ b. b && option_eq nat_eq (Some f) function) (ap (has l) are ∙ locations.are l)
-          ∙ ap (λ (o : Option ℕ). test a (get_or ns i 0) l && option_eq nat_eq (Some f) o) here
+          ∙ ap (λ (o : Option ℕ). test (get_or ns i 0) l && option_eq nat_eq (Some f) o) here
 
   -- ---- what is there
 
-  pub node-here : (nodes : List Node) (i : ℕ) (node : Node) → AreNodes a ns nodes → i < length nodes → node ≡ get_or nodes i node → (i < length ns) × IsNode a (get_or ns i 0) node
-  node-here nodes i node are low is =
-      let low' : i < length ns = omega (arith, low, each-long (IsNode a) ns nodes are) in
-      (low', subst (IsNode a (get_or ns i 0)) (sym is) (each-at (IsNode a) ns nodes i 0 node low' are))
+  pub node-here : (sharp : Bool) (nodes : List Node) (i : ℕ) (node : Node) → AreNodes a sharp ns nodes → i < length nodes → node ≡ get_or nodes i node → (i < length ns) × IsNode a sharp (get_or ns i 0) node
+  node-here sharp nodes i node are low is =
+      let low' : i < length ns = omega (arith, low, each-long (IsNode a sharp) ns nodes are) in
+      (low', subst (IsNode a sharp (get_or ns i 0)) (sym is) (each-at (IsNode a sharp) ns nodes i 0 node low' are))
 
   pub location-low : (test : ℕ → Bool) (ls items : List ℕ) (n l : ℕ) → ls ≡ items → AreLocations a test items → n ≡ count (setting_of a) → has l ls ≡ true → l < n
   location-low test ls items n l are locations many h = subst (λ m. l < m) (sym many) (low-member (count (setting_of a)) items l locations.below (sym (ap (has l) are) ∙ h))
@@ -100,10 +100,10 @@ module _ (a : Analysed) (ns : List ℕ) where
     owner-low : (n f : ℕ) → is_of a.program f n ≡ true → f < length a.program.functions
     owner-low n f h = ∥∥₁_elim whole (hlevel props) (λ w. function-low a.program w.formed n f (function-is a.program f n h))
 
-    pub touched-low : (l f : ℕ) → is_touched a ns l f ≡ true → f < length a.program.functions
-    touched-low l f h =
-        let found = any-found (λ n. (defined_at a n l || used_at a n l) && is_of a.program f n) ns h in
-        owner-low found.0 f (second-true (defined_at a found.0 l || used_at a found.0 l) (is_of a.program f found.0) found.2)
+    pub touched-low : (sharp : Bool) (l f : ℕ) → is_touched a sharp ns l f ≡ true → f < length a.program.functions
+    touched-low sharp l f h =
+        let found = any-found (λ n. (defined_at a sharp n l || used_at a n l) && is_of a.program f n) ns h in
+        owner-low found.0 f (second-true (defined_at a sharp found.0 l || used_at a found.0 l) (is_of a.program f found.0) found.2)
 
     pub called-low : (g f : ℕ) → is_called a ns g f ≡ true → f < length a.program.functions
     called-low g f h =

@@ -14,9 +14,9 @@ abbrev pub is_of : Lowered → ℕ → ℕ → Bool
 is_of p f n = option_eq nat_eq (Some f) (function_of p n)
 
 -- whether one of these nodes is of the function f, and defines or uses the location
-abbrev pub is_touched : Analysed → List ℕ → ℕ → ℕ → Bool
-is_touched a ns l f =
-    list_any (λ n. (defined_at a n l || used_at a n l) && is_of a.program f n) ns
+abbrev pub is_touched : Analysed → Bool → List ℕ → ℕ → ℕ → Bool
+is_touched a sharp ns l f =
+    list_any (λ n. (defined_at a sharp n l || used_at a n l) && is_of a.program f n) ns
 
 -- whether one of these nodes is of the function f, and calls the function g
 abbrev pub is_called : Analysed → List ℕ → ℕ → ℕ → Bool
@@ -29,9 +29,9 @@ pub record AddsTo (test : ℕ → ℕ → Bool) (old new : List (List ℕ)) : Ty
 
 -- a function accesses the locations for which calls lead from it to a function of which one of
 -- these nodes touches the location
-pub record AreAccessed (a : Analysed) (ns : List ℕ) (accessed : AccessSets) : Type 0 where
+pub record AreAccessed (a : Analysed) (sharp : Bool) (ns : List ℕ) (accessed : AccessSets) : Type 0 where
   pub callers : List (List ℕ)
   pub owners : List (List ℕ)
   pub called : (g f : ℕ) → has f (row callers g) ≡ is_called a ns g f
-  pub touched : (l f : ℕ) → has f (row owners l) ≡ is_touched a ns l f
+  pub touched : (l f : ℕ) → has f (row owners l) ≡ is_touched a sharp ns l f
   pub found : (f l : ℕ) → (accesses accessed f l ≡ true) ↔ Reached callers (row owners l) f

@@ -5,4 +5,4 @@ use Rattle.sp_defuse.specs.View.{equations_of}
 use Rattle.sp_defuse.specs.declared.programs.CProgram.{CProgram}
 
 abbrev pub equations_in : CProgram → Equations
-equations_in s = equations_of (analysed_of s.analysis) s.flow s.nodes.items s.sources.items
+equations_in s = equations_of (analysed_of s.analysis) s.sharp s.flow s.nodes.items s.sources.items

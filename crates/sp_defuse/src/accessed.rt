@@ -58,14 +58,16 @@ fn add_function(
 fn owners_of(
     alloc: Global,
     analysis: &Analysis,
+    sharp: bool,
     nodes: &[Node],
 ) -> Result<Vec<NumberSet>, AllocError>
-    requires { AreNodes (analysed_of analysis.now) analysis.now.flow.nodes nodes.now }
+    requires { AreNodes (analysed_of analysis.now) sharp analysis.now.flow.nodes nodes.now }
     ensures long { IfOk result (λ sets.
         length sets.items ≡ length (locations_of (lowered_of analysis.now.lowered))) }
     ensures touched { IfOk result (λ sets. (l f : ℕ) → has f (row sets.items l)
-        ≡ is_touched (analysed_of analysis.now) analysis.now.flow.nodes l f) }
+        ≡ is_touched (analysed_of analysis.now) sharp analysis.now.flow.nodes l f) }
 {
+    let _sharp = sharp;
     let mut sets = NumberSet::empty_sets(alloc, analysis.locations.cells.len())?;
     for node in nodes {
         let function = function_of(&analysis.lowered, node.number);
@@ -100,14 +102,15 @@ fn callers_of(
 pub(crate) fn accessed(
     alloc: Global,
     analysis: &Analysis,
+    sharp: bool,
     nodes: &[Node],
 ) -> Result<Accessed, AllocError>
-    requires { AreNodes (analysed_of analysis.now) analysis.now.flow.nodes nodes.now }
+    requires { AreNodes (analysed_of analysis.now) sharp analysis.now.flow.nodes nodes.now }
     ensures { IfOk result
-        (AreAccessed (analysed_of analysis.now) analysis.now.flow.nodes) }
+        (AreAccessed (analysed_of analysis.now) sharp analysis.now.flow.nodes) }
 {
     let callers = callers_of(alloc, analysis, analysis.flow.nodes())?;
-    let mut owners = owners_of(alloc, analysis, nodes)?;
+    let mut owners = owners_of(alloc, analysis, sharp, nodes)?;
     let stand_ins = stand_ins_of(alloc, &mut owners)?;
     let sets = spread_all(alloc, &callers, &owners)?;
     Ok(Accessed::new(stand_ins, sets))

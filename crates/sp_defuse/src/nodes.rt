@@ -7,6 +7,7 @@ ghost use Rattle.sp_defuse.specs.Nodes.{IsNode, AreNodes};
 use sp_base_sets::NumberSet;
 use sp_effect_scene::Analysis;
 use sp_effect_uses::{definitions, local_cells, uses};
+use sp_transfer::Cuts;
 use std::alloc::{AllocError, Global};
 
 /// A node of the supergraph.
@@ -16,6 +17,8 @@ pub struct Node {
     pub number: u32,
     /// The locations that it defines, ascending.
     pub defs: Vec<u32>,
+    /// Those by parts, where its accesses cut some.
+    pub cuts: Option<Cuts>,
     /// The locations that it uses, ascending.
     pub uses: Vec<u32>,
 }
@@ -25,25 +28,38 @@ fn node_at(
     alloc: Global,
     analysis: &Analysis,
     locals: &[NumberSet],
+    sharp: bool,
     number: u32,
 ) -> Result<Node, AllocError>
     requires { AreLocals (analysed_of analysis.now) locals.now }
-    ensures { IfOk result (IsNode (analysed_of analysis.now) number) }
+    ensures { IfOk result (IsNode (analysed_of analysis.now) sharp number) }
 {
-    let defs = definitions(alloc, analysis, locals, number)?;
-    let uses = uses(alloc, analysis, &defs, number)?;
-    Ok(Node { number, defs, uses })
+    let defined = definitions(alloc, analysis, locals, sharp, number)?;
+    let uses = match &defined.cuts {
+        Some(cuts) => uses(alloc, analysis, &cuts.own, number)?,
+        None => uses(alloc, analysis, &defined.places, number)?,
+    };
+    Ok(Node {
+        number,
+        defs: defined.places,
+        cuts: defined.cuts,
+        uses,
+    })
 }
 
 /// The nodes of the graph, in the order of their numbers.
-pub(crate) fn nodes_of(alloc: Global, analysis: &Analysis) -> Result<Vec<Node>, AllocError>
+pub(crate) fn nodes_of(
+    alloc: Global,
+    analysis: &Analysis,
+    sharp: bool,
+) -> Result<Vec<Node>, AllocError>
     ensures { IfOk result (λ nodes.
-        AreNodes (analysed_of analysis.now) analysis.now.flow.nodes nodes.items) }
+        AreNodes (analysed_of analysis.now) sharp analysis.now.flow.nodes nodes.items) }
 {
     let locals = local_cells(alloc, analysis)?;
     let mut nodes = Vec::new(alloc);
     for number in analysis.flow.nodes() {
-        nodes.push(node_at(alloc, analysis, &locals, *number)?)?;
+        nodes.push(node_at(alloc, analysis, &locals, sharp, *number)?)?;
     }
     Ok(nodes)
 }

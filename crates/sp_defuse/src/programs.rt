@@ -3,6 +3,7 @@ ghost use Rattle.std.specs.Prelude.{◌≡◌, ◌<◌, ◌^◌, length, map};
 ghost use Rattle.std.proofs.Props.{props};
 ghost use Rattle.sp_effect_scene.specs.View.{analysed_of};
 ghost use Rattle.sp_transfer.specs.Equations.{AreEquations};
+ghost use Rattle.sp_defuse.specs.Nodes.{AreNodes};
 ghost use Rattle.sp_defuse.specs.Sources.{AreSources};
 ghost use Rattle.sp_defuse.specs.View.{equations_of};
 ghost use Rattle.sp_defuse.specs.declared.nodes.Node.{Node};
@@ -14,7 +15,7 @@ use sp_effect_rows::GivenAt;
 use sp_effect_scene::Analysis;
 use sp_graph::{Flow, localise};
 use sp_lattice::{Steps, System};
-use sp_transfer::effect;
+use sp_transfer::{Definitions, effect};
 use sp_value::Slot;
 use std::alloc::{AllocError, Global};
 use std::sync::ledger::Ledger;
@@ -23,6 +24,7 @@ use std::sync::ledger::Ledger;
 #[derive(Drop)]
 pub struct CProgram {
     analysis: Analysis,
+    sharp: bool,
     flow: Flow,
     nodes: Vec<Node>,
     sources: Vec<Sources>,
@@ -31,20 +33,24 @@ pub struct CProgram {
     ghost numbers: { map (λ (x : Node). x.number) nodes.items ≡ flow.nodes } by { Prim.hlevel props },
     ghost long: { length sources.items ≡ length flow.nodes },
     ghost joined: { ∥ AreSources flow flow.nodes sources.items ∥₁ },
+    ghost made: { ∥ AreNodes (analysed_of analysis) sharp analysis.flow.nodes nodes.items ∥₁ },
     ghost equations: { ∥ AreEquations
-        (equations_of (analysed_of analysis) flow nodes.items sources.items) ∥₁ },
+        (equations_of (analysed_of analysis) sharp flow nodes.items sources.items) ∥₁ },
 }
 
 impl CProgram {
     ghost use Rattle.std.specs.Prelude.{◌≡◌, map, IfOk};
     ghost use Rattle.sp_effect_scene.specs.View.{analysed_of};
 
-    /// The system of an analysed program.
-    pub fn new(alloc: Global, analysis: Analysis) -> Result<CProgram, AllocError>
-        ensures { IfOk result (λ program. analysed_of program.analysis ≡ analysed_of analysis) }
+    /// The system of an analysed program. In the sharp mode a run goes on behind an access as its
+    /// check says.
+    pub fn new(alloc: Global, analysis: Analysis, sharp: bool) -> Result<CProgram, AllocError>
+        ensures program { IfOk result (λ program.
+            analysed_of program.analysis ≡ analysed_of analysis) }
+        ensures mode { IfOk result (λ program. program.sharp ≡ sharp) }
     {
-        let nodes = nodes_of(alloc, &analysis)?;
-        let accessed = accessed(alloc, &analysis, &nodes)?;
+        let nodes = nodes_of(alloc, &analysis, sharp)?;
+        let accessed = accessed(alloc, &analysis, sharp, &nodes)?;
         let flow = localise(
             alloc,
             &analysis.lowered,
@@ -55,6 +61,7 @@ impl CProgram {
         let sources = Sources::all(alloc, &flow)?;
         Ok(CProgram {
             analysis,
+            sharp,
             flow,
             nodes,
             sources,
@@ -126,13 +133,18 @@ impl System for CProgram {
     ) -> Result<(), AllocError> {
         let at = &self.nodes[node as usize];
         let view = GivenAt::new(at.uses.as_slice(), input);
+        let defined = Definitions {
+            places: at.defs.as_slice(),
+            cuts: &at.cuts,
+            sharp: self.sharp,
+        };
         effect(
             alloc,
             &self.analysis,
             at.number,
             &view,
             output,
-            at.defs.as_slice(),
+            &defined,
             steps,
         )?;
         Ok(())

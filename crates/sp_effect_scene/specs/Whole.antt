@@ -1,7 +1,7 @@
--- Which analyses are whole: a formed program, and of it what points-to tells, and its ladder.
-use Rattle.std.specs.Prelude.{◌≡◌, ◌↔◌, ◌≤◌, ℕ, true, false, length, slice_index_or}
+-- Which analyses are whole: a formed program, and of it what points-to tells, and a ladder.
+use Rattle.std.specs.Prelude.{◌≡◌, ◌↔◌, ◌≤◌, ℕ, Bool, true, false, cond, length, slice_index_or}
 use Rattle.std.specs.List.Sorted.{IsStrictlyIncreasing}
-use Rattle.sp_lattice.specs.Ladder.{IsLadder, IsLadderOf}
+use Rattle.sp_lattice.specs.Ladder.{IsLadder}
 use Rattle.sp_base_sets.specs.Reached.{row}
 use Rattle.sp_points_expr.specs.Tables.{IsLeastClosed}
 use Rattle.sp_ir.specs.Formed.{IsFormed}
@@ -9,6 +9,10 @@ use Rattle.sp_points_rules.specs.Puts.{rules_of}
 use Rattle.sp_graph.specs.Calls.{AreCallees, IsRecursive}
 use Rattle.sp_pre.specs.PointsTo.{AreCalls}
 use Rattle.sp_effect_scene.specs.Analysed.{Analysed}
+
+-- how many of a program's constants its ladder takes: in the sharp mode four times as many
+abbrev pub most_constants : Bool → ℕ
+most_constants sharp = cond sharp 1024 256
 
 pub record IsAnalysed (a : Analysed) : Type 0 where
   pub formed : IsFormed a.program
@@ -20,7 +24,6 @@ pub record IsAnalysed (a : Analysed) : Type 0 where
   pub callees : AreCallees a.program a.told.calls
   pub recursive : (f : ℕ) → (slice_index_or a.told.recursive f false ≡ true)
       ↔ IsRecursive a.program a.told.calls f
-  -- the ladder of the program's constants
-  pub points : IsLadderOf a.program.constants a.ladder
+  -- the ladder, with no more points than 1,024 constants give
   pub ladder : IsLadder a.ladder
-  pub few_points : length a.ladder ≤ 793
+  pub few_points : length a.ladder ≤ 3097

@@ -1,12 +1,12 @@
 //! An analysed program.
 ghost use Rattle.std.specs.Prelude.{◌≡◌, ◌<◌, ◌^◌, false, length};
 ghost use Rattle.std.proofs.Props.{props};
-ghost use Rattle.sp_lattice.specs.Ladder.{IsLadder, IsLadder-prop};
+ghost use Rattle.sp_lattice.specs.Ladder.{IsLadder, IsLadderOf, IsLadder-prop};
 ghost use Rattle.sp_ir.specs.Programs.{lowered_of};
 ghost use Rattle.sp_points_rules.specs.Paths.{AreGroups};
 ghost use Rattle.sp_graph.specs.Supergraph.{IsSupergraph};
 ghost use Rattle.sp_effect_scene.specs.Analysed.{analysed, locations_of};
-ghost use Rattle.sp_effect_scene.specs.Whole.{IsAnalysed};
+ghost use Rattle.sp_effect_scene.specs.Whole.{IsAnalysed, most_constants};
 
 use crate::cells::locations_of;
 use crate::summaries::{element_of, is_summary};
@@ -14,12 +14,26 @@ use sp_effect_assign::Scenery;
 use sp_eval::numbers_as;
 use sp_graph::{Flow, supergraph};
 use sp_ir::Lowered;
-use sp_lattice::Ladder;
+use sp_lattice::{Ladder, MOST_CONSTANTS};
 use sp_points_rules::{Groups, groups_of, under};
 use sp_pre::{PointsTo, points_to};
 use sp_types::CType;
 use sp_value::{Locations, Value};
 use std::alloc::{AllocError, Global};
+
+/// How many constants the ladder of the sharp mode takes.
+const MOST_SHARP_CONSTANTS: usize = 1024;
+
+/// How many of a program's constants its ladder takes.
+fn most_constants(sharp: bool) -> usize
+    ensures { result ≡ most_constants sharp }
+{
+    if sharp {
+        MOST_SHARP_CONSTANTS
+    } else {
+        MOST_CONSTANTS
+    }
+}
 
 /// A formed program, and what is known of it before any effect: where cells may point, the
 /// supergraph, the locations, and the ladder. The groups are the regions of each object, and those
@@ -53,16 +67,20 @@ impl Analysis {
     ghost use Rattle.sp_effect_scene.specs.Analysed.{setting_of, scene_of};
     ghost use Rattle.sp_effect_scene.specs.View.{analysed_of};
 
-    /// The analysis of a formed program.
-    pub fn new(alloc: Global, lowered: Lowered) -> Result<Analysis, AllocError>
+    /// The analysis of a formed program. In the sharp mode its ladder takes more constants.
+    pub fn new(alloc: Global, lowered: Lowered, sharp: bool) -> Result<Analysis, AllocError>
         requires { IsFormed (lowered_of lowered) }
-        ensures { IfOk result (λ analysis. lowered_of analysis.lowered ≡ lowered_of lowered) }
+        ensures program { IfOk result (λ analysis.
+            lowered_of analysis.lowered ≡ lowered_of lowered) }
+        ensures points { IfOk result (λ analysis. IsLadderOf (most_constants sharp)
+            (lowered_of lowered).constants analysis.ladder) }
     {
         let pre = points_to(alloc, &lowered)?;
         let flow = supergraph(alloc, &lowered, pre.calls())?;
         let locations = locations_of(alloc, &lowered)?;
         let groups = groups_of(alloc, &lowered)?;
-        let ladder = Ladder::new(alloc, lowered.constants.as_slice())?;
+        let most = most_constants(sharp);
+        let ladder = Ladder::new(alloc, lowered.constants.as_slice(), most)?;
         let _points = ladder.points();
         Ok(Analysis {
             lowered,

@@ -1,5 +1,6 @@
 pub mod Steps
 pub mod Picked
+pub mod Cut
 pub mod Stored
 pub mod Owned
 pub mod Routines

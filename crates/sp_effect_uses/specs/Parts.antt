@@ -119,3 +119,21 @@ joins_at a (call callee args) l = false
 joins_at a (return c to) l = false
 joins_at a (library which to args site) l = may_hit (written_to a args site (written_by which)) l
 joins_at a (outside to args site) l = false
+
+-- ---- cuts
+
+-- whether a command is a condition, which writes nothing
+abbrev pub is_condition : Command → Bool
+is_condition start = false
+is_condition (entry f) = false
+is_condition (exit f) = false
+is_condition skip = false
+is_condition (assign to e) = false
+is_condition (copy to from) = false
+is_condition (init o values zeros) = false
+is_condition (assume e op f) = true
+is_condition (eval e) = false
+is_condition (call callee args) = false
+is_condition (return c to) = false
+is_condition (library which to args site) = false
+is_condition (outside to args site) = false

@@ -14,11 +14,13 @@
 //! ```
 //!
 //! The layer above gets from [`definitions`] and [`uses`] exactly the locations that `defined_at`
-//! and `used_at` of `sp_transfer` name, ascending (`AreLocations`). [`local_cells`] gives once, for
+//! and `used_at` of `sp_transfer` name, ascending (`AreLocations`). Where accesses cut some, the
+//! definitions come by parts, too (`AreCuts`). [`local_cells`] gives once, for
 //! all entries, the cells that are local to each function.
 #![tactic(auto)]
 
 mod commands;
+mod cuts;
 mod library;
 mod lists;
 mod locals;
@@ -27,5 +29,5 @@ mod reads;
 mod structs;
 mod writes;
 
-pub use lists::{definitions, uses};
+pub use lists::{Defined, definitions, uses};
 pub use locals::local_cells;

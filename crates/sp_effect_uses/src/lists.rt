@@ -7,12 +7,14 @@ ghost use Rattle.sp_ir.specs.View.{command_of};
 ghost use Rattle.sp_effect_rows.specs.Setting.{count, cell_of};
 ghost use Rattle.sp_effect_scene.specs.Analysed.{setting_of};
 ghost use Rattle.sp_effect_scene.specs.View.{analysed_of};
-ghost use Rattle.sp_transfer.specs.Effects.{defined_by, defined_at, used_by, used_at};
+ghost use Rattle.sp_transfer.specs.Effects.{defined_by, own_at, cut_at, defined_at, used_by, used_at};
 ghost use Rattle.sp_transfer.specs.Equations.{AreLocations};
+ghost use Rattle.sp_transfer.specs.Parts.{AreCuts};
 ghost use Rattle.sp_effect_uses.specs.Locals.{AreLocals};
 ghost use Rattle.sp_effect_uses.specs.Parts.{Adds, AddsAt, keeps_at};
 
 use crate::commands::{add_joined, add_reads, keeps};
+use crate::cuts::cut_at;
 use crate::library::add_written;
 use crate::objects::{add_fresh, add_object, add_start};
 use crate::writes::{add_called, add_destination, add_result_stored, add_sides, add_stored};
@@ -21,6 +23,7 @@ use sp_effect_assign::location_at;
 use sp_effect_library::written_by;
 use sp_effect_scene::Analysis;
 use sp_ir::Command;
+use sp_transfer::Cuts;
 use std::alloc::{AllocError, Global};
 
 // ---- from regions to locations
@@ -151,8 +154,8 @@ fn add_defined_by(
     }
 }
 
-/// Adds the cells that a node defines.
-fn add_defined(
+/// Adds the cells that the command of a node may change.
+fn add_own(
     alloc: Global,
     analysis: &Analysis,
     locals: &[NumberSet],
@@ -161,7 +164,7 @@ fn add_defined(
 ) -> Result<(), AllocError>
     requires { AreLocals (analysed_of analysis.now) locals.now }
     ensures { OnOk result (AddsAt (analysed_of analysis.now)
-        (defined_at (analysed_of analysis.now) node) set.old set.new) }
+        (own_at (analysed_of analysis.now) node) set.old set.new) }
 {
     match analysis.lowered.nodes.get(node as usize) {
         Some(found) => {
@@ -172,22 +175,92 @@ fn add_defined(
     }
 }
 
-/// The locations that a node defines, ascending.
-pub fn definitions(
+/// The locations that the command of a node may change.
+fn own_at(
     alloc: Global,
     analysis: &Analysis,
     locals: &[NumberSet],
     node: u32,
-) -> Result<Vec<u32>, AllocError>
+) -> Result<NumberSet, AllocError>
     requires { AreLocals (analysed_of analysis.now) locals.now }
-    ensures { IfOk result (λ places. AreLocations (analysed_of analysis.now)
-        (defined_at (analysed_of analysis.now) node) places.items) }
+    ensures places { IfOk result (λ places. (l : ℕ) → has l places ≡
+        own_at (analysed_of analysis.now) node l) }
+    ensures low { IfOk result (λ places. (l : ℕ) → has l places ≡ true →
+        l < count (setting_of (analysed_of analysis.now))) }
 {
     let mut regions = NumberSet::new(alloc);
-    add_defined(alloc, analysis, locals, node, &mut regions)?;
+    add_own(alloc, analysis, locals, node, &mut regions)?;
     let places = to_locations(alloc, analysis, &regions)?;
-    let list = to_list(alloc, &places)?;
-    Ok(list)
+    Ok(places)
+}
+
+/// What a node defines.
+#[derive(Drop)]
+pub struct Defined {
+    /// The locations, ascending.
+    pub places: Vec<u32>,
+    /// By parts, where accesses cut some.
+    pub cuts: Option<Cuts>,
+}
+
+/// What a node defines; in the sharp mode its accesses cut what they go through.
+pub fn definitions(
+    alloc: Global,
+    analysis: &Analysis,
+    locals: &[NumberSet],
+    sharp: bool,
+    node: u32,
+) -> Result<Defined, AllocError>
+    requires { AreLocals (analysed_of analysis.now) locals.now }
+    ensures places { IfOk result (λ defined. AreLocations (analysed_of analysis.now)
+        (defined_at (analysed_of analysis.now) sharp node) defined.places.items) }
+    ensures cuts { IfOk result (λ defined.
+        AreCuts (analysed_of analysis.now) sharp node defined.cuts) }
+{
+    let own = own_at(alloc, analysis, locals, node)?;
+    let cut = cut_at(alloc, analysis, sharp, node, &own)?;
+    if cut.as_slice().len() == 0 {
+        let places = to_list(alloc, &own)?;
+        Ok(Defined { places, cuts: None })
+    } else {
+        parts(alloc, analysis, sharp, node, own, &cut)
+    }
+}
+
+/// What a node defines by these parts.
+fn parts(
+    alloc: Global,
+    analysis: &Analysis,
+    sharp: bool,
+    node: u32,
+    own: NumberSet,
+    cut: &NumberSet,
+) -> Result<Defined, AllocError>
+    requires own { (l : ℕ) → has l own ≡ own_at (analysed_of analysis.now) node l }
+    requires own_low { (l : ℕ) → has l own ≡ true →
+        l < count (setting_of (analysed_of analysis.now)) }
+    requires cut { (l : ℕ) → has l cut.now ≡ cut_at (analysed_of analysis.now) sharp node l }
+    requires cut_low { (l : ℕ) → has l cut.now ≡ true →
+        l < count (setting_of (analysed_of analysis.now)) }
+    ensures places { IfOk result (λ defined. AreLocations (analysed_of analysis.now)
+        (defined_at (analysed_of analysis.now) sharp node) defined.places.items) }
+    ensures cuts { IfOk result (λ defined.
+        AreCuts (analysed_of analysis.now) sharp node defined.cuts) }
+{
+    let _analysis = analysis;
+    let _sharp = sharp;
+    let _node = node;
+    let cuts = Cuts {
+        own: to_list(alloc, &own)?,
+        cut: to_list(alloc, cut)?,
+    };
+    let mut all = own;
+    all.add_all(cut.as_slice())?;
+    let places = to_list(alloc, &all)?;
+    Ok(Defined {
+        places,
+        cuts: Some(cuts),
+    })
 }
 
 // ---- uses
@@ -258,7 +331,7 @@ fn used_at(
     node: u32,
 ) -> Result<NumberSet, AllocError>
     requires { AreLocations (analysed_of analysis.now)
-        (defined_at (analysed_of analysis.now) node) definitions.now }
+        (own_at (analysed_of analysis.now) node) definitions.now }
     ensures places { IfOk result (λ places. (l : ℕ) → has l places ≡
         used_at (analysed_of analysis.now) node l) }
     ensures low { IfOk result (λ places. (l : ℕ) → has l places ≡ true →
@@ -273,7 +346,7 @@ fn used_at(
     }
 }
 
-/// The locations that a node uses, ascending. `definitions` are those that it defines.
+/// The locations that a node uses, ascending. `definitions` are those that its command may change.
 pub fn uses(
     alloc: Global,
     analysis: &Analysis,
@@ -281,7 +354,7 @@ pub fn uses(
     node: u32,
 ) -> Result<Vec<u32>, AllocError>
     requires { AreLocations (analysed_of analysis.now)
-        (defined_at (analysed_of analysis.now) node) definitions.now }
+        (own_at (analysed_of analysis.now) node) definitions.now }
     ensures { IfOk result (λ places. AreLocations (analysed_of analysis.now)
         (used_at (analysed_of analysis.now) node) places.items) }
 {

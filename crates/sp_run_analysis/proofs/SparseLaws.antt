@@ -34,7 +34,7 @@ use Rattle.sp_effect_scene.proofs.AllLaws.{scene_laws}
 use Rattle.sp_effect_call.proofs.StoringSteps.{low-member}
 use Rattle.sp_transfer.specs.Effects.{used_by}
 use Rattle.sp_transfer.specs.Equations.{Equations, AreEquations, nodes_of, meaning_of, number_of}
-use Rattle.sp_run_analysis.specs.declared.reports.Details.{Details}
+use Rattle.sp_run_analysis.specs.declared.reports.Wanted.{Wanted}
 use Rattle.sp_run_analysis.specs.Outcomes.{alarms_of, text_of, detailed_text, IsReport, IsReportOf, reaching}
 use Rattle.sp_transfer.proofs.UsedLaws.{alarms-used}
 
@@ -195,27 +195,27 @@ module _ (e : Equations) (whole : IsAnalysed e.analysed) (are : AreEquations e) 
       ≡ by_node_from names a.program (locations_of a.program) all_given 0 (nodes_of e)
   by-node-same names = input_laws.by_node_agree names a.program (locations_of a.program) some_given all_given (nodes_of e) each-node
 
-  details-same : (names : List (List ℕ)) (values nodes : Bool)
+  wanted-same : (names : List (List ℕ)) (values nodes : Bool)
       → cond nodes (text_of e some_given names values ++ by_node_from names a.program (locations_of a.program) some_given 0 (nodes_of e)) (text_of e some_given names values)
       ≡ cond nodes (text_of e all_given names values ++ by_node_from names a.program (locations_of a.program) all_given 0 (nodes_of e)) (text_of e all_given names values)
-  details-same names values true = ap₂ (λ t l. t ++ l) (text-same names values) (by-node-same names)
-  details-same names values false = text-same names values
+  wanted-same names values true = ap₂ (λ t l. t ++ l) (text-same names values) (by-node-same names)
+  wanted-same names values false = text-same names values
 
-  detailed-same : (names : List (List ℕ)) (details : Details) → detailed_text e some_given names details ≡ detailed_text e all_given names details
-  detailed-same names details = details-same names details.values details.nodes
+  detailed-same : (names : List (List ℕ)) (wanted : Wanted) → detailed_text e some_given names wanted ≡ detailed_text e all_given names wanted
+  detailed-same names wanted = wanted-same names wanted.values wanted.nodes
 
 -- the report over a solved sparse table is that over the least solution
-pub reported-sparsely : (names : List (List ℕ)) (details : Details) (e : Equations) (cells : SparseCells Slot) (text : List ℕ) (count : ℕ)
+pub reported-sparsely : (names : List (List ℕ)) (wanted : Wanted) (e : Equations) (cells : SparseCells Slot) (text : List ℕ) (count : ℕ)
     → ∥ IsAnalysed e.analysed ∥₁ → ∥ AreEquations e ∥₁ → InputsUnder slot_order (meaning_of e) → IsSolved slot_order (meaning_of e) cells
-    → IsReport e (cell cells.inputs) names details text count → IsReportOf names details e text count
-reported-sparsely names details e cells text count whole are inputs solved report = record {
+    → IsReport e (cell cells.inputs) names wanted text count → IsReportOf names wanted e text count
+reported-sparsely names wanted e cells text count whole are inputs solved report = record {
   table = solved.dense;
   least = solved.least;
   reports = record {
-    text_is = ∥∥₁_elim whole (hlevel props) (λ w. ∥∥₁_elim are (hlevel props) (λ h. (some w h).text_is ∙ detailed-same e w h solved.dense solved.least inputs names details));
+    text_is = ∥∥₁_elim whole (hlevel props) (λ w. ∥∥₁_elim are (hlevel props) (λ h. (some w h).text_is ∙ detailed-same e w h solved.dense solved.least inputs names wanted));
     count_is = ∥∥₁_elim whole (hlevel props) (λ w. ∥∥₁_elim are (hlevel props) (λ h. (some w h).count_is ∙ ap (report_count names) (alarms-same e w h solved.dense solved.least inputs)));
   };
 }
   where
-    some : (w : IsAnalysed e.analysed) (h : AreEquations e) → IsReport e (some_given e w h solved.dense solved.least inputs) names details text count
-    some w h = subst (λ g. IsReport e g names details text count) (fun_ext (λ n. fun_ext (λ l. solved.inputs n l))) report
+    some : (w : IsAnalysed e.analysed) (h : AreEquations e) → IsReport e (some_given e w h solved.dense solved.least inputs) names wanted text count
+    some w h = subst (λ g. IsReport e g names wanted text count) (fun_ext (λ n. fun_ext (λ l. solved.inputs n l))) report

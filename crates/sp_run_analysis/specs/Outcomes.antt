@@ -2,6 +2,7 @@
 use Rattle.std.specs.Prelude.{◌≡◌, ◌<◌, ◌≤◌, ◌+◌, ◌⊎◌, ℕ, Bool, cond, List, ◌++◌, Option}
 use Rattle.sp_lattice.specs.Bound.{most_steps}
 use Rattle.sp_lattice.specs.Dense.{Table, input, IsLeast}
+use Rattle.sp_lattice.specs.Ladder.{IsLadderOf}
 use Rattle.sp_ir.specs.Programs.{Lowered}
 use Rattle.sp_value.specs.declared.slots.Slot.{Slot}
 use Rattle.sp_value.specs.Slots.{slot_order}
@@ -12,15 +13,17 @@ use Rattle.sp_report.specs.Values.{values_from}
 use Rattle.sp_report.specs.ByNode.{by_node_from}
 use Rattle.sp_report.specs.Report.{report_text, report_count}
 use Rattle.sp_effect_scene.specs.Analysed.{locations_of}
-use Rattle.sp_effect_scene.specs.Whole.{IsAnalysed}
+use Rattle.sp_effect_scene.specs.Whole.{IsAnalysed, most_constants}
 use Rattle.sp_transfer.specs.Equations.{Equations, AreEquations, nodes_of, meaning_of}
-use Rattle.sp_run_analysis.specs.declared.reports.Details.{Details}
+use Rattle.sp_run_analysis.specs.declared.reports.Wanted.{Wanted}
 use Rattle.sp_run_analysis.specs.declared.dense.Outcome.{Outcome}
 use Rattle.sp_run_analysis.specs.declared.dense.Outcome.TheVariants.{Reported, TooLarge}
 
--- the equations of a program
-pub record AreEquationsOf (p : Lowered) (e : Equations) : Type 0 where
+-- the equations of a program, in the sharp mode or the plain one: over the ladder of its constants
+pub record AreEquationsOf (p : Lowered) (sharp : Bool) (e : Equations) : Type 0 where
   pub program : e.analysed.program ≡ p
+  pub mode : e.sharp ≡ sharp
+  pub points : IsLadderOf (most_constants sharp) p.constants e.analysed.ladder
   pub whole : ∥ IsAnalysed e.analysed ∥₁
   pub are : ∥ AreEquations e ∥₁
 
@@ -39,15 +42,15 @@ module _ (e : Equations) (given : ℕ → ℕ → Option Slot) where
       (report_text names alarms_of)
 
   -- and where they are wanted, the lines by node behind all that
-  abbrev pub detailed_text : List (List ℕ) → Details → List ℕ
-  detailed_text names details = cond details.nodes
-      (text_of names details.values ++ by_node_from names e.analysed.program
+  abbrev pub detailed_text : List (List ℕ) → Wanted → List ℕ
+  detailed_text names wanted = cond wanted.nodes
+      (text_of names wanted.values ++ by_node_from names e.analysed.program
       (locations_of e.analysed.program) given 0 (nodes_of e))
-      (text_of names details.values)
+      (text_of names wanted.values)
 
   -- these are its bytes, and it has so many alarms
-  pub record IsReport (names : List (List ℕ)) (details : Details) (text : List ℕ) (count : ℕ) : Type 0 where
-    pub text_is : text ≡ detailed_text names details
+  pub record IsReport (names : List (List ℕ)) (wanted : Wanted) (text : List ℕ) (count : ℕ) : Type 0 where
+    pub text_is : text ≡ detailed_text names wanted
     pub count_is : count ≡ report_count names alarms_of
 
 -- what reaches each node at each location in a table
@@ -55,24 +58,24 @@ abbrev pub reaching : Equations → Table Slot → ℕ → ℕ → Option Slot
 reaching e table n l = within_counts (meaning_of e) n l (input slot_order (meaning_of e) table n l)
 
 -- the report over the least solution
-pub record IsReportOf (names : List (List ℕ)) (details : Details) (e : Equations) (text : List ℕ) (count : ℕ) : Type 0 where
+pub record IsReportOf (names : List (List ℕ)) (wanted : Wanted) (e : Equations) (text : List ℕ) (count : ℕ) : Type 0 where
   pub table : Table Slot
   pub least : IsLeast slot_order (meaning_of e) table
-  pub reports : IsReport e (reaching e table) names details text count
+  pub reports : IsReport e (reaching e table) names wanted text count
 
 -- ---- ends
 
 -- what comes of equations by the dense engine, which evaluates nothing where there are too many cells
-abbrev pub Gives : List (List ℕ) → Details → Equations → ℕ → ℕ → Outcome → Type 0
-Gives names details e before after (Reported report) =
-    (cells (meaning_of e) ≤ most_cells) × IsReportOf names details e report.text.items report.count
-Gives names details e before after (TooLarge count) =
+abbrev pub Gives : List (List ℕ) → Wanted → Equations → ℕ → ℕ → Outcome → Type 0
+Gives names wanted e before after (Reported report) =
+    (cells (meaning_of e) ≤ most_cells) × IsReportOf names wanted e report.text.items report.count
+Gives names wanted e before after (TooLarge count) =
     (count ≡ cells (meaning_of e)) × (most_cells < cells (meaning_of e)) × (after ≡ before)
 
 -- what comes of a program
-abbrev pub Ends : Lowered → List (List ℕ) → Details → ℕ → ℕ → Outcome → Type 0
-Ends p names details before after outcome =
-    (e : Equations) × AreEquationsOf p e × Gives names details e before after outcome
+abbrev pub Ends : Lowered → List (List ℕ) → Wanted → ℕ → ℕ → Outcome → Type 0
+Ends p names wanted before after outcome =
+    (e : Equations) × AreEquationsOf p wanted.sharp e × Gives names wanted e before after outcome
 
 -- nothing was evaluated; or there are no more cells than the dense engine takes, and as many
 -- evaluations at most as it may use
@@ -80,6 +83,6 @@ abbrev pub StepsWithin : Equations → ℕ → ℕ → Type 0
 StepsWithin e before after = (after ≡ before)
     ⊎ ((cells (meaning_of e) ≤ most_cells) × (after ≤ before + most_steps (meaning_of e)))
 
-abbrev pub IsStepped : Lowered → ℕ → ℕ → Type 0
-IsStepped p before after = (after ≡ before)
-    ⊎ ((e : Equations) × AreEquationsOf p e × StepsWithin e before after)
+abbrev pub IsStepped : Lowered → Bool → ℕ → ℕ → Type 0
+IsStepped p sharp before after = (after ≡ before)
+    ⊎ ((e : Equations) × AreEquationsOf p sharp e × StepsWithin e before after)

@@ -5,7 +5,7 @@ ghost use Rattle.sp_ir.specs.Formed.{IsFormed};
 ghost use Rattle.sp_defuse.specs.Program.{equations_in};
 ghost use Rattle.sp_run_analysis.specs.Outcomes.{Gives, Ends, StepsWithin, IsStepped};
 
-use crate::reports::{Details, report_on};
+use crate::reports::{Wanted, report_on};
 use sp_defuse::CProgram;
 use sp_dense::{DenseError, solve_dense};
 use sp_effect_scene::Analysis;
@@ -29,11 +29,11 @@ pub enum Outcome {
 fn solve<L: Ledger>(
     alloc: Global,
     names: &Names,
-    details: Details,
+    wanted: Wanted,
     program: &CProgram,
     steps: &mut Steps<L>,
 ) -> Result<Outcome, AllocError>
-    ensures gives { IfOk result (Gives names.now details
+    ensures gives { IfOk result (Gives names.now wanted
         (equations_in program.now)
         steps.old steps.new) }
     ensures bound { StepsWithin
@@ -42,7 +42,7 @@ fn solve<L: Ledger>(
 {
     match solve_dense(alloc, program, steps) {
         Ok(table) => {
-            let report = report_on(alloc, names, details, program, &table)?;
+            let report = report_on(alloc, names, wanted, program, &table)?;
             Ok(Outcome::Reported(report))
         }
         Err(DenseError::TooLarge { cells }) => Ok(Outcome::TooLarge { cells }),
@@ -51,20 +51,20 @@ fn solve<L: Ledger>(
 }
 
 /// The report of a formed program, or that it is too large. `names` tells the bytes of each file's
-/// name; `details` are wanted behind the report.
+/// name; `wanted` says which report.
 pub fn dense_report<L: Ledger>(
     alloc: Global,
     names: &Names,
-    details: Details,
+    wanted: Wanted,
     lowered: Lowered,
     steps: &mut Steps<L>,
 ) -> Result<Outcome, AllocError>
     requires { IsFormed (lowered_of lowered) }
     ensures ends { IfOk result
-        (Ends (lowered_of lowered) names.now details steps.old steps.new) }
-    ensures steps { IsStepped (lowered_of lowered) steps.old steps.new }
+        (Ends (lowered_of lowered) names.now wanted steps.old steps.new) }
+    ensures steps { IsStepped (lowered_of lowered) wanted.sharp steps.old steps.new }
 {
-    let analysis = Analysis::new(alloc, lowered)?;
-    let program = CProgram::new(alloc, analysis)?;
-    solve(alloc, names, details, &program, steps)
+    let analysis = Analysis::new(alloc, lowered, wanted.sharp)?;
+    let program = CProgram::new(alloc, analysis, wanted.sharp)?;
+    solve(alloc, names, wanted, &program, steps)
 }

@@ -23,5 +23,5 @@ mod reports;
 mod sparse;
 
 pub use dense::{Outcome, dense_report};
-pub use reports::Details;
+pub use reports::Wanted;
 pub use sparse::{SparseOutcome, sparse_report};

@@ -18,12 +18,14 @@ use sp_tree::Names;
 use sp_value::Slot;
 use std::alloc::{AllocError, Global};
 
-/// What is wanted behind a report.
+/// Which report is wanted.
 #[derive(Clone, Copy, Debug, PartialEq, Eq)]
-pub struct Details {
-    /// The lines of values.
+pub struct Wanted {
+    /// Whether a run goes on behind an access as its check says.
+    pub sharp: bool,
+    /// Whether the lines of values come behind it.
     pub values: bool,
-    /// The lines by node.
+    /// Whether the lines by node come behind all that.
     pub nodes: bool,
 }
 
@@ -115,20 +117,20 @@ fn report_with<I: Inputs<Value = Slot>>(
     Ok(report)
 }
 
-/// The report on what reaches a program's nodes, with the details that are wanted.
+/// The report on what reaches a program's nodes, with the lines that are wanted behind it.
 pub(crate) fn report_on<I: Inputs<Value = Slot>>(
     alloc: Global,
     names: &Names,
-    details: Details,
+    wanted: Wanted,
     program: &CProgram,
     inputs: &I,
 ) -> Result<Report, AllocError>
     ensures { IfOk result (λ report. IsReport
         (equations_in program.now)
-        (I.given inputs.now) names.now details report.text.items report.count) }
+        (I.given inputs.now) names.now wanted report.text.items report.count) }
 {
-    let mut report = report_with(alloc, names, details.values, program, inputs)?;
-    if details.nodes {
+    let mut report = report_with(alloc, names, wanted.values, program, inputs)?;
+    if wanted.nodes {
         add_by_node(alloc, names, program, inputs, &mut report.text)?;
     }
     Ok(report)

@@ -5,7 +5,7 @@ ghost use Rattle.sp_ir.specs.Formed.{IsFormed};
 ghost use Rattle.sp_defuse.specs.Program.{equations_in};
 ghost use Rattle.sp_run_analysis.specs.Sparse.{Gives, Ends, ServesWithin, IsServed};
 
-use crate::reports::{Details, report_on};
+use crate::reports::{Wanted, report_on};
 use sp_defuse::{CProgram, open_nodes};
 use sp_deps::{DepError, dependencies_with};
 use sp_effect_scene::Analysis;
@@ -30,11 +30,11 @@ pub enum SparseOutcome {
 fn solve<L: Ledger>(
     alloc: Global,
     names: &Names,
-    details: Details,
+    wanted: Wanted,
     program: &CProgram,
     steps: &mut Steps<L>,
 ) -> Result<SparseOutcome, AllocError>
-    ensures gives { IfOk result (Gives names.now details
+    ensures gives { IfOk result (Gives names.now wanted
         (equations_in program.now)
         steps.old steps.new) }
     ensures bound { ServesWithin
@@ -50,25 +50,25 @@ fn solve<L: Ledger>(
     };
     let mut picker = BySweeps::new(order_of(alloc, program)?);
     let table = solve_sparse(alloc, program, &deps, &mut picker, steps)?;
-    let report = report_on(alloc, names, details, program, &table)?;
+    let report = report_on(alloc, names, wanted, program, &table)?;
     Ok(SparseOutcome::Reported(report))
 }
 
 /// The report of a formed program, or that it has too many dependencies. `names` tells the bytes of
-/// each file's name; `details` are wanted behind the report.
+/// each file's name; `wanted` says which report.
 pub fn sparse_report<L: Ledger>(
     alloc: Global,
     names: &Names,
-    details: Details,
+    wanted: Wanted,
     lowered: Lowered,
     steps: &mut Steps<L>,
 ) -> Result<SparseOutcome, AllocError>
     requires { IsFormed (lowered_of lowered) }
     ensures ends { IfOk result
-        (Ends (lowered_of lowered) names.now details steps.old steps.new) }
-    ensures steps { IsServed (lowered_of lowered) steps.old steps.new }
+        (Ends (lowered_of lowered) names.now wanted steps.old steps.new) }
+    ensures steps { IsServed (lowered_of lowered) wanted.sharp steps.old steps.new }
 {
-    let analysis = Analysis::new(alloc, lowered)?;
-    let program = CProgram::new(alloc, analysis)?;
-    solve(alloc, names, details, &program, steps)
+    let analysis = Analysis::new(alloc, lowered, wanted.sharp)?;
+    let program = CProgram::new(alloc, analysis, wanted.sharp)?;
+    solve(alloc, names, wanted, &program, steps)
 }

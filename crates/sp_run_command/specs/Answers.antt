@@ -1,5 +1,5 @@
 -- What is written for files, and with which status.
-use Rattle.std.specs.Prelude.{◌≡◌, ◌⊎◌, ◌<◌, ◌≤◌, ℕ, zero, suc, List}
+use Rattle.std.specs.Prelude.{◌≡◌, ◌⊎◌, ◌<◌, ◌≤◌, ℕ, zero, suc, Bool, List}
 use Rattle.sp_tree.specs.declared.fault.Fault.{Fault}
 use Rattle.sp_tree.specs.declared.fault.FaultKind.{FaultKind}
 use Rattle.sp_tree.specs.declared.fault.FaultKind.TheVariants.{TooManyDependencies, TooManySlots}
@@ -9,7 +9,7 @@ use Rattle.sp_dense.specs.Solution.{cells, most_cells}
 use Rattle.sp_transfer.specs.Equations.{Equations, meaning_of}
 use Rattle.sp_deps.specs.Answer.{HasTooMany}
 use Rattle.sp_run_indirect.specs.Told.{AreCallsOf}
-use Rattle.sp_run_analysis.specs.declared.reports.Details.{Details}
+use Rattle.sp_run_analysis.specs.declared.reports.Wanted.{Wanted}
 use Rattle.sp_run_analysis.specs.Outcomes.{AreEquationsOf, IsReportOf, IsStepped}
 use Rattle.sp_run_analysis.specs.Sparse.{AreKept, IsServed}
 use Rattle.sp_run_words.specs.declared.request.Engine.{Engine}
@@ -35,16 +35,16 @@ IsPast Sparse e kind = HasTooMany (meaning_of e) × (kind ≡ TooManyDependencie
 IsPast Dense e kind = (most_cells < cells (meaning_of e)) × (kind ≡ TooManySlots (cells (meaning_of e)))
 
 -- The bytes are the report on a program, and it lists so many alarms.
-pub record HasReport (engine : Engine) (details : Details) (p : Lowered) (names : List (List ℕ)) (count : ℕ) (bytes : List ℕ) : Type 0 where
+pub record HasReport (engine : Engine) (wanted : Wanted) (p : Lowered) (names : List (List ℕ)) (count : ℕ) (bytes : List ℕ) : Type 0 where
   pub equations : Equations
-  pub are : AreEquationsOf p equations
+  pub are : AreEquationsOf p wanted.sharp equations
   pub within : IsWithin engine equations
-  pub report : IsReportOf names details equations bytes count
+  pub report : IsReportOf names wanted equations bytes count
 
 -- A program is past the limit of an engine, and the bytes refuse it where the first file begins.
-pub record IsTooLarge (engine : Engine) (p : Lowered) (names : List (List ℕ)) (bytes : List ℕ) : Type 0 where
+pub record IsTooLarge (engine : Engine) (sharp : Bool) (p : Lowered) (names : List (List ℕ)) (bytes : List ℕ) : Type 0 where
   pub equations : Equations
-  pub are : AreEquationsOf p equations
+  pub are : AreEquationsOf p sharp equations
   pub kind : FaultKind
   pub past : IsPast engine equations kind
   pub bytes_are : bytes ≡ fault_text names (record { kind = kind; place = start_place })
@@ -55,27 +55,27 @@ reporting zero = Clean
 reporting (suc n) = Alarms
 
 -- The bytes are what is written for a program, with this status.
-pub data IsAnswerTo (engine : Engine) (details : Details) (p : Lowered) (names : List (List ℕ)) (status : Status) (bytes : List ℕ) : Type 0 where
-  reported : (count : ℕ) → status ≡ reporting count → HasReport engine details p names count bytes → IsAnswerTo engine details p names status bytes
-  too_large : status ≡ Refused → IsTooLarge engine p names bytes → IsAnswerTo engine details p names status bytes
+pub data IsAnswerTo (engine : Engine) (wanted : Wanted) (p : Lowered) (names : List (List ℕ)) (status : Status) (bytes : List ℕ) : Type 0 where
+  reported : (count : ℕ) → status ≡ reporting count → HasReport engine wanted p names count bytes → IsAnswerTo engine wanted p names status bytes
+  too_large : status ≡ Refused → IsTooLarge engine wanted.sharp p names bytes → IsAnswerTo engine wanted p names status bytes
 
 -- nothing was evaluated; or the program isn't past the engine's limit, and there are at most as many
 -- evaluations as the engine may use on it
-abbrev pub IsCounted : Engine → Lowered → ℕ → ℕ → Type 0
-IsCounted Sparse p before after = IsServed p before after
-IsCounted Dense p before after = IsStepped p before after
+abbrev pub IsCounted : Engine → Lowered → Bool → ℕ → ℕ → Type 0
+IsCounted Sparse p sharp before after = IsServed p sharp before after
+IsCounted Dense p sharp before after = IsStepped p sharp before after
 
 -- ---- what is wanted of a program
 
 -- The bytes are what is written, with this status: its report, or its indirect calls.
 abbrev pub IsAnswerOn : Task → Lowered → List (List ℕ) → Status → List ℕ → Type 0
-IsAnswerOn (Report engine values nodes) p names status bytes =
-    IsAnswerTo engine (record { values = values; nodes = nodes }) p names status bytes
+IsAnswerOn (Report engine sharp values nodes) p names status bytes =
+    IsAnswerTo engine (record { sharp = sharp; values = values; nodes = nodes }) p names status bytes
 IsAnswerOn Calls p names status bytes = (status ≡ Clean) × AreCallsOf p names bytes
 
 -- an engine evaluates; for the indirect calls nothing is evaluated
 abbrev pub IsCountedOn : Task → Lowered → ℕ → ℕ → Type 0
-IsCountedOn (Report engine values nodes) p before after = IsCounted engine p before after
+IsCountedOn (Report engine sharp values nodes) p before after = IsCounted engine p sharp before after
 IsCountedOn Calls p before after = after ≡ before
 
 -- ---- files

@@ -17,7 +17,7 @@ use sp_front::{FrontError, Source, lowered_of};
 use sp_ir::Lowered;
 use sp_lattice::Steps;
 use sp_report::Report;
-use sp_run_analysis::{Details, Outcome, SparseOutcome, dense_report, sparse_report};
+use sp_run_analysis::{Outcome, SparseOutcome, Wanted, dense_report, sparse_report};
 use sp_run_indirect::print_calls;
 use sp_run_words::{Engine, Task};
 use sp_tree::{Fault, FaultKind, Names, Place};
@@ -59,18 +59,18 @@ fn too_large(alloc: Global, names: &Names, kind: FaultKind) -> Result<Answer, Al
 fn answer_densely<L: Ledger>(
     alloc: Global,
     names: &Names,
-    details: Details,
+    wanted: Wanted,
     lowered: Lowered,
     steps: &mut Steps<L>,
 ) -> Result<Answer, AllocError>
     requires { IsFormed (lowered_of lowered) }
-    ensures answer { IfOk result (λ a. IsAnswerTo Engine.Dense details (lowered_of lowered)
+    ensures answer { IfOk result (λ a. IsAnswerTo Engine.Dense wanted (lowered_of lowered)
         names.now a.status a.text.items) }
     ensures refused { IfOk result (λ a. WithoutSteps a.status (steps.new ≡ steps.old)) }
     ensures done { IfOk result (λ a. IsDone a.status) }
-    ensures steps { IsStepped (lowered_of lowered) steps.old steps.new }
+    ensures steps { IsStepped (lowered_of lowered) wanted.sharp steps.old steps.new }
 {
-    match dense_report(alloc, names, details, lowered, steps)? {
+    match dense_report(alloc, names, wanted, lowered, steps)? {
         Outcome::Reported(report) => Ok(reported(report)),
         Outcome::TooLarge { cells } => too_large(alloc, names, FaultKind::TooManySlots { cells }),
     }
@@ -80,18 +80,18 @@ fn answer_densely<L: Ledger>(
 fn answer_sparsely<L: Ledger>(
     alloc: Global,
     names: &Names,
-    details: Details,
+    wanted: Wanted,
     lowered: Lowered,
     steps: &mut Steps<L>,
 ) -> Result<Answer, AllocError>
     requires { IsFormed (lowered_of lowered) }
-    ensures answer { IfOk result (λ a. IsAnswerTo Engine.Sparse details (lowered_of lowered)
+    ensures answer { IfOk result (λ a. IsAnswerTo Engine.Sparse wanted (lowered_of lowered)
         names.now a.status a.text.items) }
     ensures refused { IfOk result (λ a. WithoutSteps a.status (steps.new ≡ steps.old)) }
     ensures done { IfOk result (λ a. IsDone a.status) }
-    ensures steps { IsServed (lowered_of lowered) steps.old steps.new }
+    ensures steps { IsServed (lowered_of lowered) wanted.sharp steps.old steps.new }
 {
-    match sparse_report(alloc, names, details, lowered, steps)? {
+    match sparse_report(alloc, names, wanted, lowered, steps)? {
         SparseOutcome::Reported(report) => Ok(reported(report)),
         SparseOutcome::TooMany => too_large(alloc, names, FaultKind::TooManyDependencies),
     }
@@ -101,21 +101,21 @@ fn answer_sparsely<L: Ledger>(
 fn answer_by<L: Ledger>(
     alloc: Global,
     engine: Engine,
-    details: Details,
+    wanted: Wanted,
     names: &Names,
     lowered: Lowered,
     steps: &mut Steps<L>,
 ) -> Result<Answer, AllocError>
     requires { IsFormed (lowered_of lowered) }
-    ensures answer { IfOk result (λ a. IsAnswerTo engine details (lowered_of lowered)
+    ensures answer { IfOk result (λ a. IsAnswerTo engine wanted (lowered_of lowered)
         names.now a.status a.text.items) }
     ensures refused { IfOk result (λ a. WithoutSteps a.status (steps.new ≡ steps.old)) }
     ensures done { IfOk result (λ a. IsDone a.status) }
-    ensures steps { IsCounted engine (lowered_of lowered) steps.old steps.new }
+    ensures steps { IsCounted engine (lowered_of lowered) wanted.sharp steps.old steps.new }
 {
     match engine {
-        Engine::Sparse => answer_sparsely(alloc, names, details, lowered, steps),
-        Engine::Dense => answer_densely(alloc, names, details, lowered, steps),
+        Engine::Sparse => answer_sparsely(alloc, names, wanted, lowered, steps),
+        Engine::Dense => answer_densely(alloc, names, wanted, lowered, steps),
     }
 }
 
@@ -148,11 +148,16 @@ fn answer_on<L: Ledger>(
     match task {
         Task::Report {
             engine,
+            sharp,
             values,
             nodes,
         } => {
-            let details = Details { values, nodes };
-            answer_by(alloc, engine, details, names, lowered, steps)
+            let wanted = Wanted {
+                sharp,
+                values,
+                nodes,
+            };
+            answer_by(alloc, engine, wanted, names, lowered, steps)
         }
         Task::Calls => calls_of(alloc, names, &lowered),
     }

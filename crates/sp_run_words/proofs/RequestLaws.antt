@@ -57,18 +57,24 @@ module _ (words : List (String Global)) (app : App) (reads : app ≡ reader_app)
       × (one_text (found_of m) name ≡ Some (codes "false") → stands ≡ false)
 
   -- and matches have what the words say
-  pub is_read : (m : ArgMatches) (values nodes : Bool) (slice : Option (Bor Texts)) (files : Texts)
+  pub is_read : (m : ArgMatches) (sharp values nodes : Bool) (slice : Option (Bor Texts)) (files : Texts)
       → fault_of app texts ≡ [] → rows_of (found_of m) ≡ matches_of app texts
-      → Told m (codes "values") values → Told m (codes "nodes") nodes
+      → Told m (codes "sharp") sharp → Told m (codes "values") values
+      → Told m (codes "nodes") nodes
       → option_map (λ s. texts_of s.now) slice
       ≡ option_map raw_values (matched_of (found_of m) (codes "files"))
       → ((s : Bor Texts) → slice ≡ Some s → files ≡ s.now)
-      → Some (record { values = values; nodes = nodes; files = texts_of files }) ≡ read_by texts
-  is_read m values nodes slice files passes rows if_values if_nodes given copied =
+      → Some (record {
+        sharp = sharp;
+        values = values;
+        nodes = nodes;
+        files = texts_of files;
+      }) ≡ read_by texts
+  is_read m sharp values nodes slice files passes rows if_sharp if_values if_nodes given copied =
       go (read_by texts) refl agrees
     where
       made : Read
-      made = record { values = values; nodes = nodes; files = texts_of files }
+      made = record { sharp = sharp; values = values; nodes = nodes; files = texts_of files }
 
       flag_is : (name : Word) (stands b : Bool) → Told m name stands
           → one_text (found_of m) name ≡ Some (cond b (codes "true") (codes "false"))
@@ -91,11 +97,12 @@ module _ (words : List (String Global)) (app : App) (reads : app ≡ reader_app)
           → Some made ≡ read_by texts
       go None is h = absurd (h passes)
       go (Some a) is h =
-          let first = flag_is (codes "values") values a.values if_values (one_is _ _ h.1) in
-          let second = flag_is (codes "nodes") nodes a.nodes if_nodes (one_is _ _ h.2) in
+          let first = flag_is (codes "sharp") sharp a.sharp if_sharp (one_is _ _ h.1) in
+          let second = flag_is (codes "values") values a.values if_values (one_is _ _ h.2) in
+          let third = flag_is (codes "nodes") nodes a.nodes if_nodes (one_is _ _ h.3) in
           let all = files_are slice a.files
           (given ∙ raw_values-rows (found_of m) (codes "files") ∙ ap (all_of (codes "files")) rows
-          ∙ h.3) copied in
+          ∙ h.4) copied in
           let same : made ≡ a =
-          λ i. record { values = first i; nodes = second i; files = all i } in
+          λ i. record { sharp = first i; values = second i; nodes = third i; files = all i } in
           ap Some same ∙ sym is

@@ -15,7 +15,8 @@ use Rattle.clap.specs.declared.error.kind.ErrorKind.TheVariants.{MissingRequired
 use Rattle.clap.specs.declared.parser.matches.ValueSource.TheVariants.{CommandLine, DefaultValue}
 use Rattle.clap.specs.declared.builder.value_parser.Reading.TheVariants.{AsWritten}
 use Rattle.sp_run_words.specs.Reader.{reader_app}
-use Rattle.sp_run_words.specs.Words.{Read, Word, is_flag, nodes_flag, once, read, stands, values_flag}
+use Rattle.sp_run_words.specs.Words.{Read, Word, is_flag, nodes_flag, once, read, sharp_flag, stands}
+use Rattle.sp_run_words.specs.Words.{values_flag}
 use Rattle.sp_run_words.proofs.RowLaws.{found, given, has_row_found, none_lost, other_row, own_row, row_with}
 
 abbrev pub top : Shape
@@ -23,6 +24,9 @@ top = (built reader_app).top
 
 abbrev pub rules : List Rule
 rules = top.rules
+
+abbrev pub sharp_id : Text
+sharp_id = codes "sharp"
 
 abbrev pub values_id : Text
 values_id = codes "values"
@@ -52,15 +56,16 @@ file_row [] = None
 file_row (f ∷ fs) = Some (row files_id (f ∷ fs))
 
 pub record Holds (s : Read) (rows : List Row) : Type 0 where
+  pub sharp : found sharp_id rows ≡ flag_row sharp_id s.sharp
   pub values : found values_id rows ≡ flag_row values_id s.values
   pub nodes : found nodes_id rows ≡ flag_row nodes_id s.nodes
   pub files : found files_id rows ≡ file_row s.files
 
 abbrev pub nothing : Read
-nothing = record { values = false; nodes = false; files = [] }
+nothing = record { sharp = false; values = false; nodes = false; files = [] }
 
 pub nothing_holds : Holds nothing []
-nothing_holds = record { values = refl; nodes = refl; files = refl }
+nothing_holds = record { sharp = refl; values = refl; nodes = refl; files = refl }
 
 -- a file is used
 abbrev pub with_file : Word → Read → Read
@@ -72,6 +77,7 @@ file_used w rows = given files_id CommandLine (w ∷ []) rows
 pub file_holds : (w : Word) (s : Read) (rows : List Row) → Holds s rows
     → Holds (with_file w s) (file_used w rows)
 file_holds w s rows h = record {
+  sharp = other_row files_id CommandLine (w ∷ []) sharp_id refl rows ∙ h.sharp;
   values = other_row files_id CommandLine (w ∷ []) values_id refl rows ∙ h.values;
   nodes = other_row files_id CommandLine (w ∷ []) nodes_id refl rows ∙ h.nodes;
   files = own_row files_id CommandLine (w ∷ []) refl rows ∙ by_files s.files h.files;
@@ -86,6 +92,9 @@ file_holds w s rows h = record {
 -- the flag of this id is used
 abbrev pub flag_used : Text → List Row → List Row
 flag_used id rows = given id CommandLine (codes "true" ∷ []) (without id rows)
+
+abbrev pub with_sharp : Read → Read
+with_sharp s = record s { sharp = true }
 
 abbrev pub with_values : Read → Read
 with_values s = record s { values = true }
@@ -107,10 +116,21 @@ module _ (id : Text) (rows : List Row) (none : found id rows ≡ None) where
       ∙ other_row id CommandLine (codes "true" ∷ []) other differs rows
 
 module _ (s : Read) (rows : List Row) (h : Holds s rows) where
+  pub sharp_holds : s.sharp ≡ false → Holds (with_sharp s) (flag_used sharp_id rows)
+  sharp_holds first =
+      let none : found sharp_id rows ≡ None = h.sharp ∙ ap (flag_row sharp_id) first in
+      record {
+        sharp = flag_has sharp_id rows none refl;
+        values = flag_keeps sharp_id rows none values_id refl ∙ h.values;
+        nodes = flag_keeps sharp_id rows none nodes_id refl ∙ h.nodes;
+        files = flag_keeps sharp_id rows none files_id refl ∙ h.files;
+      }
+
   pub values_hold : s.values ≡ false → Holds (with_values s) (flag_used values_id rows)
   values_hold first =
       let none : found values_id rows ≡ None = h.values ∙ ap (flag_row values_id) first in
       record {
+        sharp = flag_keeps values_id rows none sharp_id refl ∙ h.sharp;
         values = flag_has values_id rows none refl;
         nodes = flag_keeps values_id rows none nodes_id refl ∙ h.nodes;
         files = flag_keeps values_id rows none files_id refl ∙ h.files;
@@ -120,6 +140,7 @@ module _ (s : Read) (rows : List Row) (h : Holds s rows) where
   nodes_hold first =
       let none : found nodes_id rows ≡ None = h.nodes ∙ ap (flag_row nodes_id) first in
       record {
+        sharp = flag_keeps nodes_id rows none sharp_id refl ∙ h.sharp;
         values = flag_keeps nodes_id rows none values_id refl ∙ h.values;
         nodes = flag_has nodes_id rows none refl;
         files = flag_keeps nodes_id rows none files_id refl ∙ h.files;
@@ -130,6 +151,10 @@ has_flag_row id true = refl
 has_flag_row id false = refl
 
 -- whether a flag has a row
+pub has_sharp : (s : Read) (rows : List Row) → Holds s rows → has_row sharp_id rows ≡ s.sharp
+has_sharp s rows h =
+    has_row_found sharp_id rows ∙ ap is_some h.sharp ∙ has_flag_row sharp_id s.sharp
+
 pub has_values : (s : Read) (rows : List Row) → Holds s rows → has_row values_id rows ≡ s.values
 has_values s rows h =
     has_row_found values_id rows ∙ ap is_some h.values ∙ has_flag_row values_id s.values
@@ -179,16 +204,20 @@ stands_from seen flag options = cond seen (once (stands flag options)) (stands f
 
 abbrev pub read_at : Read → List Word → List Word → Option Read
 read_at s options more = read (list_all is_flag options)
-    (stands_from s.values values_flag options) (stands_from s.nodes nodes_flag options)
-    (s.files ++ more)
+    (stands_from s.sharp sharp_flag options) (stands_from s.values values_flag options)
+    (stands_from s.nodes nodes_flag options) (s.files ++ more)
 
 pub read_file : (w : Word) (s : Read) (options more : List Word)
     → read_at (with_file w s) options more ≡ read_at s options (w ∷ more)
 read_file w s options more = ap (read (list_all is_flag options)
-    (stands_from s.values values_flag options) (stands_from s.nodes nodes_flag options))
-    (append_assoc s.files (w ∷ []) more)
+    (stands_from s.sharp sharp_flag options) (stands_from s.values values_flag options)
+    (stands_from s.nodes nodes_flag options)) (append_assoc s.files (w ∷ []) more)
 
 module _ (s : Read) (options more : List Word) where
+  pub read_sharp : s.sharp ≡ false
+      → read_at (with_sharp s) options more ≡ read_at s (sharp_flag ∷ options) more
+  read_sharp first = rw first refl
+
   pub read_values : s.values ≡ false
       → read_at (with_values s) options more ≡ read_at s (values_flag ∷ options) more
   read_values first = rw first refl
@@ -202,22 +231,35 @@ module _ (s : Read) (options more : List Word) where
   twice (Some true) = refl
   twice (Some false) = refl
 
-  no_values : (b : Bool) (nodes : Option Bool) (files : List Word) → read b None nodes files ≡ None
-  no_values true nodes files = refl
-  no_values false nodes files = refl
+  no_sharp : (b : Bool) (values nodes : Option Bool) (files : List Word)
+      → read b None values nodes files ≡ None
+  no_sharp true values nodes files = refl
+  no_sharp false values nodes files = refl
 
-  no_nodes : (b : Bool) (values : Option Bool) (files : List Word) → read b values None files ≡ None
-  no_nodes true None files = refl
-  no_nodes true (Some v) files = refl
-  no_nodes false values files = refl
+  no_values : (b : Bool) (sharp nodes : Option Bool) (files : List Word)
+      → read b sharp None nodes files ≡ None
+  no_values true None nodes files = refl
+  no_values true (Some s) nodes files = refl
+  no_values false sharp nodes files = refl
+
+  no_nodes : (b : Bool) (sharp values : Option Bool) (files : List Word)
+      → read b sharp values None files ≡ None
+  no_nodes true None values files = refl
+  no_nodes true (Some s) None files = refl
+  no_nodes true (Some s) (Some v) files = refl
+  no_nodes false sharp values files = refl
+
+  pub sharp_twice : s.sharp ≡ true → read_at s (sharp_flag ∷ options) more ≡ None
+  sharp_twice second = let none = twice (stands sharp_flag options) in
+      rw (second, none) (no_sharp _ _ _ _)
 
   pub values_twice : s.values ≡ true → read_at s (values_flag ∷ options) more ≡ None
   values_twice second = let none = twice (stands values_flag options) in
-      rw (second, none) (no_values _ _ _)
+      rw (second, none) (no_values _ _ _ _)
 
   pub nodes_twice : s.nodes ≡ true → read_at s (nodes_flag ∷ options) more ≡ None
   nodes_twice second = let none = twice (stands nodes_flag options) in
-      rw (second, none) (no_nodes _ _ _)
+      rw (second, none) (no_nodes _ _ _ _)
 
 -- ---- the end of a walk
 
@@ -231,6 +273,7 @@ end_fault h = or_else (settle_fault rules false h)
 abbrev pub Agrees : Option Read → Kinds → List Row → Type 0
 Agrees None kinds rs = kinds ≡ [] → ⊥
 Agrees (Some r) kinds rs = (kinds ≡ [])
+    × (one_of sharp_id rs ≡ Some (cond r.sharp (codes "true") (codes "false")))
     × (one_of values_id rs ≡ Some (cond r.values (codes "true") (codes "false")))
     × (one_of nodes_id rs ≡ Some (cond r.nodes (codes "true") (codes "false")))
     × (all_of files_id rs ≡ Some r.files)
@@ -270,7 +313,7 @@ others_kept id other rows differs = go (has_row id rows) refl
     go false e = rw e (other_row id DefaultValue (codes "false" ∷ []) other differs rows)
 
 abbrev all_defaulted : List Row → List Row
-all_defaulted rows = defaulted nodes_id (defaulted values_id rows)
+all_defaulted rows = defaulted nodes_id (defaulted values_id (defaulted sharp_id rows))
 
 rows_end : (rows : List Row) → fold with_default rows rules ≡ all_defaulted rows
 rows_end rows = either (has_row files_id (all_defaulted rows)) (all_defaulted rows)
@@ -280,47 +323,68 @@ no_kinds = []
 
 defaults_pass : (rows : List Row) → defaults_fault rows rules ≡ []
 unfolding defaults_fault
-defaults_pass rows = ap₂ or_else (passes (has_row values_id rows || false))
-    (ap₂ or_else (passes (has_row nodes_id (defaulted values_id rows) || false))
-    (ap₂ or_else (passes (has_row files_id (all_defaulted rows) || true)) refl))
+defaults_pass rows = ap₂ or_else (passes (has_row sharp_id rows || false))
+    (ap₂ or_else (passes (has_row values_id one || false))
+    (ap₂ or_else (passes (has_row nodes_id (defaulted values_id one) || false))
+    (ap₂ or_else (passes (has_row files_id (all_defaulted rows) || true)) refl)))
   where
+    one : List Row
+    one = defaulted sharp_id rows
+
     passes : (b : Bool) → cond b no_kinds no_kinds ≡ no_kinds
     passes b = either b no_kinds
 
-read_end : (s : Read) → read_at s [] [] ≡ read true (Some s.values) (Some s.nodes) s.files
-read_end s = ap₂ (λ v n. read true v n (s.files ++ [])) (flag_end s.values) (flag_end s.nodes)
-    ∙ ap (read true (Some s.values) (Some s.nodes)) (append-nil s.files)
+-- what is read where no word is left
+abbrev read_last : Read → List Word → Option Read
+read_last s files = read true (Some s.sharp) (Some s.values) (Some s.nodes) files
+
+read_end : (s : Read) → read_at s [] [] ≡ read_last s s.files
+read_end s = λ i. read true (flag_end s.sharp i) (flag_end s.values i) (flag_end s.nodes i)
+    (append-nil s.files i)
   where
     flag_end : (b : Bool) → cond b (Some true) (Some false) ≡ Some b
     flag_end true = refl
     flag_end false = refl
 
 module _ (s : Read) (rows : List Row) (h : Holds s rows) where
+  -- the rows after the default of `--sharp`, and after that of `--values`
+  abbrev first : List Row
+  first = defaulted sharp_id rows
+
+  abbrev second : List Row
+  second = defaulted values_id first
+
   abbrev last : List Row
   last = all_defaulted rows
 
   files_last : found files_id last ≡ file_row s.files
-  files_last = others_kept nodes_id files_id (defaulted values_id rows) refl
-      ∙ others_kept values_id files_id rows refl ∙ h.files
+  files_last = others_kept nodes_id files_id second refl
+      ∙ others_kept values_id files_id first refl ∙ others_kept sharp_id files_id rows refl
+      ∙ h.files
+
+  sharp_last : one_of sharp_id last ≡ Some (cond s.sharp (codes "true") (codes "false"))
+  sharp_last = ap (option_and_then row_text)
+      (others_kept nodes_id sharp_id second refl ∙ others_kept values_id sharp_id first refl)
+      ∙ flag_told sharp_id s.sharp rows refl h.sharp
 
   values_last : one_of values_id last ≡ Some (cond s.values (codes "true") (codes "false"))
-  values_last =
-      ap (option_and_then row_text) (others_kept nodes_id values_id (defaulted values_id rows) refl)
-      ∙ flag_told values_id s.values rows refl h.values
+  values_last = ap (option_and_then row_text) (others_kept nodes_id values_id second refl)
+      ∙ flag_told values_id s.values first refl
+      (others_kept sharp_id values_id rows refl ∙ h.values)
 
   nodes_last : one_of nodes_id last ≡ Some (cond s.nodes (codes "true") (codes "false"))
-  nodes_last = flag_told nodes_id s.nodes (defaulted values_id rows) refl
-      (others_kept values_id nodes_id rows refl ∙ h.nodes)
+  nodes_last = flag_told nodes_id s.nodes second refl
+      (others_kept values_id nodes_id first refl ∙ others_kept sharp_id nodes_id rows refl
+      ∙ h.nodes)
 
-  last_agrees : Agrees (read true (Some s.values) (Some s.nodes) s.files)
-      (check_fault top last false) last
+  last_agrees : Agrees (read_last s s.files) (check_fault top last false) last
   last_agrees = go s.files files_last
     where
       go : (fs : List Word) → found files_id last ≡ file_row fs
-          → Agrees (read true (Some s.values) (Some s.nodes) fs) (check_fault top last false) last
+          → Agrees (read_last s fs) (check_fault top last false) last
       go [] e = λ none. let bad : MissingRequiredArgument ∷ [] ≡ [] = rw e at none in cc
       go (f ∷ fs) e =
-          (rw e refl, values_last, nodes_last, ap (option_map (λ r. r.values)) e)
+          (rw e refl, sharp_last, values_last, nodes_last, ap (option_map (λ r. r.values)) e)
 
   settled_end : Agrees (read_at s [] [])
       (or_else (defaults_fault rows rules) (check_fault top (fold with_default rows rules) false))

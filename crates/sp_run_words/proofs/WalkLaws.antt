@@ -11,17 +11,18 @@ use Rattle.clap.specs.declared.error.kind.ErrorKind.TheVariants.{ArgumentConflic
 use Rattle.clap.proofs.FaultLemmas.{leaf_fault}
 use Rattle.sp_run_words.specs.Reader.{reader_app}
 use Rattle.sp_run_words.specs.Words.{Read, Word, files_of, is_option, nodes_flag, options_of}
-use Rattle.sp_run_words.specs.Words.{read_by, values_flag}
+use Rattle.sp_run_words.specs.Words.{read_by, sharp_flag, values_flag}
 use Rattle.sp_run_words.proofs.SeenLaws.{Agrees, Holds, at, end_agrees, end_fault, flag_used}
-use Rattle.sp_run_words.proofs.SeenLaws.{has_nodes, has_values, held, nodes_hold, nodes_id}
+use Rattle.sp_run_words.proofs.SeenLaws.{has_nodes, has_sharp, has_values, held, nodes_hold, nodes_id}
 use Rattle.sp_run_words.proofs.SeenLaws.{nodes_twice, nothing, nothing_holds, read_at, read_file}
-use Rattle.sp_run_words.proofs.SeenLaws.{read_nodes, read_values, rules, settle, settled_holds}
+use Rattle.sp_run_words.proofs.SeenLaws.{read_nodes, read_sharp, read_values, rules, settle}
+use Rattle.sp_run_words.proofs.SeenLaws.{settled_holds, sharp_holds, sharp_id, sharp_twice}
 use Rattle.sp_run_words.proofs.SeenLaws.{settled_rows, top, values_hold, values_id, values_twice}
-use Rattle.sp_run_words.proofs.SeenLaws.{with_nodes, with_values}
+use Rattle.sp_run_words.proofs.SeenLaws.{with_nodes, with_sharp, with_values}
 use Rattle.sp_run_words.proofs.WordLaws.{IsOther, IsRefused, IsValue, Sort, sort_of, options_more}
 use Rattle.sp_run_words.proofs.WordLaws.{files_more}
-use Rattle.sp_run_words.proofs.WordLaws.{end as sort_end, values as sort_values, nodes as sort_nodes}
-use Rattle.sp_run_words.proofs.WordLaws.{file as sort_file, other as sort_other}
+use Rattle.sp_run_words.proofs.WordLaws.{end as sort_end, sharp as sort_sharp, values as sort_values}
+use Rattle.sp_run_words.proofs.WordLaws.{nodes as sort_nodes, file as sort_file, other as sort_other}
 
 -- ---- one step
 
@@ -93,6 +94,13 @@ module _ (rows : List Row) where
   end_of_flags None = (refl, refl)
   end_of_flags (Some w) = (refl, refl)
 
+  first_sharp : (p : Option Word) → has_row sharp_id (settled_rows p rows) ≡ false
+      → Leads (at false p rows) sharp_flag
+      (at false None (flag_used sharp_id (settled_rows p rows)))
+  unfolding walked
+  first_sharp None first = (rw first refl, refl)
+  first_sharp (Some w) first = (rw first refl, refl)
+
   first_values : (p : Option Word) → has_row values_id (settled_rows p rows) ≡ false
       → Leads (at false p rows) values_flag
       (at false None (flag_used values_id (settled_rows p rows)))
@@ -106,6 +114,13 @@ module _ (rows : List Row) where
   unfolding walked
   first_nodes None first = (rw first refl, refl)
   first_nodes (Some w) first = (rw first refl, refl)
+
+  second_sharp : (p : Option Word) → has_row sharp_id (settled_rows p rows) ≡ true
+      → Fails (at false p rows) sharp_flag
+  second_sharp None second e =
+      let bad : ArgumentConflict ∷ [] ≡ [] = rw second at e in cc
+  second_sharp (Some w) second e =
+      let bad : ArgumentConflict ∷ [] ≡ [] = rw second at e in cc
 
   second_values : (p : Option Word) → has_row values_id (settled_rows p rows) ≡ true
       → Fails (at false p rows) values_flag
@@ -192,6 +207,24 @@ module _ (words : List Word) (rest : Onward words) (p : Option Word) (s : Read) 
         → WalkAgrees p s rows (flag ∷ words)
     flag_fails fails none = fails_at (at false p rows) flag words _ fails (apart ∙ none)
 
+  sharp_leads : WalkAgrees p s rows (sharp_flag ∷ words)
+  sharp_leads = go now.sharp refl
+    where
+      options : options_of (sharp_flag ∷ words) ≡ sharp_flag ∷ options_of words
+      options = options_more sharp_flag words refl
+
+      left : files_of (sharp_flag ∷ words) ≡ files_of words
+      left = files_more sharp_flag words refl
+
+      go : (b : Bool) → now.sharp ≡ b → WalkAgrees p s rows (sharp_flag ∷ words)
+      go false first = flag_leads sharp_flag options left (with_sharp now)
+          (flag_used sharp_id rows_now) (sharp_holds now rows_now holds first)
+          (first_sharp rows p (has_sharp now rows_now holds ∙ first))
+          (read_sharp now (options_of words) (files_of words) first)
+      go true second = flag_fails sharp_flag options left
+          (second_sharp rows p (has_sharp now rows_now holds ∙ second))
+          (sharp_twice now (options_of words) (files_of words) second)
+
   values_lead : WalkAgrees p s rows (values_flag ∷ words)
   values_lead = go now.values refl
     where
@@ -258,6 +291,8 @@ walk_agrees (word ∷ words) utf8 p s rows h = go (sort_of word utf8.0) (walk_ag
     go : Sort word → Onward words → WalkAgrees p s rows (word ∷ words)
     go (sort_end e) rest = subst (λ w. WalkAgrees p s rows (w ∷ words)) (sym e)
         (end_leads words rest p s rows h)
+    go (sort_sharp e) rest = subst (λ w. WalkAgrees p s rows (w ∷ words)) (sym e)
+        (sharp_leads words rest p s rows h)
     go (sort_values e) rest = subst (λ w. WalkAgrees p s rows (w ∷ words)) (sym e)
         (values_lead words rest p s rows h)
     go (sort_nodes e) rest = subst (λ w. WalkAgrees p s rows (w ∷ words)) (sym e)

@@ -12,8 +12,8 @@ use Rattle.clap.specs.declared.error.kind.ErrorKind.{ErrorKind}
 use Rattle.clap.specs.declared.error.kind.ErrorKind.TheVariants.{UnknownArgument, TooManyValues}
 use Rattle.clap.specs.Walk.{Row}
 use Rattle.sp_run_words.specs.Words.{Word, ends_flags, files_of, is_flag, is_option, nodes_flag}
-use Rattle.sp_run_words.specs.Words.{options_of, values_flag}
-use Rattle.sp_run_words.proofs.SeenLaws.{held, nodes_id, rules, top, values_id}
+use Rattle.sp_run_words.specs.Words.{options_of, sharp_flag, values_flag}
+use Rattle.sp_run_words.proofs.SeenLaws.{held, nodes_id, rules, sharp_id, top, values_id}
 
 -- `clap` refuses the word before `--`
 abbrev pub IsRefused : Word → Type 0
@@ -35,6 +35,7 @@ pub record IsOther (word : Word) : Type 0 where
 
 pub data Sort (word : Word) : Type 0 where
   end : word ≡ codes "--" → Sort word
+  sharp : word ≡ sharp_flag → Sort word
   values : word ≡ values_flag → Sort word
   nodes : word ≡ nodes_flag → Sort word
   file : is_option word ≡ false → IsValue word → Sort word
@@ -140,31 +141,36 @@ module _ (x : ℕ) (xs : List ℕ) where
           let again = (bytes_eq-Decides text id).1 (sym is) in
           absurd (true≢false (sym again ∙ differs))
 
-  long_refused : bytes_eq text values_id ≡ false → bytes_eq text nodes_id ≡ false
-      → IsRefused (45 ∷ 45 ∷ text)
-  long_refused no_values no_nodes =
-      go (bytes_eq values_id (name_in text)) (bytes_eq nodes_id (name_in text)) refl refl
+  long_refused : bytes_eq text sharp_id ≡ false → bytes_eq text values_id ≡ false
+      → bytes_eq text nodes_id ≡ false → IsRefused (45 ∷ 45 ∷ text)
+  long_refused no_sharp no_values no_nodes = go (bytes_eq sharp_id (name_in text))
+      (bytes_eq values_id (name_in text)) (bytes_eq nodes_id (name_in text)) refl refl refl
     where
-      go : (v n : Bool) → bytes_eq values_id (name_in text) ≡ v
-          → bytes_eq nodes_id (name_in text) ≡ n → IsRefused (45 ∷ 45 ∷ text)
-      go true n e f p rows =
-          let has = with_value values_id e no_values in (TooManyValues, rw (e, has) refl)
-      go false true e f p rows =
-          let has = with_value nodes_id f no_nodes in (TooManyValues, rw (e, f, has) refl)
-      go false false e f p rows = (UnknownArgument, rw (e, f) refl)
+      go : (s v n : Bool) → bytes_eq sharp_id (name_in text) ≡ s
+          → bytes_eq values_id (name_in text) ≡ v → bytes_eq nodes_id (name_in text) ≡ n
+          → IsRefused (45 ∷ 45 ∷ text)
+      go true v n d e f p rows =
+          let has = with_value sharp_id d no_sharp in (TooManyValues, rw (d, has) refl)
+      go false true n d e f p rows =
+          let has = with_value values_id e no_values in (TooManyValues, rw (d, e, has) refl)
+      go false false true d e f p rows =
+          let has = with_value nodes_id f no_nodes in (TooManyValues, rw (d, e, f, has) refl)
+      go false false false d e f p rows = (UnknownArgument, rw (d, e, f) refl)
 
   long_sort : Sort (45 ∷ 45 ∷ text)
-  long_sort = go (bytes_eq text values_id) (bytes_eq text nodes_id) refl refl
+  long_sort = go (bytes_eq text sharp_id) (bytes_eq text values_id) (bytes_eq text nodes_id)
+      refl refl refl
     where
-      go : (v n : Bool) → bytes_eq text values_id ≡ v → bytes_eq text nodes_id ≡ n
-          → Sort (45 ∷ 45 ∷ text)
-      go true n e f = values (ap (λ l. 45 ∷ 45 ∷ l) ((bytes_eq-Decides _ _).0 e))
-      go false true e f = nodes (ap (λ l. 45 ∷ 45 ∷ l) ((bytes_eq-Decides _ _).0 f))
-      go false false e f = other (record {
+      go : (s v n : Bool) → bytes_eq text sharp_id ≡ s → bytes_eq text values_id ≡ v
+          → bytes_eq text nodes_id ≡ n → Sort (45 ∷ 45 ∷ text)
+      go true v n d e f = sharp (ap (λ l. 45 ∷ 45 ∷ l) ((bytes_eq-Decides _ _).0 d))
+      go false true n d e f = values (ap (λ l. 45 ∷ 45 ∷ l) ((bytes_eq-Decides _ _).0 e))
+      go false false true d e f = nodes (ap (λ l. 45 ∷ 45 ∷ l) ((bytes_eq-Decides _ _).0 f))
+      go false false false d e f = other (record {
         option = refl;
         ends = refl;
-        differs = rw (e, f) refl;
-        refused = long_refused e f;
+        differs = rw (d, e, f) refl;
+        refused = long_refused d e f;
       })
 
 -- ---- each word

@@ -19,5 +19,5 @@ bare_app = on_top (λ s. record s {
 }) (new_app (codes "sparrow"))
 
 abbrev pub reader_app : App
-reader_app = with_rule (with_rule (with_rule bare_app (flag_rule (codes "values")))
-    (flag_rule (codes "nodes"))) file_rule
+reader_app = with_rule (with_rule (with_rule (with_rule bare_app (flag_rule (codes "sharp")))
+    (flag_rule (codes "values"))) (flag_rule (codes "nodes"))) file_rule

@@ -25,13 +25,21 @@ asked_of r = record { task = r.task; files = map (λ file. file.now) r.files.ite
 
 -- which flags stand, and the FILEs
 pub record Read : Type 0 where
+  pub sharp : Bool
   pub values : Bool
   pub nodes : Bool
   pub files : List Word
 
 abbrev pub read_of : CodeRead → Read
-read_of r =
-    record { values = r.values; nodes = r.nodes; files = map (λ file. file.now) r.files.items }
+read_of r = record {
+  sharp = r.sharp;
+  values = r.values;
+  nodes = r.nodes;
+  files = map (λ file. file.now) r.files.items;
+}
+
+abbrev pub sharp_flag : Word
+sharp_flag = codes "--sharp"
 
 abbrev pub values_flag : Word
 values_flag = codes "--values"
@@ -40,7 +48,7 @@ abbrev pub nodes_flag : Word
 nodes_flag = codes "--nodes"
 
 abbrev pub is_flag : Word → Bool
-is_flag word = bytes_eq word values_flag || bytes_eq word nodes_flag
+is_flag word = bytes_eq word sharp_flag || bytes_eq word values_flag || bytes_eq word nodes_flag
 
 abbrev pub ends_flags : Word → Bool
 ends_flags word = bytes_eq word (codes "--")
@@ -70,17 +78,14 @@ stands flag [] = Some false
 stands flag (word ∷ more) = if bytes_eq word flag then once (stands flag more) else stands flag more
 
 -- the options are flags, each at most once, and there is at least one FILE
-abbrev pub read : Bool → Option Bool → Option Bool → List Word → Option Read
-read true (Some values) (Some nodes) (file ∷ files) =
-    Some (record { values = values; nodes = nodes; files = file ∷ files })
-read true (Some values) (Some nodes) [] = None
-read true (Some values) None files = None
-read true None nodes files = None
-read false values nodes files = None
+abbrev pub read : Bool → Option Bool → Option Bool → Option Bool → List Word → Option Read
+read true (Some sharp) (Some values) (Some nodes) (file ∷ files) =
+    Some (record { sharp = sharp; values = values; nodes = nodes; files = file ∷ files })
+read known sharp values nodes files = None
 
 abbrev pub read_by : List Word → Option Read
-read_by words = read (list_all is_flag (options_of words)) (stands values_flag (options_of words))
-    (stands nodes_flag (options_of words)) (files_of words)
+read_by words = read (list_all is_flag (options_of words)) (stands sharp_flag (options_of words))
+    (stands values_flag (options_of words)) (stands nodes_flag (options_of words)) (files_of words)
 
 -- ---- all the words
 
@@ -90,16 +95,17 @@ command_of word = if bytes_eq word (codes "analyse") then Some (command.Analysis
     else if bytes_eq word (codes "calls") then Some command.Calls else None
 
 -- what a command wants with these flags; `calls` has none
-abbrev pub task_by : Command → Bool → Bool → Option Task
-task_by (command.Analysis engine) values nodes = Some (task.Report engine values nodes)
-task_by command.Calls values nodes = if values || nodes then None else Some task.Calls
+abbrev pub task_by : Command → Bool → Bool → Bool → Option Task
+task_by (command.Analysis engine) sharp values nodes = Some (task.Report engine sharp values nodes)
+task_by command.Calls sharp values nodes =
+    if sharp || values || nodes then None else Some task.Calls
 
 abbrev pub asked : List Word → Option Task → Option Asked
 asked files None = None
 asked files (Some wanted) = Some (record { task = wanted; files = files })
 
 abbrev pub asked_by : Command → Read → Option Asked
-asked_by c r = asked r.files (task_by c r.values r.nodes)
+asked_by c r = asked r.files (task_by c r.sharp r.values r.nodes)
 
 -- what the words ask for, or none where they don't fit
 abbrev pub fits : List Word → Option Asked

@@ -3,7 +3,7 @@
 ghost use Rattle.std.specs.Prelude.{◌≡◌, IfOk, map, option_map, string_bytes};
 ghost use Rattle.sp_run_words.specs.Words.{asked_of, command_of, fits, read_by, read_of, task_by};
 
-use crate::reader::{FILES, NODES, VALUES, reader};
+use crate::reader::{FILES, NODES, SHARP, VALUES, reader};
 use clap::error::ErrorKind;
 use std::alloc::{AllocError, Global};
 
@@ -22,6 +22,8 @@ pub enum Task {
     /// The report by an engine.
     Report {
         engine: Engine,
+        /// Whether a run goes on behind an access as its check says, by `--sharp`.
+        sharp: bool,
         /// Whether it goes on with values, by `--values`.
         values: bool,
         /// Whether it goes on with the alarms of each node, by `--nodes`.
@@ -59,17 +61,18 @@ fn command_of(word: &str) -> Option<Command>
 }
 
 /// What a command wants with these flags.
-fn task_by(command: Command, values: bool, nodes: bool) -> Option<Task>
-    ensures { result ≡ task_by command values nodes }
+fn task_by(command: Command, sharp: bool, values: bool, nodes: bool) -> Option<Task>
+    ensures { result ≡ task_by command sharp values nodes }
 {
     match command {
         Command::Analysis(engine) => Some(Task::Report {
             engine,
+            sharp,
             values,
             nodes,
         }),
         Command::Calls => {
-            if values || nodes {
+            if sharp || values || nodes {
                 None
             } else {
                 Some(Task::Calls)
@@ -81,6 +84,7 @@ fn task_by(command: Command, values: bool, nodes: bool) -> Option<Task>
 /// The words behind the first: which flags stand, and the FILEs.
 #[derive(Drop)]
 struct Read<'a> {
+    sharp: bool,
     values: bool,
     nodes: bool,
     files: Vec<&'a str>,
@@ -96,10 +100,12 @@ fn read_words<'a>(alloc: Global, words: &'a [String]) -> Result<Option<Read<'a>>
         Err(error) if error.kind() == ErrorKind::OutOfMemory => return Err(AllocError),
         Err(_) => return Ok(None),
     };
+    let sharp = matches.get_flag(SHARP);
     let values = matches.get_flag(VALUES);
     let nodes = matches.get_flag(NODES);
     let files = Vec::from_slice(alloc, matches.get_strs(FILES).unwrap_or(&[]))?;
     Ok(Some(Read {
+        sharp,
         values,
         nodes,
         files,
@@ -121,11 +127,12 @@ pub fn request_of<'a>(alloc: Global, words: &'a [String]) -> Result<Option<Reque
         return Ok(None);
     };
     let Read {
+        sharp,
         values,
         nodes,
         files,
     } = found;
-    match task_by(command, values, nodes) {
+    match task_by(command, sharp, values, nodes) {
         Some(task) => Ok(Some(Request { task, files })),
         None => Ok(None),
     }

@@ -1,5 +1,5 @@
 -- What may go wrong at a node hangs on what the node uses.
-use Rattle.std.proofs.Common.{◌≡◌, ◌<◌, ◌^◌, ℕ, true, List, Option, Some, None, refl, sym, ap, ◌∙◌}
+use Rattle.std.proofs.Common.{◌≡◌, ◌^◌, ℕ, true, List, Option, Some, None, refl, sym, ap, ◌∙◌}
 use Rattle.std.specs.Prelude.{slice_get}
 use Rattle.sp_lattice.specs.System.{has}
 use Rattle.sp_base_sets.proofs.Members.{has_there}
@@ -8,7 +8,7 @@ use Rattle.sp_value.specs.Slots.{known_in}
 use Rattle.sp_value.specs.Locations.{location_of, known_at}
 use Rattle.sp_points_rules.specs.Puts.{command_in}
 use Rattle.sp_effect_rows.specs.Rows.{Store}
-use Rattle.sp_effect_rows.specs.Setting.{count, cell_of}
+use Rattle.sp_effect_rows.specs.Setting.{cell_of}
 use Rattle.sp_effect_rows.specs.Laws.{UnderCeiling, AgreeAt}
 use Rattle.sp_effect_rows.proofs.SettingLaws.{location-found, cells-within}
 use Rattle.sp_effect_assign.specs.Scene.{known_in_regions}

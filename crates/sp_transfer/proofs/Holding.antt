@@ -1,13 +1,13 @@
 -- A slot is held where to store it once more changes nothing.
-use Rattle.std.proofs.Common.{◌≡◌, Bool, true, false, ◌&&◌, List, ℤ, refl, sym, ap, ◌∙◌, subst}
+use Rattle.std.proofs.Common.{◌≡◌, true, List, ℤ, refl, sym, ◌∙◌, subst}
 use Rattle.std.proofs.lemmas.Bool.{false≢true}
 use Rattle.sp_lattice.specs.Ladder.{IsLadder}
 use Rattle.sp_value.specs.declared.slots.Slot.{Slot}
 use Rattle.sp_value.specs.declared.slots.Slot.TheVariants.{Nothing, Plain}
 use Rattle.sp_value.specs.Tests.{both, first, second}
-use Rattle.sp_value.specs.Known.{Known, known_le, none, is_none}
+use Rattle.sp_value.specs.Known.{known_le}
 use Rattle.sp_value.specs.KnownLaws.{known-refl}
-use Rattle.sp_value.specs.Slots.{slot_le, known_in, known_of}
+use Rattle.sp_value.specs.Slots.{slot_le, known_in}
 use Rattle.sp_value.specs.SlotLaws.{slot-antisym, known_in-formed}
 use Rattle.sp_value.specs.Held.{IsHeldSlot, stored}
 use Rattle.sp_value.specs.HeldLaws.{stored-held, stored-above, stored-below_held}

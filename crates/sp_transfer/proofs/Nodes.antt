@@ -1,5 +1,5 @@
 -- The commands of an analysed program's nodes.
-use Rattle.std.proofs.Common.{◌≡◌, ◌<◌, ◌≤◌, ℕ, zero, suc, true, List, [], ◌∷◌, Option, Some, None, length, map, get_or, refl, sym, ap, ◌∙◌, subst, arith}
+use Rattle.std.proofs.Common.{◌≡◌, ◌<◌, ◌≤◌, ℕ, zero, suc, true, List, [], ◌∷◌, Option, Some, None, length, map, get_or, refl, sym, ap, arith}
 use Rattle.std.specs.Prelude.{slice_get}
 use Rattle.std.proofs.Props.{props}
 use Rattle.std.proofs.Math.Logic.{∥∥₁_elim}
@@ -23,7 +23,7 @@ mapped-at f (y ∷ ys) zero x low is = ap (λ z. Some (f z)) (sym is)
 mapped-at f (y ∷ ys) (suc i) x low is = mapped-at f ys i x (omega arith) is
 
 -- each is proper
-formed-proper : (a : Analysed) → IsAnalysed a → (n : ℕ) (c : Command) → command_at a.program n ≡ c → is_proper_command a.program c ≡ true
+pub formed-proper : (a : Analysed) → IsAnalysed a → (n : ℕ) (c : Command) → command_at a.program n ≡ c → is_proper_command a.program c ≡ true
 formed-proper a whole n c is =
     let found = command-formed a.program whole.formed n c is in
     command-proper a.program whole.formed found.0 n c found.1

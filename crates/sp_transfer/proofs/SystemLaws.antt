@@ -35,10 +35,10 @@ times n r k h = grind (arith, h)
 bounded : (k t n r : ℕ) → k ≤ 1 + t + n * (1 + 2 * t) → n ≤ r → k ≤ 1 + t + r * (1 + 2 * t)
 bounded k t n r h g = let m = times n r (1 + 2 * t) g in omega (arith, h, m)
 
--- 200,000 regions and 793 points of the ladder
-high : (t r : ℕ) → t ≤ 793 → r ≤ 200000 → 1 + t + r * (1 + 2 * t) < 2 ^ 32
+-- 200,000 regions and 3,097 points of the ladder
+high : (t r : ℕ) → t ≤ 3097 → r ≤ 200000 → 1 + t + r * (1 + 2 * t) < 2 ^ 32
 high t r h g =
-    let wide : 1 + 2 * t ≤ 1587 = omega (arith, h) in
+    let wide : 1 + 2 * t ≤ 6195 = omega (arith, h) in
     let m : r * (1 + 2 * t) ≤ 200000 * (1 + 2 * t) = times r 200000 (1 + 2 * t) g in
     omega (arith, h, wide, m)
 
@@ -70,15 +70,15 @@ module _ (e : Equations) (whole : IsAnalysed e.analysed) (are : AreEquations e) 
     defs_below = λ k low. (are.defs k low).below;
     uses_ascend = λ k low. (are.uses k low).ascend;
     uses_below = λ k low. (are.uses k low).below;
-    monotone = λ k s t low held below under. (effect-lawful e.analysed whole (number_of e k)).monotone s t (held-store s held) below under;
-    capped = λ k low. (effect-lawful e.analysed whole (number_of e k)).capped;
+    monotone = λ k s t low held below under. (effect-lawful e.analysed whole e.sharp (number_of e k)).monotone s t (held-store s held) below under;
+    capped = λ k low. (effect-lawful e.analysed whole e.sharp (number_of e k)).capped;
     bottom_held = held-to e.analysed.ladder whole.ladder Nothing tt;
     join_held = λ l a b low h g under other. held-to e.analysed.ladder whole.ladder (slot_join a b)
         (slot_join-held e.analysed.ladder whole.ladder a b (held-from e.analysed.ladder whole.ladder a h) (held-from e.analysed.ladder whole.ladder b g));
-    effect_held = λ k s low held below l l_low. held-to e.analysed.ladder whole.ladder (effect_at e.analysed (number_of e k) s l)
-        ((effect-lawful e.analysed whole (number_of e k)).held s (held-store s held) below l l_low);
-    frame = λ k l s low l_low below other. (effect-lawful e.analysed whole (number_of e k)).frame s l l_low below (sym ((are.defs k low).are l) ∙ other);
-    support = λ k l s t low below below' agree defined. (effect-lawful e.analysed whole (number_of e k)).support s t l (defined-low k l low defined) below below' (agree-at k s t low agree) (sym ((are.defs k low).are l) ∙ defined);
+    effect_held = λ k s low held below l l_low. held-to e.analysed.ladder whole.ladder (effect_at e.analysed e.sharp (number_of e k) s l)
+        ((effect-lawful e.analysed whole e.sharp (number_of e k)).held s (held-store s held) below l l_low);
+    frame = λ k l s low l_low below other. (effect-lawful e.analysed whole e.sharp (number_of e k)).frame s l l_low below (sym ((are.defs k low).are l) ∙ other);
+    support = λ k l s t low below below' agree defined. (effect-lawful e.analysed whole e.sharp (number_of e k)).support s t l (defined-low k l low defined) below below' (agree-at k s t low agree) (sym ((are.defs k low).are l) ∙ defined);
     rises = λ a b h g below above. slot_rank-rises e.analysed.ladder whole.ladder a b (held-from e.analysed.ladder whole.ladder a h) (held-from e.analysed.ladder whole.ladder b g) below above;
     ranked = λ l a low held below. rank-most l a below;
     height_below = high (length e.analysed.ladder) (length e.analysed.program.regions) whole.few_points whole.formed.few_regions;

@@ -27,15 +27,15 @@ use Rattle.sp_effect_library.specs.Written.{written_by}
 use Rattle.sp_effect_library.specs.Effects.{written_to, moved_reads, library_reads}
 use Rattle.sp_transfer.specs.Effects.{used_by}
 
-or-right : (a b : Bool) → b ≡ true → (a || b) ≡ true
+pub or-right : (a b : Bool) → b ≡ true → (a || b) ≡ true
 or-right true b h = refl
 or-right false b h = h
 
-or-left : (a b : Bool) → a ≡ true → (a || b) ≡ true
+pub or-left : (a b : Bool) → a ≡ true → (a || b) ≡ true
 or-left true b h = refl
 or-left false b h = absurd (false≢true h)
 
-split : (xs ys : List ℕ) (r : ℕ) → Among (xs ++ ys) r → Among xs r ⊎ Among ys r
+pub split : (xs ys : List ℕ) (r : ℕ) → Among (xs ++ ys) r → Among xs r ⊎ Among ys r
 split [] ys r h = inr h
 split (x ∷ xs) ys r h = by (or_cases (nat_eq r x) (has r (xs ++ ys)) h) (split xs ys r)
   where

@@ -1,5 +1,5 @@
 -- The effect of each node of an analysed program, with the locations that it defines and uses.
-use Rattle.std.specs.Prelude.{ℕ, Bool, false, List, Option, Some, None}
+use Rattle.std.specs.Prelude.{ℕ, Bool, false, cond, not, ◌&&◌, ◌||◌, List, [], Option, Some, None}
 use Rattle.sp_lattice.specs.System.{has}
 use Rattle.sp_lattice.specs.declared.relations.Relation.{Relation}
 use Rattle.sp_ir.specs.Commands.{Expression, Command, start, entry, exit, skip, assign, copy, init, assume, eval, call, return, library, outside}
@@ -12,6 +12,8 @@ use Rattle.sp_effect_rows.specs.Setting.{cell_of}
 use Rattle.sp_effect_rows.specs.Storing.{may_hit}
 use Rattle.sp_effect_assign.specs.Destinations.{destination, assigning, assign_uses}
 use Rattle.sp_effect_assume.specs.Conditions.{assuming, assume_defines, assume_uses}
+use Rattle.sp_effect_checks.specs.Accesses.{Access, command_accesses}
+use Rattle.sp_effect_checks.specs.Cuts.{checked, cut_names}
 use Rattle.sp_effect_scene.specs.Analysed.{Analysed, setting_of, scene_of}
 use Rattle.sp_effect_entry.specs.Starts.{starting, start_defines, start_uses}
 use Rattle.sp_effect_entry.specs.Entries.{entering, entry_defines}
@@ -79,17 +81,53 @@ used_by a n (return c to) = return_uses a c to
 used_by a n (library which to args site) = library_uses a args site which to
 used_by a n (outside to args site) = outside_uses a to args
 
+-- ---- what is known behind accesses
+
+-- what a command accesses through pointers; in the sharp mode a run goes on behind an access as its
+-- check says, and else nothing is known behind it
+abbrev pub accessed_by : Bool → Command → List Access
+accessed_by sharp c = cond sharp (command_accesses c) []
+
+-- the locations to which a command may write: a condition writes nothing
+abbrev pub written_by : Analysed → ℕ → Command → ℕ → Bool
+written_by a n start = start_defines a
+written_by a n (entry f) = entry_defines a f
+written_by a n (exit f) = λ l. false
+written_by a n skip = λ l. false
+written_by a n (assign to e) = may_hit (destination (scene_of a) to)
+written_by a n (copy to from) = may_hit (leaf_destination a to)
+written_by a n (init o values zeros) = init_defines a o
+written_by a n (assume e op f) = λ l. false
+written_by a n (eval e) = λ l. false
+written_by a n (call callee args) = call_defines a n
+written_by a n (return c to) = result_defines a to
+written_by a n (library which to args site) = library_defines a args site which to
+written_by a n (outside to args site) = result_defines a to
+
+-- the locations of which an access leaves what it asks for
+abbrev pub cut_by : Analysed → Bool → ℕ → Command → ℕ → Bool
+cut_by a sharp n c l = cut_names (scene_of a) (accessed_by sharp c) l && not (written_by a n c l)
+
 -- ---- nodes
 
-abbrev pub row_at : Analysed → ℕ → Store → Row
-row_at a n = row_of a n (command_at a.program n)
+-- what the command of a node makes of a store, and what its accesses leave of that
+abbrev pub row_at : Analysed → Bool → ℕ → Store → Row
+row_at a sharp n = checked (scene_of a) (written_by a n (command_at a.program n))
+    (accessed_by sharp (command_at a.program n)) (row_of a n (command_at a.program n))
 
-abbrev pub defined_at : Analysed → ℕ → ℕ → Bool
-defined_at a n = defined_by a n (command_at a.program n)
+-- the locations that the command of a node may change, and those that its accesses cut
+abbrev pub own_at : Analysed → ℕ → ℕ → Bool
+own_at a n = defined_by a n (command_at a.program n)
+
+abbrev pub cut_at : Analysed → Bool → ℕ → ℕ → Bool
+cut_at a sharp n = cut_by a sharp n (command_at a.program n)
+
+abbrev pub defined_at : Analysed → Bool → ℕ → ℕ → Bool
+defined_at a sharp n l = own_at a n l || cut_at a sharp n l
 
 abbrev pub used_at : Analysed → ℕ → ℕ → Bool
 used_at a n = used_by a n (command_at a.program n)
 
 -- what a node makes of the store that reaches it
-abbrev pub effect_at : Analysed → ℕ → Store → Store
-effect_at a n s = applied (row_at a n s) s
+abbrev pub effect_at : Analysed → Bool → ℕ → Store → Store
+effect_at a sharp n s = applied (row_at a sharp n s) s

@@ -22,6 +22,8 @@ use Rattle.sp_transfer.specs.Accesses.{Accesses}
 -- into it (by their places among the nodes), the locations that it defines, and those that it uses.
 pub record Equations : Type 0 where
   pub analysed : Analysed
+  -- whether a run goes on behind an access as its check says
+  pub sharp : Bool
   pub graph : Graph
   pub into : List (List ℕ)
   pub defs : List (List ℕ)
@@ -65,7 +67,7 @@ meaning_of e = record {
   passes = λ from to. passes_between e.graph (number_of e from) (number_of e to);
   defs = row e.defs;
   uses = row e.uses;
-  effect = λ k. effect_at e.analysed (number_of e k);
+  effect = λ k. effect_at e.analysed e.sharp (number_of e k);
   ceiling = ceiling (setting_of e.analysed);
   held = λ a. is_held e.analysed.ladder a ≡ true;
   rank = slot_rank e.analysed.ladder;
@@ -85,11 +87,11 @@ pub record AreEquations (e : Equations) : Type 0 where
   pub supergraph : IsSupergraph e.analysed.program e.analysed.told.calls true e.graph
   pub calls : e.graph.calls ≡ e.analysed.told.calls
   pub accessed : (f l : ℕ) → IsReached e.analysed.program e.analysed.told.calls f
-      → (accesses e.graph.accessed f l ≡ true) ↔ Accesses e.analysed f l
+      → (accesses e.graph.accessed f l ≡ true) ↔ Accesses e.analysed e.sharp f l
   -- just the nodes from which an edge leads there
   pub into : (j k : ℕ) → k < length (nodes_of e) → has j (row e.into k)
       ≡ (nat_lt j (length (nodes_of e)) && is_joined e.graph (number_of e j) (number_of e k))
   pub defs : (k : ℕ) → k < length (nodes_of e)
-      → AreLocations e.analysed (defined_at e.analysed (number_of e k)) (row e.defs k)
+      → AreLocations e.analysed (defined_at e.analysed e.sharp (number_of e k)) (row e.defs k)
   pub uses : (k : ℕ) → k < length (nodes_of e)
       → AreLocations e.analysed (used_at e.analysed (number_of e k)) (row e.uses k)

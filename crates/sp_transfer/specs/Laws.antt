@@ -1,5 +1,5 @@
 -- The laws of effects, as the layers above use them.
-use Rattle.std.specs.Prelude.{◌≡◌, ℕ, Some, slice_get}
+use Rattle.std.specs.Prelude.{◌≡◌, ℕ, Bool, Some, slice_get}
 use Rattle.sp_lattice.specs.System.{IsSystem}
 use Rattle.sp_value.specs.Slots.{slot_order}
 use Rattle.sp_ir.specs.Commands.{Node}
@@ -16,8 +16,8 @@ use Rattle.sp_transfer.specs.Equations.{Equations, AreEquations, meaning_of}
 -- what the node defines alone, and that hangs on what the node uses. So its equations are a system.
 -- What may go wrong at a node hangs on what it uses, too.
 pub record TransferLaws : Type 0 where
-  pub effects : (a : Analysed) → IsAnalysed a → (n : ℕ)
-      → IsEffect (setting_of a) (defined_at a n) (used_at a n) (effect_at a n)
+  pub effects : (a : Analysed) → IsAnalysed a → (sharp : Bool) (n : ℕ)
+      → IsEffect (setting_of a) (defined_at a sharp n) (used_at a n) (effect_at a sharp n)
   pub alarms : (a : Analysed) → IsAnalysed a → (n : ℕ) (node : Node)
       → slice_get a.program.nodes n ≡ Some node → (s t : Store) → UnderCeiling (setting_of a) s
       → AgreeAt (used_at a n) s t

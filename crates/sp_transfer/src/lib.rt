@@ -18,6 +18,7 @@
 
 mod effects;
 mod laws;
+mod parts;
 
-pub use effects::effect;
+pub use effects::{Cuts, Definitions, accessed_by, effect};
 pub use laws::effects_are_lawful;

@@ -1,9 +1,8 @@
-use Rattle.std.proofs.Common.{◌≡◌, ◌∙◌, ◌↔◌, ◌<◌, ◌^◌, ℕ, List, true, length, sym, ap, subst, arith}
+use Rattle.std.proofs.Common.{◌≡◌, ◌∙◌, ◌↔◌, ℕ, List, true, length, sym, ap, subst, arith}
 use Rattle.sp_base_sets.specs.Sets.{has}
 use Rattle.sp_base_sets.specs.Reached.{row, Reached}
 use Rattle.sp_effect_scene.specs.View.{analysed_of}
 use Rattle.sp_defuse.specs.Accessed.{is_called}
-use Rattle.sp_defuse.specs.StandIns.{StandFor}
 use Rattle.sp_defuse.proofs.StandFors.{owners-low, accessed-are}
 use Rattle.sp_defuse.proofs.Touching.{locations-few, touched-low, called-low}
 use Rattle.sp_defuse.proofs.accessed.accessed.Goals as goal
@@ -23,7 +22,7 @@ spread_all-requires-clause-owners c = λ l f h.
     let a = analysed_of c.args.analysis.now in
     let bound = length (a.program.functions) in
     let low = owners-low c.in_ok-callers.callers.items c.in_ok-owners.owners.items c.stand_ins_of.new.owners.items c.in_ok-stand_ins.stand_ins.items c.in_ok-stand_ins.ensures bound
-    (λ k g there. touched-low a c.args.analysis.now.flow.nodes c.args.analysis.now.whole k g (sym (c.in_ok-owners.ensures.touched k g) ∙ there))
+    (λ k g there. touched-low a c.args.analysis.now.flow.nodes c.args.analysis.now.whole c.args.sharp k g (sym (c.in_ok-owners.ensures.touched k g) ∙ there))
     l f (sym (ap (λ (sets : List (List ℕ)). has f (row sets l)) c.deref-2.ensures.value) ∙ h) in
     omega (arith, low, ap length c.deref.ensures.value, c.in_ok-callers.ensures.long)
 

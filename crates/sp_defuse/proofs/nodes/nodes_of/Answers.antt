@@ -11,6 +11,6 @@ loop-number-preserved c =
     let i = c.loop-number.number-index in
     let ns = c.nodes-number-items.result.now in
     let next : suc i ≡ i + 1 = omega arith in
-    subst (λ xs. AreNodes a (take (i + 1) ns) xs) (sym {A = List Node} c.in_ok-push.ensures.items)
-    (subst (λ k. AreNodes a (take k ns) (c.loop-number.nodes.items ++ c.in_ok-node_at.field-0 ∷ [])) next
-    (each-next (IsNode a) ns c.loop-number.nodes.items i 0 c.in_ok-node_at.field-0 c.loop-number-test.true c.loop-number.invariant c.in_ok-node_at.ensures))
+    subst (λ xs. AreNodes a c.args.sharp (take (i + 1) ns) xs) (sym {A = List Node} c.in_ok-push.ensures.items)
+    (subst (λ k. AreNodes a c.args.sharp (take k ns) (c.loop-number.nodes.items ++ c.in_ok-node_at.field-0 ∷ [])) next
+    (each-next (IsNode a c.args.sharp) ns c.loop-number.nodes.items i 0 c.in_ok-node_at.field-0 c.loop-number-test.true c.loop-number.invariant c.in_ok-node_at.ensures))

@@ -1,14 +1,14 @@
-use Rattle.std.proofs.Common.{◌∙◌, ◌||◌, ap}
-use Rattle.sp_lattice.specs.System.{has}
-use Rattle.sp_effect_rows.specs.Setting.{cell_of}
-use Rattle.sp_effect_scene.specs.Analysed.{setting_of}
+use Rattle.std.proofs.Common.{length, sym, ap, ◌∙◌, arith}
 use Rattle.sp_effect_scene.specs.View.{analysed_of}
 use Rattle.sp_transfer.specs.Effects.{defined_at}
+use Rattle.sp_transfer.proofs.Cutting.{uncut-defined}
 use Rattle.sp_effect_uses.proofs.Listed.{are-locations}
+use Rattle.sp_effect_uses.proofs.Cut.{none-there}
 use Rattle.sp_effect_uses.proofs.lists.definitions.Goals as goal
 
-pub returns : goal.returns
-returns c =
-    are-locations (analysed_of c.args.analysis.now) (defined_at (analysed_of c.args.analysis.now) c.args.node) c.in_ok-places.places c.in_ok-list.list.items c.in_ok-list.ensures.numbers c.in_ok-list.ensures.ascending
-    (λ l. c.in_ok-places.ensures.places l ∙ c.in_ok-add_defined.ensures l ∙ ap (λ ns. has (cell_of (setting_of (analysed_of c.args.analysis.now)) l) ns || defined_at (analysed_of c.args.analysis.now) c.args.node l) c.new-regions.ensures)
-    c.in_ok-places.ensures.low
+pub returns-in_ok-places-clause-places : goal.returns-in_ok-places-clause-places
+returns-in_ok-places-clause-places c =
+    let a = analysed_of c.args.analysis.now in
+    are-locations a (defined_at a c.args.sharp c.args.node) c.in_ok-own.own c.in_ok-places.places.items c.in_ok-places.ensures.numbers c.in_ok-places.ensures.ascending
+    (λ l. c.in_ok-own.ensures.places l ∙ sym (uncut-defined a c.args.sharp c.args.node l (sym (c.in_ok-cut.ensures.places l) ∙ none-there c.in_ok-cut.cut l (omega (arith, c.if-as_slice-eq0.true, ap length c.as_slice.ensures.numbers)))))
+    c.in_ok-own.ensures.low

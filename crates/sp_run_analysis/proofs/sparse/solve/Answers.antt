@@ -5,6 +5,6 @@ pub returns-clause-gives : goal.returns-clause-gives
 returns-clause-gives g c =
     let program = c.args.program.now in (
       (_, c.in-Ok.ensures.exact, c.in-Ok.ensures.few),
-      reported-sparsely c.args.names.now c.args.details _ _ _ _ program.analysis.whole program.equations
+      reported-sparsely c.args.names.now c.args.wanted _ _ _ _ program.analysis.whole program.equations
           c.solution_laws.ensures.laws.inputs_under c.in_ok-table.ensures.solved c.in_ok-report.ensures,
     )

@@ -5,12 +5,12 @@ use Rattle.sp_run_command.proofs.analysis.answer_sparsely.Goals as goal
 
 pub returns-in-Reported-clause-answer : goal.returns-in-Reported-clause-answer
 returns-in-Reported-clause-answer g c =
-    reported-sparsely (lowered_of c.args.lowered) c.args.names.now c.args.details _ _ c.reported.result.status c.reported.result.text.items
+    reported-sparsely (lowered_of c.args.lowered) c.args.names.now c.args.wanted _ _ c.reported.result.status c.reported.result.text.items
     c.in_ok-report.field-0 c.in-Reported.report c.in_ok-report.ensures.ends c.in-Reported.is (ap (λ t. t.items) c.reported.ensures.text) c.reported.ensures.status
 
 pub returns-in-TooMany-clause-answer : goal.returns-in-TooMany-clause-answer
 returns-in-TooMany-clause-answer g c =
     by_both c.too_large.result _ _ _
-    (λ a refused same. too-large-sparsely (lowered_of c.args.lowered) c.args.names.now c.args.details _ _ a.status a.text.items
+    (λ a refused same. too-large-sparsely (lowered_of c.args.lowered) c.args.names.now c.args.wanted _ _ a.status a.text.items
     c.in_ok-report.field-0 c.in_ok-report.ensures.ends c.in-TooMany.is refused same)
     c.too_large.ensures.status c.too_large.ensures.text

@@ -18,6 +18,7 @@ returns c =
     let reads : app_of c.in_ok-reader.field-0 ≡ reader_app = search rules in
     let passes = c.in-Ok.ensures.kinds (ap is_simple_and_free reads ∙ is_free) in
     let rows = c.in-Ok.ensures.matches (ap is_simple reads) in
-    is_read c.args.words.now _ reads c.in-Ok.matches c.get_flag-values.result
-    c.get_flag-nodes.result c.get_strs.result c.in_ok-files.files.items passes rows.0
-    (search rules, search rules) (search rules, search rules) (search rules) (search rules)
+    is_read c.args.words.now _ reads c.in-Ok.matches c.get_flag-sharp.result
+    c.get_flag-values.result c.get_flag-nodes.result c.get_strs.result c.in_ok-files.files.items
+    passes rows.0 (search rules, search rules) (search rules, search rules)
+    (search rules, search rules) (search rules) (search rules)

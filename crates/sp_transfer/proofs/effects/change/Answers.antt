@@ -3,8 +3,8 @@ use Rattle.std.specs.Prelude.{slice_get}
 use Rattle.std.proofs.lemmas.List.{length-map}
 use Rattle.sp_ir.specs.Programs.{lowered_of}
 use Rattle.sp_ir.specs.View.{node_of, command_of}
-use Rattle.sp_points_rules.specs.Puts.{command_in, command_at}
-use Rattle.sp_effect_rows.specs.Rows.{applied, untouched}
+use Rattle.sp_points_rules.specs.Puts.{command_in}
+use Rattle.sp_effect_rows.specs.Rows.{applied}
 use Rattle.sp_effect_rows.specs.Updates.{store_of}
 use Rattle.sp_effect_rows.proofs.UpdateLaws.{join-nothing}
 use Rattle.sp_effect_scene.specs.View.{analysed_of}

@@ -39,7 +39,7 @@ pub invariant_of-result-clause-same : goal.invariant_of-result-clause-same
 invariant_of-result-clause-same c = c.in_ok-flow.ensures.nodes
 
 pub invariant_of-result-clause-numbers : goal.invariant_of-result-clause-numbers
-invariant_of-result-clause-numbers c = numbers-are (analysed_of c.args.analysis) c.args.analysis.flow.nodes c.in_ok-nodes.nodes.items c.in_ok-nodes.ensures ∙ sym c.in_ok-flow.ensures.nodes
+invariant_of-result-clause-numbers c = numbers-are (analysed_of c.args.analysis) c.args.sharp c.args.analysis.flow.nodes c.in_ok-nodes.nodes.items c.in_ok-nodes.ensures ∙ sym c.in_ok-flow.ensures.nodes
 
 pub invariant_of-result-clause-long : goal.invariant_of-result-clause-long
 invariant_of-result-clause-long c = each-long (IsSources c.in_ok-flow.flow) c.in_ok-flow.flow.nodes c.in_ok-sources.sources.items c.in_ok-sources.ensures
@@ -52,8 +52,11 @@ invariant_of-result-clause-equations c =
     let a = analysed_of c.args.analysis in
     let flow = c.args.analysis.flow in
     let g = c.in_ok-flow.flow in
-    equations-known a flow c.args.analysis.graphed g c.in_ok-nodes.nodes.items c.in_ok-sources.sources.items
+    equations-known a flow c.args.analysis.graphed c.args.sharp g c.in_ok-nodes.nodes.items c.in_ok-sources.sources.items
     (subst (λ (calls : Callees). IsSupergraph a.program calls false flow → IsSupergraph a.program calls true g) c.calls.ensures c.in_ok-flow.ensures.graph)
     c.in_ok-flow.ensures.nodes (c.in_ok-flow.ensures.calls ∙ c.calls.ensures)
-    (subst (AreAccessed a flow.nodes) (sym c.in_ok-flow.ensures.accessed) c.in_ok-accessed.ensures)
+    (subst (AreAccessed a c.args.sharp flow.nodes) (sym c.in_ok-flow.ensures.accessed) c.in_ok-accessed.ensures)
     c.in_ok-nodes.ensures c.in_ok-sources.ensures
+
+pub invariant_of-result-clause-made : goal.invariant_of-result-clause-made
+invariant_of-result-clause-made c = ∣ c.in_ok-nodes.ensures ∣₁

@@ -1,14 +1,19 @@
-use Rattle.std.proofs.Common.{false, subst}
+use Rattle.std.proofs.Common.{◌≡◌, ◌≤◌, ◌+◌, ◌*◌, ℕ, Bool, true, false, List, ℤ, length, subst, arith}
 use Rattle.sp_lattice.specs.Ladder.{IsLadderOf}
 use Rattle.sp_ir.specs.Programs.{lowered_of}
 use Rattle.sp_base_sets.specs.Reached.{row}
 use Rattle.sp_graph.specs.Supergraph.{IsSupergraph}
+use Rattle.sp_effect_scene.specs.Whole.{most_constants}
 use Rattle.sp_effect_scene.specs.Cells.{rising}
 use Rattle.sp_effect_scene.proofs.Past.{objects-few}
 use Rattle.sp_effect_scene.proofs.analysis.Analysis.new.Goals as goal
 
 pub locations_of-requires : goal.locations_of-requires
 locations_of-requires c = c.requires.few_regions
+
+few : (sharp : Bool) (most n : ℕ) → most ≡ most_constants sharp → n ≤ 25 + 3 * most → n ≤ 3097
+few true most n is low = omega (arith, is, low)
+few false most n is low = omega (arith, is, low)
 
 pub invariant_of-result : goal.invariant_of-result
 invariant_of-result c = record {
@@ -24,8 +29,12 @@ invariant_of-result c = record {
     calls = c.in_ok-pre.ensures.calls;
     callees = c.in_ok-pre.ensures.callees;
     recursive = c.in_ok-pre.ensures.recursive;
-    points = subst (λ cs. IsLadderOf cs c.in_ok-ladder.ladder) c.as_slice.ensures.value c.in_ok-ladder.ensures.points;
     ladder = c.points-points.ensures.ladder;
-    few_points = c.in_ok-ladder.ensures.few;
+    few_points = few c.args.sharp c.most_constants-most.result (length c.in_ok-ladder.ladder) c.most_constants-most.ensures c.in_ok-ladder.ensures.few;
   } ∣₁;
 }
+
+pub returns-clause-points : goal.returns-clause-points
+returns-clause-points c =
+    subst (λ (most : ℕ). IsLadderOf most (lowered_of c.args.lowered).constants c.in_ok-ladder.ladder) c.most_constants-most.ensures
+    (subst (λ (cs : List ℤ). IsLadderOf c.most_constants-most.result cs c.in_ok-ladder.ladder) c.as_slice.ensures.value c.in_ok-ladder.ensures.points)

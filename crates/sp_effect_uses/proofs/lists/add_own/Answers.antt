@@ -11,7 +11,7 @@ use Rattle.sp_effect_scene.specs.View.{analysed_of}
 use Rattle.sp_transfer.specs.Effects.{defined_by}
 use Rattle.sp_transfer.proofs.Nodes.{mapped-at, command-past}
 use Rattle.sp_effect_uses.proofs.Steps.{or-none}
-use Rattle.sp_effect_uses.proofs.lists.add_defined.Goals as goal
+use Rattle.sp_effect_uses.proofs.lists.add_own.Goals as goal
 
 pub returns-in_ok-add_defined_by-in-Some : goal.returns-in_ok-add_defined_by-in-Some
 returns-in_ok-add_defined_by-in-Some c = λ l.
