@@ -27,8 +27,8 @@ _sparrow() {
         return
     fi
     case ${COMP_WORDS[1]} in
-        source) options+=' --strict --keep --compile-commands --target -D -I -U -idirafter -imacros -include -iquote -isystem --contexts= --no-contexts --format --output --color --baseline --update-baseline --fail-on --why' ;;
-        analyse | dense) options+=' --nodes' ;;
+        source) options+=' --sharp --plain --strict --keep --compile-commands --target -D -I -U -idirafter -imacros -include -iquote -isystem --contexts= --no-contexts --format --output --color --baseline --update-baseline --fail-on --why' ;;
+        analyse | dense) options+=' --nodes --sharp' ;;
         calls) options='' ;;
         *) return ;;
     esac

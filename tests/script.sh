@@ -49,8 +49,8 @@ below=$top_room/crates/sp_lattice/src
 check 'the program is up to date' 1 '' run 1
 check 'by a link' 1 '' "$room/link" 1
 check 'where the program is' 0 "$out/sparrow"$'\n' run --program
-commands='sparrow: the commands are: analyse [--values] [--nodes] FILE..,'
-commands+=' dense [--values] [--nodes] FILE.., calls FILE..,'
+commands='sparrow: the commands are: analyse [--values] [--nodes] [--sharp] FILE..,'
+commands+=' dense [--values] [--nodes] [--sharp] FILE.., calls FILE..,'
 commands+=' source [--values] [--strict] [--keep DIR] [CPP-OPTION..] FILE.c..,'
 commands+=' source --compile-commands FILE [--target NAME] ..; sparrow --help tells more'
 check_said 'status 3' "$commands" run 3
@@ -62,7 +62,7 @@ done
 # The program that stands in refuses all for a word 2.
 printf '#include <a.h>\n' >"$room/text.c"
 hint="sparrow: hint: $room/text.c isn't preprocessed; sparrow source does that"
-check_said 'a text that is not preprocessed' "$hint" run 2 --values --nodes "$room/none.c" "$room/text.c"
+check_said 'a text that is not preprocessed' "$hint" run 2 --values --nodes --sharp "$room/none.c" "$room/text.c"
 printf '# 1 "a.c"\n#pragma once\nint x;\n' >"$room/text.c"
 check_all() { [ -z "$(run 2 "$room/text.c" 2>&1)" ]; }
 check 'a text that is preprocessed' 0 '' check_all

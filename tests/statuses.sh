@@ -6,8 +6,8 @@ room=$(mktemp -d)
 trap 'rm -rf "$room"' EXIT
 
 usage=$'usage: sparrow COMMAND [OPTION] WORD..\n'
-commands='sparrow: the commands are: analyse [--values] [--nodes] FILE..,'
-commands+=' dense [--values] [--nodes] FILE.., calls FILE..,'
+commands='sparrow: the commands are: analyse [--values] [--nodes] [--sharp] FILE..,'
+commands+=' dense [--values] [--nodes] [--sharp] FILE.., calls FILE..,'
 commands+=' source [--values] [--strict] [--keep DIR] [CPP-OPTION..] FILE.c..,'
 commands+=' source --compile-commands FILE [--target NAME] ..; sparrow --help tells more'
 file=examples/overrun.c
@@ -20,7 +20,12 @@ check 'the flag without a file' 3 "$usage" ./sparrow dense --values
 check 'no file behind the end of options' 3 "$usage" ./sparrow dense --
 check 'the other flag twice' 3 "$usage" ./sparrow dense --nodes --nodes "$file"
 check 'a part of a flag' 3 "$usage" ./sparrow analyse --node "$file"
+check 'the sharp mode twice' 3 "$usage" ./sparrow analyse --sharp --sharp "$file"
+check 'a value for the sharp mode' 3 "$usage" ./sparrow dense --sharp=1 "$file"
+check 'the sharp mode without a file' 3 "$usage" ./sparrow dense --sharp
+check 'the plain mode is of source alone' 3 "$usage" ./sparrow analyse --plain "$file"
 check 'a flag of calls' 3 "$usage" ./sparrow calls --nodes "$file"
+check 'the sharp mode of calls' 3 "$usage" ./sparrow calls --sharp "$file"
 check 'values of calls' 3 "$usage" ./sparrow calls "$file" --values
 check 'calls alone' 3 "$usage" ./sparrow calls
 check 'help behind a file' 3 "$usage" ./sparrow analyse "$file" --help
@@ -45,6 +50,8 @@ check_said 'a missing file behind another' "sparrow: none can't be read: no such
 check_said 'a folder' "sparrow: examples can't be read: it is a folder" ./sparrow dense examples
 check_said 'below a file' "sparrow: README.md/a can't be read: not a directory" \
     ./sparrow analyse README.md/a
+check_said 'a missing file behind the sharp mode' "sparrow: none can't be read: no such file" \
+    ./sparrow dense --sharp none
 check_said 'a missing file named as an option' "sparrow: -none can't be read: no such file" \
     ./sparrow analyse -- -none
 
@@ -73,6 +80,10 @@ check 'nodes' 1 "$alarm"$'\n1 alarm\nnode 2 '"$alarm"$'\n' in_room analyse div.c
 check 'nodes behind values' 1 "$alarm"$'\n1 alarm\n'"${behind}node 2 $alarm"$'\n' \
     in_room dense --nodes div.c --values
 check 'no alarm of a node' 0 "$values" in_room analyse --nodes a.c --values b.c
+check 'the sharp mode between the files' 0 "$values" in_room dense --values a.c --sharp b.c
+check 'all flags' 1 "$alarm"$'\n1 alarm\n'"${behind}node 2 $alarm"$'\n' \
+    in_room analyse --sharp --nodes div.c --values
+check 'the sharp mode as a file' 4 '' in_room analyse -- --sharp
 printf 'int f(void){return 0;}int(*p)(void)=f;' >"$room/f.c"
 printf 'extern int(*p)(void);int main(void){return p();}' >"$room/p.c"
 check 'indirect calls' 0 $'p.c:1:44: f\n1 indirect call\n' in_room calls f.c -- p.c
