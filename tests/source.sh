@@ -34,6 +34,10 @@ check_source $here/calculator.expected -imacros "$here/eight.h" -iquote $here/in
     $here/calculator.c $here/stack.c
 check_source $here/calculator.expected -DDEPTH=8 -idirafter $here/include \
     $here/calculator.c $here/stack.c
+check_source $here/calculator.expected --sharp -DDEPTH=8 -I$here/include \
+    $here/calculator.c $here/stack.c
+check_source $here/calculator_plain.expected --plain -DDEPTH=8 -I$here/include \
+    $here/calculator.c $here/stack.c
 
 # Each header alone, in a unit of its own; then all in one unit, in both orders.
 headers() { # c90 or posix

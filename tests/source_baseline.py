@@ -71,6 +71,7 @@ def try_baseline(room: Room) -> None:
     expect("it is written", room.last(*known, "--update-baseline"), (1, none))
     expect("all are known", room.last(*known), (1, none))
     expect("none is new", room.last(*new), (0, none))
+    expect("nor in the other mode", room.last(*new, "--plain"), (0, none))
     room.write("/* moved */\n\n" + HEAD + "  a[0] = 0;\n" + FIRST + "\t a[3]=1;\n" + TAIL)
     expect("lines have moved, and blanks", room.last(*new), (0, none))
     room.write(HEAD + FIRST + SECOND + FIRST + TAIL)

@@ -172,8 +172,8 @@ def try_analysis(room: str) -> None:
 
     one = f"{path}:28:3: overrun: offset [10,10], size [10,10]"
     expect("two callers of xmalloc", source(), (1, [one, "1 alarm"], ""))
-    expect("without contexts", source("--no-contexts")[1][-1], "7 alarms")
-    expect("strict has none", source("--strict")[1][-1], "7 alarms")
+    expect("without contexts", source("--plain", "--no-contexts")[1][-1], "7 alarms")
+    expect("strict has none", source("--plain", "--strict")[1][-1], "7 alarms")
     expect("small functions", source("--contexts=60"), (1, [one, "1 alarm"], ""))
     kept = os.path.join(room, "kept")
     source("--keep", kept)
@@ -204,7 +204,7 @@ def try_indirect() -> None:
     null = [f"{path}:{place}: pointer: value [0,0]" for place in ("36:42", "37:22")]
     one = f"{path}:43:3: overrun: offset [3,3], size [3,3]"
     expect("an allocator of a member", source(), [*null, one, "3 alarms"])
-    without = source("--no-contexts")
+    without = source("--plain", "--no-contexts")
     expect("the same alarms of calls without copies", without[:2], null)
     # Both blocks are one then, of bytes and of any size: each line that accesses it has an alarm.
     lines = {line.split(":")[1] for line in without[2:-1]}

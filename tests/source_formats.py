@@ -125,7 +125,7 @@ def try_order(room: str) -> None:
 def write_odd(room: str) -> None:
     """A file with a name, bytes and lines as they are seldom, whose each statement alarms."""
     lines = [
-        b"int a[3]; static int n = 3;",
+        b"int a[3]; enum { n = 3 };",
         b"int main(void) {",
         b"\ta[n] = 1; /* \xc3\xa9 \xff \x1b[1m <b>&amp; \" */ a[n] = 2;\r",
         b"/* \xc3\xa9 */ a[n] = 3;",
@@ -308,6 +308,14 @@ def try_words(room: str) -> None:
     value = checked("values", "json", run(room, "--values", "--format=json", "one.c")[1])
     expect("values: json", all(each.startswith("node ") for each in value["values"]), True)
     expect("values: sarif", run(room, "--values", "--format=sarif", "one.c")[0], 3)
+    for mode in ("sharp", "plain"):
+        value = checked(mode, "json", run(room, f"--{mode}", "--format=json", "one.c")[1])
+        expect(f"the mode {mode}: json", value["mode"], mode)
+        value = checked(mode, "sarif", run(room, f"--{mode}", "--format=sarif", "one.c")[1])
+        told = value["runs"][0]["invocations"][0]["properties"]
+        expect(f"the mode {mode}: sarif", told, {"mode": mode})
+    value = checked("a mode by itself", "json", run(room, "--format=json", "one.c")[1])
+    expect("source is sharp by itself", value["mode"], "sharp")
 
 
 def try_terminal(room: str) -> None:

@@ -79,6 +79,9 @@ no file is given;--values
 --fail-on needs one of any, new;a.c --fail-on
 -I needs an argument;a.c -I
 -o needs an argument;a.c -o
+--sharp or --plain is given once;--sharp a.c --sharp
+--sharp or --plain is given once;--plain --plain a.c
+--sharp or --plain is given once;--plain a.c --sharp
 ROWS
 check 'the options with a =' 1 "$room/tree/src/main.c:2:28: $tool" \
     ./sparrow source --format=plain "--compile-commands=$database" --target=tool
@@ -154,10 +157,33 @@ check 'a program that is missing' 7 '' no_program "$room/tree/src/other.c"
 check_said 'it is said so' "sparrow: $room/none: No such file or directory" \
     no_program "$room/tree/src/other.c"
 
+# A stand-in for the program that keeps its words; those before the texts are compared.
+printf '#!/bin/sh\necho "$*" >>"%s"\necho 0 alarms\n' "$room/words" >"$room/keeping"
+chmod +x "$room/keeping"
+printf '#include <stdlib.h>\nvoid *f(size_t n) { return malloc(n); }\n%s\n' \
+    'int g(void *(*p)(size_t)) { return p(4) == 0; }' >"$room/indirect.c"
+printf 'int main(void) { return 0; }\n' >"$room/a.c"
+words_for() {
+    rm -f "$room/words"
+    SPARROW_PROGRAM=$room/keeping SPARROW_INCLUDE=$top/include python3 -I source "$room/a.c" "$@" \
+        >/dev/null
+    sed 's/ -- .*//' "$room/words"
+}
+check 'source is sharp' 0 $'analyse --sharp\n' words_for
+check 'it is asked for' 0 $'analyse --sharp\n' words_for --sharp
+check 'the plain mode' 0 $'analyse\n' words_for --plain
+check 'sharp values' 0 $'analyse --sharp --values\n' words_for --values
+check 'plain values' 0 $'analyse --values\n' words_for --values --plain
+check 'sharp causes' 0 $'analyse --sharp --values --nodes\n' words_for --why --format=sarif
+check 'plain causes' 0 $'analyse --values --nodes\n' words_for --plain --why
+check 'a sharp baseline' 0 $'analyse --sharp\n' \
+    words_for --baseline "$room/known.json" --update-baseline
+check 'it is read in the plain mode' 0 $'analyse\n' words_for --plain --baseline "$room/known.json"
+check 'indirect calls have no mode' 0 $'calls\nanalyse --sharp\n' words_for "$room/indirect.c"
+
 # A stand-in for the program that takes three seconds; standard error is a terminal or not.
 printf '#!/bin/sh\nsleep 3\necho 0 alarms\n' >"$room/slow"
 chmod +x "$room/slow"
-printf 'int main(void) { return 0; }\n' >"$room/a.c"
 slow() {
     SPARROW_PROGRAM=$room/slow SPARROW_INCLUDE=$top/include python3 -I source "$room/a.c" "$@"
 }

@@ -85,7 +85,7 @@ def try_arguments(room: str) -> None:
 
 def try_forms(room: str) -> None:
     """The same cause in all forms of the report, and of more warnings than one."""
-    write(room, "int *p;\nint main(void)\n{\n  int *q = p;\n  *q = 1;\n  return *q;\n}\n")
+    write(room, "int *p;\nint main(void)\n{\n  int *q = p;\n  *q = 1;\n  q = p;\n  return *q;\n}\n")
     notes = [
         "a.c:1:6: note: 'p' starts as 0", "    1 | int *p;", "      |      ^",
         "a.c:4:8: note: 'main.q' gets it from 'p'", "    4 |   int *q = p;", "      |        ^",
@@ -110,6 +110,23 @@ def try_forms(room: str) -> None:
     expect("values: no alarm among them", any("pointer: value" in line for line in values), False)
 
 
+def try_modes(room: str) -> None:
+    """Values behind an access lie within it in the sharp mode; what is said of them holds there."""
+    write(room, "int a[3], b[2];\nint main(int n, char **v)\n{\n  int i = n;\n  a[i] = 0;\n"
+                "  b[i] = 0;\n  a[i] = b[0];\n  return 0;\n}\n")
+    steps = ["2:14 'main.n' is a parameter of main", "4:7 'main.i' gets it from 'main.n'"]
+    for mode, want in (
+        ("--sharp", [(5, [-(2**31), 2**31 - 1]), (6, [0, 2])]),
+        ("--plain", [(line, [-(2**31), 2**31 - 1]) for line in (5, 6, 7)]),
+    ):
+        warnings = json.loads(source(room, mode, "--why", "--format=json", "a.c")[1])["warnings"]
+        expect(f"{mode}: offsets", [(each["line"], each["offset"]) for each in warnings], want)
+        for each in warnings:
+            notes = (each["reason"], *each["reason"]["steps"])
+            told = [f"{note['line']}:{note['column']} {note['message']}" for note in notes]
+            expect(f"{mode}: the cause in line {each['line']}", told, steps)
+
+
 def try_words(room: str) -> None:
     """The word with others, and programs without a warning."""
     write(room, "int main(void) { return 0; }\n")
@@ -127,6 +144,7 @@ def main() -> int:
         try_objects(room)
         try_arguments(room)
         try_forms(room)
+        try_modes(room)
         try_words(room)
     return tell(faults)
 

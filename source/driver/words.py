@@ -2,7 +2,7 @@
 
 from __future__ import annotations
 
-from report.wanted import Wanted
+from report.wanted import SHARP, Wanted
 
 from .failure import USAGE, Failure, Misused
 from .outputs import words_of_output
@@ -41,7 +41,8 @@ class Request:
     @property
     def asked(self) -> list[str]:
         """What the program is asked for beside the report."""
-        return ["--values", "--nodes"] if self.report.is_why else self.flags
+        flags = ["--values", "--nodes"] if self.report.is_why else self.flags
+        return [SHARP, *flags] if self.report.mode == SHARP else flags
 
 
 def read_words(words: list[str]) -> Request:

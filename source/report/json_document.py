@@ -17,7 +17,8 @@ FORMAT, VERSION = "sparrow-report", 1
 
 def document(report: Report) -> bytes:
     """The report."""
-    head: dict[str, Any] = {"format": FORMAT, "version": VERSION, "status": report.status}
+    head: dict[str, Any] = {"format": FORMAT, "version": VERSION}
+    head.update(mode=report.mode, status=report.status)
     if report.failure is not None:
         head["failure"] = report.failure
     if report.hint is not None:

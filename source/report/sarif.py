@@ -23,6 +23,7 @@ def document(report: Report) -> bytes:
     invocation: dict[str, Any] = {
         "executionSuccessful": report.status < 2,
         "exitCode": report.status,
+        "properties": {"mode": report.mode},
     }
     notes = [notification(refusal, regions) for refusal in report.refusals]
     if report.failure is not None:

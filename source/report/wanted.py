@@ -13,6 +13,8 @@ CHOICES = {
 FILES = ("--output", "--baseline")
 UPDATE = "--update-baseline"
 WHY = "--why"
+# How the analysis goes on behind an access: as its check says, or as before.
+SHARP, PLAIN = "--sharp", "--plain"
 # What is known at each place is told where there is room for it.
 WITH_VALUES = ("text", "plain", "json")
 
@@ -32,6 +34,13 @@ class Wanted:
         # Whether the cause of each warning is told, and the values of all nodes.
         self.is_why = False
         self.has_values = False
+        # The words of modes; one at most is taken.
+        self.modes: list[str] = []
+
+    @property
+    def mode(self) -> str:
+        """How the analysis goes on behind an access."""
+        return self.modes[-1] if self.modes else SHARP
 
     @property
     def format(self) -> str:
@@ -60,6 +69,9 @@ class Wanted:
             self.is_updating |= words[at] == UPDATE
             self.is_why |= words[at] == WHY
             return 1
+        if words[at] in (SHARP, PLAIN):
+            self.modes.append(words[at])
+            return 1
         if option not in CHOICES and option not in FILES:
             return 0
         if not equals and at + 1 < len(words):
@@ -82,6 +94,8 @@ class Wanted:
     def check(self, has_values: bool) -> None:
         """Ends where options don't go together."""
         self.has_values = has_values
+        if len(self.modes) > 1:
+            raise Misused(f"{SHARP} or {PLAIN} is given once")
         if self.is_why and self.format == "plain":
             raise Failure(USAGE, f"{WHY} and --format=plain don't go together")
         if self.baseline is None:

@@ -18,6 +18,8 @@ class Report:
 
     def __init__(self, status: int) -> None:
         self.status = status
+        # The mode in which the program has analysed: sharp or plain.
+        self.mode = ""
         # Those of a baseline are among the warnings; those that a comment ignores are not.
         self.warnings: list[Item] = []
         self.ignored: list[Item] = []

@@ -152,6 +152,7 @@ def failed(wanted: Wanted, failure: Failure) -> Answer:
 
 def document(wanted: Wanted, report: Report) -> bytes:
     """The report in its form."""
+    report.mode = wanted.mode.lstrip("-")
     if wanted.format == "json":
         from . import json_document
 

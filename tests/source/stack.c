@@ -3,14 +3,14 @@
 int depth;
 int values[DEPTH];
 
-/* Nothing tests whether the stack is full, so depth grows past every int: it may be any. */
+/* Nothing tests whether it is full, so depth may be DEPTH; in the plain mode it may be any int. */
 void push(int value)
 {
     values[depth] = value;
     depth++;
 }
 
-/* Where depth is at least 1, what is left is at least 0. */
+/* Where depth is at least 1, what is left is at least 0: in the plain mode it may be any such. */
 int pop(void)
 {
     if (depth <= 0)

@@ -12,7 +12,7 @@ extern int values[DEPTH];
 extern void push(int value);
 extern int pop(void);
 
-/* The stack may be empty, and depth may be any int: see push. */
+/* The stack may be empty, and depth is at most DEPTH: see push. */
 static int top(void)
 {
     return values[depth - 1];
