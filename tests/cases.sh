@@ -11,12 +11,15 @@ names=(a.c b.c c.c)
 in_room() { (cd "$room" && "$program" "$@"); }
 
 for file in tests/cases/*.tsv; do
+    flags=()
+    case $file in */sharp.tsv) flags=(--sharp) ;; esac
     while IFS=$'\t' read -r name status text answer || [ -n "$name" ]; do
         # The text may be empty, which read would take for no field.
         [ "$text" != '(empty)' ] || text=
         printf '%b' "$text" >"$room/a.c"
         for command in analyse dense; do
-            check "$file, $name, $command" "$status" "${answer//|/$'\n'}"$'\n' in_room "$command" a.c
+            check "$file, $name, $command" "$status" "${answer//|/$'\n'}"$'\n' \
+                in_room "$command" "${flags[@]}" a.c
         done
     done <"$file"
 done
