@@ -2,9 +2,9 @@
 """Looks for a program of C90 in which the first error has no alarm at its line: random programs are run by a machine of
 the definitions of C90 alone, and what goes wrong must be in Sparrow's report.
 
-usage: tests/soundness.py [--programs N] [--seed S] [--program PATH] [--against-gcc]
+usage: tests/soundness.py [--programs N] [--seed S] [--modes plain,sharp] [--program PATH] [--against-gcc]
 
-Program I is made of the seed S + I alone.
+Program I is made of the seed S + I alone. Without --modes the sharp mode is tested where the program takes `--sharp`.
 --against-gcc compares the machine with what gcc's sanitizers find, and asks nothing of Sparrow.
 """
 from __future__ import annotations
@@ -28,7 +28,7 @@ from soundness_statements import Program
 ERRORS = ("overrun", "zero", "pointer", "punned")
 ALARM = re.compile(r"a\.c:(\d+):\d+: (\w+): .*")
 RUNS, PROBES = 3, 4
-MODES = {"plain": ["analyse"]}
+MODES = {"plain": ["analyse"], "sharp": ["analyse", "--sharp"]}
 INPUTS = [0, 0, 1, 1, 2, 3, 4, 5, 6, 7, 8, 9, 10, 15, 16, 31, 63, 100, 127, 255, 256, -1, -1, -2, -7, 1000, 65536, -40000]
 
 
@@ -49,6 +49,9 @@ class Tester:
             return None
         found = (ALARM.fullmatch(line) for line in ended.stdout.splitlines())
         return {(int(it[1]), it[2]) for it in found if it}
+
+    def takes(self, mode: str) -> bool:
+        return self.alarms("int main(void){return 0;}\n", mode) is not None
 
     def one(self, seed: int) -> None:
         program, runs, probes = made(seed)
@@ -118,6 +121,7 @@ def words() -> argparse.Namespace:
     parser = argparse.ArgumentParser()
     parser.add_argument("--programs", type=int, default=150)
     parser.add_argument("--seed", type=int, default=0)
+    parser.add_argument("--modes")
     parser.add_argument("--program")
     parser.add_argument("--against-gcc", action="store_true")
     return parser.parse_args()
@@ -143,6 +147,7 @@ def main() -> int:
                                               text=True).stdout.strip()
     with tempfile.TemporaryDirectory() as folder:
         tester = Tester(program, list(MODES), folder)
+        tester.modes = asked.modes.split(",") if asked.modes else [mode for mode in MODES if tester.takes(mode)]
         for seed in seeds:
             tester.one(seed)
         return tester.tell()

@@ -16,6 +16,8 @@ from soundness_statements import Do, For, If, Program, Return, Statement, Switch
 from soundness_tree import (INT, LONG, ULONG, Assign, Binary, Cast, Compare, Constant, Declaration, Expression, Follow,
                             Index, Int, Logical, Member, Name, Null, Pointer, Record, Routine, Type, VOID)
 
+Found = list[tuple[Statement, int, Statement]]
+
 
 def place_in(program: Program, statement: Statement) -> Optional[list[Statement]]:
     """The list in which a statement stands."""
