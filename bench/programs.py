@@ -1,7 +1,8 @@
 """Whole programs of the survey's packages: alarms, how many of their places are tokens of the text
 before it was rewritten, and seconds. Prints the table of docs/REAL_CODE.md.
 
-usage: python3 bench/programs.py ROOM [PROGRAM..], with the ROOM of bench/survey.py.
+usage: python3 bench/programs.py ROOM [--plain] [PROGRAM..], with the ROOM of bench/survey.py. With
+--plain the sharp mode is off.
 """
 
 from __future__ import annotations
@@ -26,6 +27,9 @@ ALARM = re.compile(r"^(.*):([0-9]+):([0-9]+): (?!refused)", re.MULTILINE)
 WHOLE = ("alarm\n", "alarms\n")
 # Seconds that a program may take.
 LATE = 600
+# The words behind ROOM: what switches the sharp mode off, and the programs.
+MODE = [word for word in sys.argv[2:] if word == "--plain"]
+NAMED = [word for word in sys.argv[2:] if word != "--plain"]
 
 
 def token_places(folder: str) -> set[tuple[str, str, str]]:
@@ -45,7 +49,7 @@ def run(words: list[str], folder: str) -> tuple[str, float]:
     """What ./sparrow source writes, and its seconds of processors."""
     before = resource.getrusage(resource.RUSAGE_CHILDREN)
     source = os.path.join(TOP, "source")
-    command = [sys.executable, "-I", source, "--format=plain", "--no-contexts", *words]
+    command = [sys.executable, "-I", source, "--format=plain", "--no-contexts", *MODE, *words]
     try:
         done = subprocess.run(command, cwd=folder, capture_output=True, timeout=LATE, check=False)
         said = done.stdout.decode("latin-1") or done.stderr.decode("latin-1")
@@ -104,7 +108,7 @@ def main() -> int:
                 continue
             name, package, options, files = line.rstrip("\n").split("\t")
             folders = sorted(glob.glob(os.path.join(room, "sources", package, "*", "")))
-            if not folders or (len(sys.argv) > 2 and name not in sys.argv[2:]):
+            if not folders or (NAMED and name not in NAMED):
                 continue
             if all(os.path.exists(os.path.join(folders[0], file)) for file in files.split()):
                 print(row(name, folders[0], options.split(), files.split()), flush=True)

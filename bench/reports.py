@@ -1,7 +1,8 @@
 """What folding and copies for each call make of the reports of seven real programs, as a table.
 
-usage: python3 bench/reports.py ROOM [PROGRAM..], with a ROOM as bench/survey.py makes it, or an empty
-folder: the packages are fetched by apt-get source. cproto needs byacc and flex.
+usage: python3 bench/reports.py ROOM [--plain] [PROGRAM..], with a ROOM as bench/survey.py makes it, or
+an empty folder: the packages are fetched by apt-get source. cproto needs byacc and flex. With --plain
+the sharp mode is off.
 """
 
 from __future__ import annotations
@@ -13,7 +14,7 @@ import subprocess
 import sys
 from typing import NamedTuple
 
-from programs import LATE, asked_room, lines_of
+from programs import LATE, MODE, NAMED, asked_room, lines_of
 from survey import TOP, configure_apt, folder_of, packages, run_logged
 
 PROGRAMS = ("byacc", "bzip2", "figlet", "ncompress", "unifdef", "cproto", "minigzip")
@@ -66,7 +67,7 @@ def place_of(room: str, program: Chosen) -> str | None:
 def figures(words: list[str], folder: str) -> Figures | None:
     """The figures of a report; None where there is none."""
     before = resource.getrusage(resource.RUSAGE_CHILDREN)
-    command = [sys.executable, "-I", os.path.join(TOP, "source"), "--format=json", *words]
+    command = [sys.executable, "-I", os.path.join(TOP, "source"), "--format=json", *MODE, *words]
     try:
         done = subprocess.run(
             command, cwd=folder, stdout=subprocess.PIPE, stderr=subprocess.DEVNULL, timeout=LATE,
@@ -105,7 +106,7 @@ def main() -> int:
     names = [*COLUMNS, *(f"{column}, copies" for column in COLUMNS)]
     print(f"| program | lines | {' | '.join(names)} |")
     print("|---" * (len(names) + 2) + "|")
-    for program in chosen(sys.argv[2:] or list(PROGRAMS)):
+    for program in chosen(NAMED or list(PROGRAMS)):
         print(row(room, program), flush=True)
     return 0
 
