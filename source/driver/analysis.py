@@ -45,8 +45,24 @@ def has_words(text: str) -> bool:
 
 
 def analysed(room: Room, request: Request) -> tuple[int, bytes]:
+    """Status and answer over the texts as they are now, or as they are prepared where that is
+    accepted."""
+    if request.is_strict:
+        return run_program(room, request)
+    from .preparing import Preparing
+
+    with Progress("preparing"):
+        preparing = Preparing(room, request.has_models)
+    answer = with_copies(room, request)
+    if preparing.is_done and answer[0] == REFUSED:
+        preparing.take_back()
+        return with_copies(room, request)
+    return answer
+
+
+def with_copies(room: Room, request: Request) -> tuple[int, bytes]:
     """Status and answer over the texts as they are now, or with copies where these are accepted."""
-    if request.copied is None or request.is_strict:
+    if request.copied is None:
         return run_program(room, request)
     from .copying import Copying
 

@@ -32,6 +32,8 @@ class Request:
         self.is_strict = False
         # Functions of up to so many tokens are copied for each call, as wrappers are; None is none.
         self.copied: int | None = 0
+        # Whether models stand for functions of the library.
+        self.has_models = True
         self.database: str | None = None
         self.target: str | None = None
         self.options: list[str] = []
@@ -73,6 +75,8 @@ def take(request: Request, words: list[str], at: int) -> int:
         request.flags.append(word)
     elif word == "--strict":
         request.is_strict = True
+    elif word == "--no-models":
+        request.has_models = False
     elif word == "--no-contexts":
         request.copied = None
     elif option == "--contexts":

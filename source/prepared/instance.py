@@ -1,0 +1,205 @@
+"""A model as it stands for one call."""
+
+from __future__ import annotations
+
+import re
+from typing import Optional
+
+from c.constants import value_of
+from c.edits import marker_to
+from c.rules import stripped, value_type
+from c.trees import Expression
+from c.types import Function, Integer, MaybeType, Pointer, Void, decayed, promoted, size_of
+from contexts.functions import Call, ContextUnit
+from contexts.meant import spelling
+from outside.written import is_null
+
+from .formats import scanned
+from .printing import UNKNOWN, count_of_format
+from .table import COMPARE, COMPARISON, Model, Parameter
+
+# For the analysis any number of the type, since the constant is too large for it.
+ANY = {
+    "ANY_SIZE": "(unsigned long)(signed char)256u",
+    "ANY_LONG": "(long)18446744073709551615u",
+    "ANY_INT": "(int)4294967295u",
+    "ANY": "(signed char)256u",
+}
+WORD = re.compile(r"\b(?:ANY_SIZE|ANY_LONG|ANY_INT|ANY|TARGET|OWN)\b|@")
+CALL = re.compile(r"\b(SIZE|SCANNED|PRINTED|ELEMENT)\(([^()]*)\)")
+POINTER = "const void *"
+COMPARED = f"int (*{COMPARE})({POINTER}, {POINTER})"
+
+
+class Unfit(Exception):
+    """The model doesn't fit the call, which stays as it is."""
+
+
+class Instance:
+    """What becomes of a model for a call of a unit."""
+
+    def __init__(self, unit: ContextUnit, call: Call, kind: Function, model: Model) -> None:
+        self.unit = unit
+        self.call = call
+        self.kind = kind
+        self.model = model
+        self.name = ""
+        self.extras: list[Parameter] = []
+        self.counted = UNKNOWN
+        self.arguments = dict(zip((each.name for each in model.parameters), call.arguments))
+
+    def text(self, name: str, before: int, own: str) -> str:
+        """The function, to stand before a token; `own` is the name of what calls share."""
+        self.name = name
+        parameters = self.parameters()
+        body = CALL.sub(lambda match: self.expanded(match, before), self.model.body)
+        body = body.replace("COUNT", self.counted.count)
+        place = marker_to(self.unit.places.of(self.unit.tokens.starts[self.call.token]))
+        words = {**ANY, "@": place, "OWN": own, "TARGET": self.target(before)}
+        body = WORD.sub(lambda match: words[match.group()], body)
+        return f"{place}static {self.result()} {name}({parameters}) {{ {body} }}"
+
+    def result(self) -> str:
+        """The type of the result: the one that the program declares."""
+        kind, written = self.kind.result, self.model.result
+        if isinstance(kind, Integer) and not written.endswith("*") and written != "void":
+            return kind.spelling
+        if isinstance(kind, Pointer) and written.endswith("*"):
+            return "void *"
+        if isinstance(kind, Void) and written == "void":
+            return written
+        raise Unfit
+
+    def parameters(self) -> str:
+        """The parameters, with one for each argument; whether the arguments fit them is looked at."""
+        listed, arguments = list(self.model.parameters), self.call.arguments
+        if len(arguments) < len(listed) or (len(arguments) > len(listed) and not self.model.is_variadic):
+            raise Unfit
+        for number, argument in enumerate(arguments[len(listed) :]):
+            self.extras.append(Parameter(type_of_extra(argument), f"x{number}"))
+        for parameter, argument in zip(listed, arguments):
+            if not fits(parameter, argument):
+                raise Unfit
+        shown = [
+            COMPARED if each.type == COMPARISON else f"{each.type} {each.name}"
+            for each in listed + self.extras
+        ]
+        return ", ".join(shown) or "void"
+
+    def target(self, before: int) -> str:
+        """The type of what the result points to."""
+        kind = self.kind.result
+        if "TARGET" not in self.model.body:
+            return ""
+        written = spelling(kind.target, self.unit.scope, before) if isinstance(kind, Pointer) else None
+        if written is None or size_of(kind.target if isinstance(kind, Pointer) else None) is None:
+            raise Unfit
+        return written
+
+    def expanded(self, match: re.Match[str], before: int) -> str:
+        """What stands for a word with arguments."""
+        word, given = match.groups()
+        names = [name.strip() for name in given.split(",")]
+        if word == "SIZE":
+            return str(self.size(names[0]))
+        if word == "ELEMENT":
+            return self.element(names, before)
+        literal = self.literal(names[0])
+        if word == "PRINTED":
+            self.counted = count_of_format(literal, self.extras)
+            return self.counted.before
+        return self.scanned_by(literal)
+
+    def size(self, name: str) -> int:
+        """The size of what a parameter points to, or 1 where that isn't known."""
+        place = [each.name for each in self.model.parameters].index(name)
+        known = self.kind.parameters
+        kind = decayed(known[place]) if known is not None and place < len(known) else None
+        if kind is None:
+            kind = value_type(self.arguments[name])
+        return (size_of(kind.target) if isinstance(kind, Pointer) else None) or 1
+
+    def element(self, names: list[str], before: int) -> str:
+        """The element of a pointer: by its type, where elements have its size, else by bytes."""
+        pointer, index, size = names
+        kind = value_type(uncast(self.arguments[pointer]))
+        target = kind.target if isinstance(kind, Pointer) else None
+        written = spelling(target, self.unit.scope, before)
+        length = size_of(target)
+        if written is not None and length and length == value_of(self.arguments[size]):
+            return f"(({written} *){pointer} + {index})"
+        return f"((char *){pointer} + {index} * {size})"
+
+    def literal(self, name: str) -> Optional[str]:
+        """The text of an argument that is a string literal, without its quotes."""
+        node = stripped(self.arguments[name])
+        if node.kind != "string":
+            return None
+        texts = self.unit.tokens.values[node.first : node.last + 1]
+        if any(not text.startswith('"') for text in texts):
+            return None
+        return "".join(unescaped(text[1:-1]) for text in texts)
+
+    def scanned_by(self, text: Optional[str]) -> str:
+        """The statements that write what a format of scanf asks for."""
+        conversions = [] if text is None else scanned(text)
+        parts = []
+        for place, extra in enumerate(self.extras):
+            if not extra.is_pointer:
+                continue
+            count: Optional[int] = 1
+            if place < len(conversions):
+                count = conversions[place].count
+            size = "1 + ANY_SIZE / 2" if count is None else str(count)
+            parts.append(f"@memset((void *){extra.name}, ANY, {size});")
+        return " ".join(parts)
+
+
+def type_of_extra(argument: Expression) -> str:
+    """The type of a parameter for an argument that the prototype doesn't tell."""
+    kind = promoted(value_type(argument))
+    if isinstance(kind, Pointer) and not isinstance(kind.target, Function):
+        return POINTER
+    if isinstance(kind, Integer):
+        return kind.spelling
+    raise Unfit
+
+
+def fits(parameter: Parameter, argument: Expression) -> bool:
+    """Whether an argument may be given for a parameter."""
+    kind: MaybeType = value_type(argument)
+    if parameter.type == COMPARISON:
+        return is_comparison(kind)
+    if parameter.is_pointer:
+        is_object = isinstance(kind, Pointer) and not isinstance(kind.target, Function)
+        return is_object or is_null(argument)
+    return isinstance(kind, Integer)
+
+
+def is_comparison(kind: MaybeType) -> bool:
+    """Whether a type is that of a pointer to a function that compares what two pointers lead to."""
+    function = kind.target if isinstance(kind, Pointer) else None
+    if not isinstance(function, Function) or function.parameters is None:
+        return False
+    are_pointers = all(
+        isinstance(each, Pointer) and isinstance(each.target, Void) for each in function.parameters
+    )
+    result = function.result
+    is_int = isinstance(result, Integer) and result.spelling == "int"
+    return is_int and are_pointers and len(function.parameters) == 2 and not function.is_variadic
+
+
+def uncast(node: Expression) -> Expression:
+    """An expression without parentheses and casts to `void *` around it."""
+    node = stripped(node)
+    while node.kind == "cast" and isinstance(node.type, Pointer) and isinstance(node.type.target, Void):
+        node = stripped(node.parts[0])
+    return node
+
+
+ESCAPE = re.compile(r"\\(?:[0-7]{1,3}|x[0-9a-fA-F]+|.)", re.DOTALL)
+
+
+def unescaped(text: str) -> str:
+    """A text with a character for each escape; which it is doesn't matter for a format."""
+    return ESCAPE.sub("~", text)

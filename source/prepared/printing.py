@@ -1,0 +1,108 @@
+"""How many characters a format of printf gives, as an expression of C.
+
+Numbers of digits are kept in objects, and the rest is added up where it is used: what is stored is
+rounded to the ladder. An assignment that isn't made in a branch is left out by its value, which is
+computed from what was tested: `k = 0 * x + 2` has none where no x comes to it.
+"""
+
+from __future__ import annotations
+
+from typing import NamedTuple, Optional
+
+from .formats import DIGITS_OF_FLOAT, PRECISION, Printed, printed
+from .table import Parameter
+
+DECIMAL, HEXADECIMAL, OCTAL = 10, 16, 8
+LENGTH_OF_POINTER = 20
+
+
+class Counted(NamedTuple):
+    """The statements that come first, and the expression for the number."""
+
+    before: str
+    count: str
+
+
+UNKNOWN = Counted("", "1 + ANY_SIZE / 2")
+
+
+def count_of_format(text: Optional[str], extras: list[Parameter]) -> Counted:
+    """How many characters a format gives with its arguments, and the closing 0. Its text may not be
+    known."""
+    if text is None:
+        return UNKNOWN
+    rest, conversions = printed(text)
+    declared: list[str] = []
+    statements: list[str] = []
+    terms = [str(rest + 1)]
+    if len(conversions) > len(extras):
+        return UNKNOWN
+    for each, argument in zip(conversions, extras):
+        if -1 in (each.width, each.precision):
+            # The widths that an argument tells may be any.
+            return UNKNOWN
+        if each.letter == "s" and argument.is_pointer and not each.width and each.precision is None:
+            terms.append(f"@strlen({argument.name})")
+            continue
+        name = f"k{len(declared)}"
+        written = statements_for(each, argument, name)
+        if written is None:
+            return UNKNOWN
+        declared.append(name)
+        statements.append(written + at_least(name, each.width))
+        terms.append(name)
+    head = f"unsigned long {', '.join(declared)};" if declared else ""
+    return Counted(" ".join([head, *statements]), " + ".join(terms))
+
+
+def statements_for(each: Printed, argument: Parameter, name: str) -> Optional[str]:
+    """The statements that make an object the number of characters of one conversion."""
+    if each.letter == "c":
+        return f"{name} = 1;"
+    if each.letter == "s" and argument.is_pointer:
+        most = "" if each.precision is None else f" {at_most(name, each.precision)}"
+        return f"{name} = @strlen({argument.name});{most}"
+    if each.letter in "diuxXo" and not argument.is_pointer:
+        return digits(each, argument.name, name)
+    if each.letter in "fFeEgG":
+        precision = PRECISION if each.precision is None else each.precision
+        return up_to(name, DIGITS_OF_FLOAT + precision)
+    return up_to(name, LENGTH_OF_POINTER) if each.letter == "p" else None
+
+
+def digits(each: Printed, number: str, name: str) -> str:
+    """The statements for a number: one digit more from each power of the base on, and a sign."""
+    base = {"x": HEXADECIMAL, "X": HEXADECIMAL, "o": OCTAL}.get(each.letter, DECIMAL)
+    is_signed = each.letter in "di"
+    greatest = 2 ** (8 * each.size - 1) if is_signed else 2 ** (8 * each.size) - 1
+    has_sign = is_signed and ("+" in each.flags or " " in each.flags)
+    more = 2 * ("#" in each.flags) + has_sign
+    least = max(1, each.precision or 0) + more
+    parts = [f"{name} = {least};"]
+    if is_signed:
+        negative = max(1, each.precision or 0) + 1
+        parts.append(f"if ({number} < 0) {name} = 0 * {number} + {negative};")
+    power, count = base, 2
+    while power <= greatest:
+        if count > (each.precision or 0):
+            suffix = "" if is_signed else "u"
+            parts.append(f"if ({power}{suffix} <= {number}) {name} = 0 * {number} + {count + more};")
+            if is_signed:
+                parts.append(f"if ({number} <= -{power}) {name} = 0 * {number} + {count + 1};")
+        power, count = power * base, count + 1
+    return " ".join(parts)
+
+
+def up_to(name: str, most: int) -> str:
+    """The statements that make an object any number from 1 to another."""
+    return f"{name} = ANY_SIZE; {at_most(name, most)}{at_least(name, 1)}"
+
+
+def at_most(name: str, most: int) -> str:
+    """The statement for the most that a number may be."""
+    return f"if ({most} < {name}) {name} = {most};"
+
+
+def at_least(name: str, least: int) -> str:
+    """The statement for a width."""
+    return f" if ({name} < {least}) {name} = {least};" if least > 0 else ""
