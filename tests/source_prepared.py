@@ -88,8 +88,9 @@ def try_behaviour(room: str) -> None:
     for text in (before, after):
         with open(os.path.join(room, "b.c"), "w", encoding="latin-1") as file:
             file.write(text)
-        built = ran(["gcc", "-w", "-std=gnu90", "-o", os.path.join(room, "b"), os.path.join(room, "b.c")])
-        answers.append((built[0], *ran([os.path.join(room, "b")])))
+        program = os.path.join(room, "b")
+        built = ran(["gcc", "-w", "-std=gnu90", "-o", program, f"{program}.c"])
+        answers.append((built[0], *ran([program])))
     expect("a program behaves alike", answers[1], answers[0])
     expect("the program ends well", answers[0][:2], (0, 0))
 
@@ -98,17 +99,20 @@ def placed_tokens(text: str) -> Counter[tuple[str, str]]:
     """The tokens of a text, each with its place."""
     tokens, places = Tokens(text), Places(text, "a.c")
     return Counter(
-        (tokens.values[number], str(places.of(tokens.starts[number]))) for number in range(tokens.count)
+        (tokens.values[number], str(places.of(tokens.starts[number])))
+        for number in range(tokens.count)
     )
 
 
-def try_places(room: str) -> None:
+def try_places() -> None:
     """Tokens that stay have their places: all but those of tests that are written anew."""
-    text = "int f(void); int g(int *p, int c) {\n  if ((c = f()) != 3 && p)\n    return c + *p; else if (--c) c = 1; return c; }\n"
+    text = (
+        "int f(void); int g(int *p, int c) {\n  if ((c = f()) != 3 && p)\n"
+        "    return c + *p; else if (--c) c = 1; return c; }\n"
+    )
     (after,) = prepared([("a.c", text)], False) or [text]
     missing = placed_tokens(text) - placed_tokens(after)
     expect("tokens keep their places", missing, Counter())
-    del room
 
 
 def try_table() -> None:
@@ -122,8 +126,9 @@ def try_table() -> None:
 def main() -> int:
     """Tries all."""
     with tempfile.TemporaryDirectory() as room:
-        for attempt in (try_rows, try_words, try_behaviour, try_places):
+        for attempt in (try_rows, try_words, try_behaviour):
             attempt(room)
+    try_places()
     try_table()
     return tell(faults)
 

@@ -34,14 +34,14 @@ class Step(NamedTuple):
 def name_conditions(unit: ContextUnit, changes: Changes) -> None:
     """Rewrites a unit's conditions."""
     context = Context()
-    Walk(unit, context, [Conditions(unit, Program(), context, changes)]).walk()
+    Walk(unit, context, [Conditions(unit, context, changes)]).walk()
 
 
 class Conditions(Rewriting):
     """Looks at the conditions of statements, and of `?:`."""
 
-    def __init__(self, unit: ContextUnit, program: Program, context: Context, changes: Changes) -> None:
-        super().__init__(unit, program, context)
+    def __init__(self, unit: ContextUnit, context: Context, changes: Changes) -> None:
+        super().__init__(unit, Program(), context)
         self.changes = changes
 
     def statement(self, node: Statement) -> None:

@@ -29,7 +29,7 @@ class Printed(NamedTuple):
 class Scanned(NamedTuple):
     """A conversion of scanf that writes: how many bytes, or None where the input tells it."""
 
-    count: Optional[int]
+    size: Optional[int]
 
 
 def number_in(word: str) -> int:

@@ -53,7 +53,7 @@ class Instance:
         self.name = name
         parameters = self.parameters()
         body = CALL.sub(lambda match: self.expanded(match, before), self.model.body)
-        body = body.replace("COUNT", self.counted.count)
+        body = body.replace("COUNT", self.counted.number)
         place = marker_to(self.unit.places.of(self.unit.tokens.starts[self.call.token]))
         words = {**ANY, "@": place, "OWN": own, "TARGET": self.target(before)}
         body = WORD.sub(lambda match: words[match.group()], body)
@@ -71,9 +71,11 @@ class Instance:
         raise Unfit
 
     def parameters(self) -> str:
-        """The parameters, with one for each argument; whether the arguments fit them is looked at."""
+        """The parameters, with one for each argument; whether the arguments fit them is looked
+        at."""
         listed, arguments = list(self.model.parameters), self.call.arguments
-        if len(arguments) < len(listed) or (len(arguments) > len(listed) and not self.model.is_variadic):
+        more = len(arguments) - len(listed)
+        if more < 0 or (more > 0 and not self.model.is_variadic):
             raise Unfit
         for number, argument in enumerate(arguments[len(listed) :]):
             self.extras.append(Parameter(type_of_extra(argument), f"x{number}"))
@@ -91,8 +93,9 @@ class Instance:
         kind = self.kind.result
         if "TARGET" not in self.model.body:
             return ""
-        written = spelling(kind.target, self.unit.scope, before) if isinstance(kind, Pointer) else None
-        if written is None or size_of(kind.target if isinstance(kind, Pointer) else None) is None:
+        target = kind.target if isinstance(kind, Pointer) else None
+        written = spelling(target, self.unit.scope, before)
+        if written is None or size_of(target) is None:
             raise Unfit
         return written
 
@@ -149,7 +152,7 @@ class Instance:
                 continue
             count: Optional[int] = 1
             if place < len(conversions):
-                count = conversions[place].count
+                count = conversions[place].size
             size = "1 + ANY_SIZE / 2" if count is None else str(count)
             parts.append(f"@memset((void *){extra.name}, ANY, {size});")
         return " ".join(parts)
@@ -181,9 +184,7 @@ def is_comparison(kind: MaybeType) -> bool:
     function = kind.target if isinstance(kind, Pointer) else None
     if not isinstance(function, Function) or function.parameters is None:
         return False
-    are_pointers = all(
-        isinstance(each, Pointer) and isinstance(each.target, Void) for each in function.parameters
-    )
+    are_pointers = all(map(is_void_pointer, function.parameters))
     result = function.result
     is_int = isinstance(result, Integer) and result.spelling == "int"
     return is_int and are_pointers and len(function.parameters) == 2 and not function.is_variadic
@@ -192,9 +193,14 @@ def is_comparison(kind: MaybeType) -> bool:
 def uncast(node: Expression) -> Expression:
     """An expression without parentheses and casts to `void *` around it."""
     node = stripped(node)
-    while node.kind == "cast" and isinstance(node.type, Pointer) and isinstance(node.type.target, Void):
+    while node.kind == "cast" and is_void_pointer(node.type):
         node = stripped(node.parts[0])
     return node
+
+
+def is_void_pointer(kind: MaybeType) -> bool:
+    """Whether a type is `void *`."""
+    return isinstance(kind, Pointer) and isinstance(kind.target, Void)
 
 
 ESCAPE = re.compile(r"\\(?:[0-7]{1,3}|x[0-9a-fA-F]+|.)", re.DOTALL)

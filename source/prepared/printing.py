@@ -20,7 +20,7 @@ class Counted(NamedTuple):
     """The statements that come first, and the expression for the number."""
 
     before: str
-    count: str
+    number: str
 
 
 UNKNOWN = Counted("", "1 + ANY_SIZE / 2")
@@ -78,17 +78,16 @@ def digits(each: Printed, number: str, name: str) -> str:
     has_sign = is_signed and ("+" in each.flags or " " in each.flags)
     more = 2 * ("#" in each.flags) + has_sign
     least = max(1, each.precision or 0) + more
-    parts = [f"{name} = {least};"]
+    parts, made = [f"{name} = {least};"], f"{name} = 0 * {number} +"
     if is_signed:
-        negative = max(1, each.precision or 0) + 1
-        parts.append(f"if ({number} < 0) {name} = 0 * {number} + {negative};")
+        parts.append(f"if ({number} < 0) {made} {max(1, each.precision or 0) + 1};")
     power, count = base, 2
     while power <= greatest:
         if count > (each.precision or 0):
-            suffix = "" if is_signed else "u"
-            parts.append(f"if ({power}{suffix} <= {number}) {name} = 0 * {number} + {count + more};")
+            power_word = f"{power}" if is_signed else f"{power}u"
+            parts.append(f"if ({power_word} <= {number}) {made} {count + more};")
             if is_signed:
-                parts.append(f"if ({number} <= -{power}) {name} = 0 * {number} + {count + 1};")
+                parts.append(f"if ({number} <= -{power}) {made} {count + 1};")
         power, count = power * base, count + 1
     return " ".join(parts)
 

@@ -49,7 +49,7 @@ static int price_of_first(int count)
     return sum;
 }
 
-/* Cuts a line at its end. Nothing is known of how much memory is where strchr points. */
+/* Cuts a line at its end, where strchr points. */
 static void cut(char *line)
 {
     char *end = strchr(line, '\n');
