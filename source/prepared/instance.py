@@ -26,7 +26,7 @@ ANY = {
     "ANY": "(signed char)256u",
 }
 WORD = re.compile(r"\b(?:ANY_SIZE|ANY_LONG|ANY_INT|ANY|TARGET|OWN)\b|@")
-CALL = re.compile(r"\b(SIZE|SCANNED|PRINTED|ELEMENT)\(([^()]*)\)")
+CALL = re.compile(r"\b(SIZE|SCANNED|PRINTED|ELEMENT|FIRST)\(([^()]*)\)")
 POINTER = "const void *"
 COMPARED = f"int (*{COMPARE})({POINTER}, {POINTER})"
 
@@ -46,6 +46,8 @@ class Instance:
         self.name = ""
         self.extras: list[Parameter] = []
         self.counted = UNKNOWN
+        # What is assigned before the call.
+        self.first = ""
         self.arguments = dict(zip((each.name for each in model.parameters), call.arguments))
 
     def text(self, name: str, before: int, own: str) -> str:
@@ -105,6 +107,9 @@ class Instance:
         names = [name.strip() for name in given.split(",")]
         if word == "SIZE":
             return str(self.size(names[0]))
+        if word == "FIRST":
+            self.first = self.assigned(*names)
+            return ""
         if word == "ELEMENT":
             return self.element(names, before)
         literal = self.literal(names[0])
@@ -121,6 +126,14 @@ class Instance:
         if kind is None:
             kind = value_type(self.arguments[name])
         return (size_of(kind.target) if isinstance(kind, Pointer) else None) or 1
+
+    def assigned(self, pointer: str, value: str) -> str:
+        """An assignment to an object whose address the call gives, of another by its name."""
+        given, name = stripped(self.arguments[pointer]), stripped(self.arguments[value])
+        target = stripped(given.parts[0]) if given.kind == "unary" and given.text == "&" else None
+        if target is None or target.kind != "name" or name.kind != "name":
+            return ""
+        return f"{target.text} = (char *){name.text}"
 
     def element(self, names: list[str], before: int) -> str:
         """The element of a pointer: by its type, where elements have its size, else by bytes."""

@@ -11,7 +11,9 @@ each that may be given. What stands behind an @ has the place of the call.
 - `...` are the arguments that the call has there. SCANNED(f) writes through them what a format
   like that of scanf asks for. COUNT is the number of characters that a format like that of printf
   gives, with the closing 0, behind PRINTED(f), which makes ready for that.
-- OWN is a pointer that all calls of the function in a file share.
+- FIRST(p, q) says that the object to which p points holds q before all else. That is written where
+  the call gives its address, and q by its name.
+- OWN is a pointer that all calls of the function share.
 - ELEMENT(p, i, n) points to the element of p of that number, where elements have n bytes.
 - COMPARISON is the parameter `compare`, a pointer to a function of two pointers.
 */
@@ -82,6 +84,16 @@ int vsnprintf(const void *s, unsigned long n, const void *format, const void *li
 unsigned long strftime(const void *s, unsigned long n, const void *format, const void *time)
 { unsigned long r; r = ANY_SIZE; if (n < r) r = n; @memset((void *)s, ANY, n); return r; }
 
+unsigned long strxfrm(const void *s, const void *t, unsigned long n)
+{ if (n > 0) @memset((void *)s, ANY, n); return ANY_SIZE; }
+
+char *tmpnam(const void *s)
+{ static char name[20]; char *text; text = (char *)s; if (text == 0) text = name;
+  @memset(text, ANY, 20); return ANY ? text : 0; }
+
+void bzero(const void *p, unsigned long n) { @memset((void *)p, 0, n); }
+void bcopy(const void *from, const void *to, unsigned long n) { @memmove((void *)to, from, n); }
+
 /* Texts. */
 char *strncat(const void *s, const void *t, unsigned long n)
 { char *end; unsigned long k; end = (char *)s + @strlen(s); k = @strlen(t); if (n < k) k = n;
@@ -135,11 +147,11 @@ char *strndup(const void *s, unsigned long n)
 
 long strtol(const void *s, const void *end, int base)
 { unsigned long k, n; k = ANY_SIZE; n = @strlen(s); if (n < k) k = n;
-  if (end != 0) @*(char **)end = (char *)s + k; return ANY_LONG; }
+  FIRST(end, s) if (end != 0) @*(char **)end = (char *)s + k; return ANY_LONG; }
 
 unsigned long strtoul(const void *s, const void *end, int base)
 { unsigned long k, n; k = ANY_SIZE; n = @strlen(s); if (n < k) k = n;
-  if (end != 0) @*(char **)end = (char *)s + k; return ANY_SIZE; }
+  FIRST(end, s) if (end != 0) @*(char **)end = (char *)s + k; return ANY_SIZE; }
 
 char *getenv(const void *name)
 { char *text; text = (char *)malloc(1 + ANY_SIZE / 2); memset(text, ANY, 1);
@@ -181,6 +193,7 @@ int fstat(int file, const void *buffer)
 { @memset((void *)buffer, ANY, SIZE(buffer)); return -(ANY != 0); }
 int gettimeofday(const void *time, const void *zone)
 { @memset((void *)time, ANY, SIZE(time)); return -(ANY != 0); }
+long mktime(const void *time) { @memset((void *)time, ANY, SIZE(time)); return ANY_LONG; }
 int pipe(const void *files) { @memset((void *)files, ANY, 8); return -(ANY != 0); }
 int wait(const void *status) { if (status != 0) @memset((void *)status, ANY, 4); return ANY_INT; }
 int waitpid(int process, const void *status, int options)

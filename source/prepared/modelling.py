@@ -16,7 +16,7 @@ from .table import Model, models
 # The calls of a program that get a model at most.
 MOST = 4000
 # What models call.
-CALLED = re.compile(r"\b(memset|strlen|malloc)\(")
+CALLED = re.compile(r"\b(memset|memmove|strlen|malloc)\(")
 
 
 class Modeller:
@@ -29,8 +29,9 @@ class Modeller:
         self.models = models()
         self.fresh = FreshNames({name for unit in units for name in unit.names})
         self.count = 0
-        # The objects that calls of a function share, by unit and name.
-        self.owned: dict[tuple[int, str], str] = {}
+        # The objects that calls of a function share, by its name, and the units that declare them.
+        self.owned: dict[str, str] = {}
+        self.declaring: set[tuple[int, str]] = set()
         # The functions that files define: for all of them, and each for itself.
         self.shared, self.own = shared, own
 
@@ -63,9 +64,14 @@ class Modeller:
             text = made.text(self.fresh.make(call.name), before, own)
         except Unfit:
             return None
-        self.owned.setdefault((id(unit), call.name), own)
+        if own:
+            self.owned[call.name] = own
+            self.declaring.add((id(unit), call.name))
         self.count += 1
         changes.replace(call.token, call.token, made.name)
+        if made.first:
+            changes.before(call.token, f"({made.first}, ")
+            changes.after(call.last, ")")
         return head + text
 
     def model_of(self, unit: ContextUnit, call: Call) -> Optional[Model]:
@@ -75,11 +81,13 @@ class Modeller:
         return None if is_defined else model
 
     def owned_by(self, unit: ContextUnit, name: str, model: Model) -> tuple[str, str]:
-        """The name of what calls of a function share, and its declaration at the first of them."""
+        """The name of what calls of a function share, and its declaration where the unit has none
+        yet: the first of the program defines it."""
         if "OWN" not in model.body:
             return "", ""
-        known = self.owned.get((id(unit), name))
-        if known is not None:
-            return known, ""
+        if (id(unit), name) in self.declaring:
+            return self.owned[name], ""
+        if name in self.owned:
+            return self.owned[name], f"\nextern char *{self.owned[name]};"
         own = self.fresh.make(f"{name}__text")
-        return own, f"\nstatic char *{own};"
+        return own, f"\nchar *{own};"

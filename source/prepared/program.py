@@ -17,6 +17,7 @@ from .modelling import Modeller
 # How what is called is declared, where the program doesn't.
 DECLARATIONS = {
     "memset": "void *memset(void *, int, unsigned long)",
+    "memmove": "void *memmove(void *, const void *, unsigned long)",
     "strlen": "unsigned long strlen(const char *)",
     "malloc": "void *malloc(unsigned long)",
     "exit": "void exit(int)",
