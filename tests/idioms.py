@@ -1,11 +1,11 @@
 #!/usr/bin/env python3
 """Everyday idioms of C, each as a right program and as one with a bug (tests/idioms): what a program says of them in
-the plain and the sharp mode, by both engines, compared with the table of docs/PRECISION.md.
+the plain and the sharp mode, by both engines, and what `source` says, compared with the table of docs/PRECISION.md.
 
 usage: tests/idioms.py PROGRAM [--write]
 
 A right program should have no alarm; the table tells how many lines have one. A wrong program must have an alarm in a
-line that has the comment `here`, in both modes. With --write the numbers of the table are written; the last cell of a
+line that has the comment `here`, in both modes and by `source`. With --write the numbers of the table are written; the last cell of a
 row, why there are alarms, stays.
 """
 from __future__ import annotations
@@ -22,8 +22,12 @@ FOLDER = os.path.join("tests", "idioms")
 DOCUMENT = os.path.join(TOP, "docs", "PRECISION.md")
 ENGINES = ("analyse", "dense")
 MODES: dict[str, tuple[str, ...]] = {"plain": (), "sharp": ("--sharp",)}
-HEAD = "| idiom | plain | sharp | why |"
-ROW = re.compile(r"\| `(\w+)` \| ([^|]*) \| ([^|]*) \| ([^|]*)\|")
+# `source` prepares a program, and takes the sharp mode.
+SOURCE = "source"
+COLUMNS = [*MODES, SOURCE]
+HEAD = f"| idiom | {' | '.join(COLUMNS)} | why |"
+RULE = "|---" * (len(COLUMNS) + 2) + "|"
+ROW = re.compile(r"\| `(\w+)` (?:\| [^|]*)+\| ([^|]*)\|")
 TOTAL = "| all |"
 HERE = "/* here */"
 ALARM = re.compile(r"[^:]*:([0-9]+):[0-9]+: .*")
@@ -38,7 +42,7 @@ class Row:
 
     def text(self, name: str) -> str:
         """The line of the table."""
-        cells = [str(self.counts[mode]) if self.counts[mode] else "" for mode in MODES]
+        cells = [str(self.counts[mode]) if self.counts[mode] else "" for mode in COLUMNS]
         return "".join(f"| {cell} " if cell else "| " for cell in (f"`{name}`", *cells, self.why)) + "|"
 
 
@@ -61,6 +65,8 @@ def wrong_lines(name: str) -> set[int]:
 def report(program: str, engine: str, mode: str, path: str) -> tuple[int, str]:
     """The status and what is written."""
     words = [program, engine, *MODES[mode], path]
+    if mode == SOURCE:
+        words = [os.path.join(TOP, "sparrow"), SOURCE, "--format=plain", path]
     done = subprocess.run(words, cwd=TOP, capture_output=True, text=True, check=False)
     return done.returncode, done.stdout
 
@@ -73,12 +79,13 @@ def lines_of(said: str) -> set[int]:
 def try_program(program: str, name: str, kind: str, mode: str, faults: dict[str, str]) -> set[int]:
     """The lines that have an alarm, where both engines write the same."""
     path = path_of(name, kind)
-    said = {engine: report(program, engine, mode, path) for engine in ENGINES}
+    engines = ENGINES if mode in MODES else ENGINES[:1]
+    said = {engine: report(program, engine, mode, path) for engine in engines}
     status, text = said["analyse"]
     lines = lines_of(text)
     row = f"{path}, {mode}"
-    same = said["dense"] == said["analyse"]
-    faults[f"{row}: both engines"] = "" if same else f"analyse {said['analyse']}\ndense {said['dense']}"
+    same = len(set(said.values())) == 1
+    faults[f"{row}: both engines"] = "" if same else "\n".join(map(str, said.items()))
     faults[f"{row}: status"] = "" if status == int(bool(lines)) else f"status {status}\n{text}"
     return lines
 
@@ -86,7 +93,7 @@ def try_program(program: str, name: str, kind: str, mode: str, faults: dict[str,
 def measured(program: str, name: str, faults: dict[str, str]) -> dict[str, int]:
     """How many lines of the right program have an alarm in each mode; the bug has one in both."""
     counts = {}
-    for mode in MODES:
+    for mode in COLUMNS:
         counts[mode] = len(try_program(program, name, "ok", mode, faults))
         found = try_program(program, name, "bad", mode, faults)
         wanted = wrong_lines(name)
@@ -103,13 +110,13 @@ def document() -> list[str]:
 
 def why_by_name(lines: list[str]) -> dict[str, str]:
     """The last cells of the rows."""
-    return {match.group(1): match.group(4).strip() for match in map(ROW.match, lines) if match}
+    return {match.group(1): match.group(2).strip() for match in map(ROW.match, lines) if match}
 
 
 def total(rows: dict[str, Row]) -> str:
     """The last row: how many idioms have an alarm."""
-    counts = [sum(row.counts[mode] > 0 for row in rows.values()) for mode in MODES]
-    lines = [sum(row.counts[mode] for row in rows.values()) for mode in MODES]
+    counts = [sum(row.counts[mode] > 0 for row in rows.values()) for mode in COLUMNS]
+    lines = [sum(row.counts[mode] for row in rows.values()) for mode in COLUMNS]
     cells = [f"{count} idioms, {line} lines" for count, line in zip(counts, lines)]
     return f"{TOTAL} {' | '.join(cells)} | of {len(rows)} |"
 
@@ -117,12 +124,12 @@ def total(rows: dict[str, Row]) -> str:
 def table(rows: dict[str, Row]) -> list[str]:
     """The lines of the table, with those idioms that have an alarm in some mode."""
     told = [row.text(name) for name, row in rows.items() if any(row.counts.values())]
-    return [HEAD, "|---|---|---|---|", *told, total(rows)]
+    return [HEAD, RULE, *told, total(rows)]
 
 
 def is_of_table(line: str) -> bool:
     """Whether a line of the document is one of the table."""
-    return line == HEAD or line.startswith(("| `", TOTAL, "|---|---|---|---|"))
+    return line.startswith(("| idiom |", "| `", TOTAL, "|---"))
 
 
 def main() -> int:
@@ -133,7 +140,7 @@ def main() -> int:
     why = why_by_name(lines)
     rows = {name: Row(measured(program, name, faults), why.get(name, "")) for name in names()}
     if "--write" in sys.argv[2:]:
-        first = lines.index(HEAD)
+        first = next(place for place, line in enumerate(lines) if is_of_table(line))
         rest = [line for line in lines if not is_of_table(line)]
         with open(DOCUMENT, "w", encoding="utf-8") as file:
             file.write("\n".join(rest[:first] + table(rows) + rest[first:]))

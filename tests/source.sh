@@ -207,7 +207,7 @@ for signal in TERM HUP; do
     check "$signal leaves nothing behind" 0 '' ls "$TMPDIR"
 done
 python3 -I tests/source_headers.py || failed=$((failed + 1))
-for part in report formats baseline why contexts outside documents; do
+for part in report formats baseline why contexts prepared outside documents; do
     PYTHONDONTWRITEBYTECODE=1 python3 "tests/source_$part.py" || failed=$((failed + 1))
 done
 bash tests/source_rewriting.sh || failed=$((failed + 1))

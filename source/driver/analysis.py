@@ -4,7 +4,7 @@ from __future__ import annotations
 
 import os
 
-from .failure import REFUSED
+from .failure import REFUSED, say
 from .processes import run
 from .progress import Progress
 from .room import Room
@@ -54,10 +54,15 @@ def analysed(room: Room, request: Request) -> tuple[int, bytes]:
     with Progress("preparing"):
         preparing = Preparing(room, request.has_models)
     answer = with_copies(room, request)
-    if preparing.is_done and answer[0] == REFUSED:
-        preparing.take_back()
-        return with_copies(room, request)
-    return answer
+    if not preparing.is_done or answer[0] != REFUSED:
+        return answer
+    preparing.take_back()
+    plain = with_copies(room, request)
+    if plain[0] != REFUSED:
+        # What was put in is wrong, whatever was overlooked.
+        first = answer[1].decode("latin-1").partition("\n")[0]
+        say(f"no models of the library: with them it is {first}")
+    return plain
 
 
 def with_copies(room: Room, request: Request) -> tuple[int, bytes]:

@@ -9,7 +9,7 @@ from c.constants import value_of
 from c.edits import marker_to
 from c.rules import stripped, value_type
 from c.trees import Expression
-from c.types import Function, Integer, MaybeType, Pointer, Void, decayed, promoted, size_of
+from c.types import Floating, Function, Integer, MaybeType, Pointer, Void, decayed, promoted, size_of
 from contexts.functions import Call, ContextUnit
 from contexts.meant import spelling
 from outside.written import is_null
@@ -59,18 +59,18 @@ class Instance:
         place = marker_to(self.unit.places.of(self.unit.tokens.starts[self.call.token]))
         words = {**ANY, "@": place, "OWN": own, "TARGET": self.target(before)}
         body = WORD.sub(lambda match: words[match.group()], body)
-        return f"{place}static {self.result()} {name}({parameters}) {{ {body} }}"
+        return f"{place}static {self.result(before)} {name}({parameters}) {{ {body} }}"
 
-    def result(self) -> str:
+    def result(self, before: int) -> str:
         """The type of the result: the one that the program declares."""
         kind, written = self.kind.result, self.model.result
-        if isinstance(kind, Integer) and not written.endswith("*") and written != "void":
-            return kind.spelling
-        if isinstance(kind, Pointer) and written.endswith("*"):
-            return "void *"
-        if isinstance(kind, Void) and written == "void":
-            return written
-        raise Unfit
+        is_pointer, is_void = written.endswith("*"), written == "void"
+        if isinstance(kind, Pointer) != is_pointer or isinstance(kind, Void) != is_void:
+            raise Unfit
+        spelled = spelling(kind, self.unit.scope, before)
+        if spelled is None or isinstance(kind, Floating):
+            raise Unfit
+        return spelled
 
     def parameters(self) -> str:
         """The parameters, with one for each argument; whether the arguments fit them is looked
