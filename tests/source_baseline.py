@@ -161,6 +161,19 @@ def try_ignoring(room: Room) -> None:
     expect("it is said", room.run()[2], "sparrow: a.c:4: 'sparrow: ignore' wants a reason\n")
 
 
+def try_ignoring_known(room: Room) -> None:
+    """A comment at one of two equal lines leaves the fingerprints of both."""
+    known = ("--baseline", "equal.json")
+    room.write(HEAD + FIRST + FIRST + TAIL)
+    room.run(*known, "--update-baseline")
+    room.write(HEAD + IGNORED + FIRST + TAIL)
+    expect("the other line stays known", room.last(*known, "--fail-on=new"),
+           (0, "0 new warnings; 1 ignored; 1 in the baseline"))
+    room.write(HEAD + "  a[3] = 1; /* sparrow: ignore */\n" + FIRST + TAIL)
+    expect("a comment without a reason makes nothing new", room.last(*known, "--fail-on=new"),
+           (0, "0 new warnings; 2 in the baseline"))
+
+
 def try_ignoring_nothing(room: Room) -> None:
     """Comments that ignore nothing are told, where they stand in a given file."""
     room.write("#define SET(x) (x = 1) /* sparrow: ignore it */\n" + HEAD + "  SET(a[3]);\n" + TAIL)
@@ -221,6 +234,7 @@ def main() -> int:
         try_baseline(room)
         try_bad_baselines(room)
         try_ignoring(room)
+        try_ignoring_known(room)
         try_ignoring_nothing(room)
         try_time(room)
     return tell(faults)

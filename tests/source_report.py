@@ -170,10 +170,20 @@ def fingerprint_faults() -> dict[str, str]:
         fingerprints = Fingerprints()
         return [fingerprints.next(*warning) for warning in warnings]
 
+    def commented(line: str) -> tuple[str, str, str]:
+        return OVERRUN, "a.c", line
+
     here, other = (OVERRUN, "a.c", "a[i] = 1;"), (OVERRUN, "a.c", "b[i] = 1;")
     rows = {
         "the same again": of(here) == of(here),
         "blanks": of(here) == of((OVERRUN, "a.c", "\t a[i]=1 ;\r")),
+        "a comment that ignores": of(here) == of(commented("a[i] = 1; /* sparrow: ignore i */")),
+        "another comment": of(here) == of(commented("/* one */ a[/* two */ i] = 1; // three")),
+        "an open comment": of(here) == of(commented("a[i] = 1; /* it goes on")),
+        "a comment doesn't number equal ones": (
+            of(commented("a[i] = 1; /* one */"), here) == of(here, here)
+        ),
+        "a comment in a string is text": of(commented('f("/* a */");')) != of(commented('f("");')),
         "the text": of(here) != of(other),
         "the kind": of(here) != of((ZERO, "a.c", "a[i] = 1;")),
         "the file": of(here) != of((OVERRUN, "b.c", "a[i] = 1;")),

@@ -1,7 +1,7 @@
 """Warnings that are known: a file with a fingerprint for each, which doesn't hang on its place.
 
-A fingerprint is a sum over the kind, the file, the text of the line without blanks, and how many
-equal ones stand before it. So it stays where lines move.
+A fingerprint is a sum over the kind, the file, the text of the line without blanks and comments, and
+how many equal ones stand before it. So it stays where lines move, and where a comment comes.
 """
 
 from __future__ import annotations
@@ -12,6 +12,8 @@ import re
 from collections.abc import Iterable
 
 from driver.failure import USAGE, Failure, unreadable
+
+from .comments import without_comments
 
 FORMAT, VERSION = "sparrow-baseline", 1
 UPDATING = "--update-baseline writes it"
@@ -29,7 +31,7 @@ class Fingerprints:
     def next(self, kind: str, file: str, text: str) -> str:
         """The fingerprint of the next warning of that kind in a line of a file."""
         if text not in self.sums:
-            self.sums[text] = sum_of("".join(text.split()))
+            self.sums[text] = sum_of("".join(without_comments(text).split()))
         key = (kind, file, self.sums[text])
         ordinal = self.counts.get(key, 0)
         self.counts[key] = ordinal + 1

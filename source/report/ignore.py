@@ -5,12 +5,11 @@ from __future__ import annotations
 import re
 from typing import Optional
 
+from .comments import comments_in
+
 WORD = "sparrow:"
-# What looks like a comment within a string is none.
-PART = re.compile(
-    r"""L?"(?:\\.|[^"\\])*"? | L?'(?:\\.|[^'\\])*'?
-    | /\*\s*sparrow:\s*ignore\b(.*?)(?:\*/|\Z) | //\s*sparrow:\s*ignore\b(.*)
-    | /\*.*?(?:\*/|\Z) | //.*""",
+COMMENT = re.compile(
+    r"/\*\s*sparrow:\s*ignore\b(.*?)(?:\*/|\Z) | //\s*sparrow:\s*ignore\b(.*)",
     re.VERBOSE | re.DOTALL,
 )
 
@@ -32,8 +31,9 @@ def reason_in(line: str) -> Optional[str]:
     """The reason that a line gives, without blanks around; empty where it gives none."""
     if WORD not in line:
         return None
-    for match in PART.finditer(line):
-        for reason in match.groups():
+    for comment in comments_in(line):
+        match = COMMENT.match(comment)
+        for reason in match.groups() if match is not None else ():
             if reason is not None:
                 return str(reason).strip()
     return None
