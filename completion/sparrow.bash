@@ -27,7 +27,7 @@ _sparrow() {
         return
     fi
     case ${COMP_WORDS[1]} in
-        source) options+=' --sharp --plain --strict --keep --compile-commands --target -D -I -U -idirafter -imacros -include -iquote -isystem --contexts= --no-contexts --no-models --format --output --color --baseline --update-baseline --fail-on --why' ;;
+        source) options+=' --sharp --plain --strict --keep --compile-commands --target -D -I -U -idirafter -imacros -include -iquote -isystem --contexts= --no-contexts --no-models --format --output --progress --color --baseline --update-baseline --fail-on --why' ;;
         analyse | dense) options+=' --nodes --sharp' ;;
         calls) options='' ;;
         *) return ;;

@@ -100,7 +100,7 @@ check 'the commands' 0 $'source\n' complete_words sparrow s
 check 'a command' 0 $'calls\n' complete_words sparrow c
 check 'the options of analyse' 0 $'--values\n--nodes\n--sharp\n' complete_words sparrow analyse -
 options=$'--values\n--sharp\n--plain\n--strict\n--keep\n--compile-commands\n--target\n'
-options+=$'--contexts=\n--no-contexts\n--no-models\n--format\n--output\n--color\n--baseline\n--update-baseline\n--fail-on\n--why\n'
+options+=$'--contexts=\n--no-contexts\n--no-models\n--format\n--output\n--progress\n--color\n--baseline\n--update-baseline\n--fail-on\n--why\n'
 check 'the options of source' 0 "$options" complete_words sparrow source --
 check 'the forms of a report' 0 $'sarif\n' complete_words sparrow source --format s
 check 'a form behind a =' 0 $'sarif\n' complete_words sparrow source --format = sa

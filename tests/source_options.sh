@@ -194,4 +194,17 @@ on_terminal() {
 }
 check 'a terminal is told what is done' 0 $'1\n' on_terminal
 check 'nothing else is' 0 '' eval 'slow 2>&1 >/dev/null'
+steps=$'sparrow: preprocessing 1 of 1\nsparrow: copying\nsparrow: analysing\n'
+check 'plain lines where they are asked for' 0 "$steps" eval 'slow --progress 2>&1 >/dev/null'
+check 'standard output has none of them' 0 $'0 warnings\n' slow --progress
+repeated() {
+    python3 -I -c 'import sys, time
+sys.path.insert(0, "source")
+from driver import progress
+progress.REPEAT = 1.0
+progress.Progress.has_lines = True
+with progress.Progress("waiting"):
+    time.sleep(1.5)' 2>&1
+}
+check 'a step that goes on is told again' 0 $'sparrow: waiting\nsparrow: waiting, 1 s\n' repeated
 finish

@@ -24,6 +24,7 @@ def main(words: list[str]) -> int:
     request = None
     try:
         request = read_words(words)
+        Progress.has_lines = request.has_progress
         status = analyse(request)
     except Misused as misused:
         # The program says how it is used.

@@ -30,6 +30,8 @@ class Request:
         self.flags: list[str] = []
         self.keep: str | None = None
         self.is_strict = False
+        # Whether each step of the run is a line on standard error.
+        self.has_progress = False
         # Functions of up to so many tokens are copied for each call, as wrappers are; None is none.
         self.copied: int | None = 0
         # Whether models stand for functions of the library.
@@ -77,6 +79,8 @@ def take(request: Request, words: list[str], at: int) -> int:
         request.is_strict = True
     elif word == "--no-models":
         request.has_models = False
+    elif word == "--progress":
+        request.has_progress = True
     elif word == "--no-contexts":
         request.copied = None
     elif option == "--contexts":
