@@ -9,7 +9,7 @@ from c.trees import Declarator, Expression, FunctionDefinition, Specifiers, Stat
 from rewriting.unit import Program, Unit
 from rewriting.walk import Context, Rewriting, Walk
 
-from .cells import Cells, qualified
+from .cells import Cells, is_function, qualified
 from .values import Nodes, Uses
 
 # What is said of a value that is there at the start.
@@ -67,8 +67,10 @@ class Gather(Rewriting):
         self.accesses: dict[Place, list[Definition]] = {}
         # All objects that are declared.
         self.objects: dict[str, Definition] = {}
-        # The calls of each function, and the formals of each that is defined.
+        # The calls of each function by its name, all others, and the formals of each function that
+        # is defined.
         self.calls: dict[str, list[Definition]] = {}
+        self.indirect: list[Definition] = []
         self.formals: dict[str, list[Optional[str]]] = {}
 
     def new(self, first: int, last: int) -> Definition:
@@ -116,10 +118,12 @@ class Gather(Rewriting):
             is_plain = node.kind == "assign" and node.text == "="
             made.value = node.parts[1] if is_plain else node
             self.found.append(made)
-        if node.kind == "call" and node.parts[0].kind == "name":
+        if node.kind == "call":
             made = self.new(node.first, node.last)
             made.value = node
-            self.calls.setdefault(node.parts[0].text, []).append(made)
+            is_direct = is_function(node.parts[0])
+            named = self.calls.setdefault(node.parts[0].text, []) if is_direct else self.indirect
+            named.append(made)
         if node.kind in ACCESSES:
             made = self.new(node.first, node.last)
             made.value = node
@@ -170,6 +174,8 @@ class Definitions:
         for each in gathered:
             for name, calls in each.calls.items():
                 self.add_arguments(calls, formals.get(name, []))
+            for call in each.indirect:
+                self.add_indirect(call, formals)
 
     def add_arguments(self, calls: list[Definition], formals: list[Optional[str]]) -> None:
         """The arguments of a function's calls define its formals."""
@@ -179,6 +185,14 @@ class Definitions:
                 made = Definition(call.unit, call.function, call.token, call.last)
                 made.name, made.value = formal, argument
                 self.add(made)
+
+    def add_indirect(self, call: Definition, formals: dict[str, list[Optional[str]]]) -> None:
+        """The same of a call through a pointer. It calls the functions to which the values at its
+        place point and that take as many arguments, as the command `calls` has it."""
+        parts = [] if call.value is None else call.value.parts
+        for name in call.cells(self.nodes).called(parts[0]) if parts else ():
+            if len(formals.get(name, ())) == len(parts) - 1:
+                self.add_arguments([call], formals[name])
 
     def add(self, made: Definition) -> None:
         """Keeps a definition."""
