@@ -71,6 +71,44 @@ def try_objects(room: str) -> None:
     expect("it is a note in text", lines[3], "a.c:1:5: note: it may be in 'a[]'")
 
 
+# Names, declarations, statements of main that have one warning, and the notes of its objects.
+OBJECTS = (
+    ("an array by its name", "int a[3];", "a[i] = 1;", ["1:5 'a' is declared here"]),
+    ("a local array", "", "int b[2]; b[i] = 1;", ["4:23 'main.b' is declared here"]),
+    ("an array in an array is one", "int a[2][3];", "a[1][i] = 1;", ["1:5 'a' is declared here"]),
+    ("a member", "struct { int n, a[2]; } s;", "s.a[i] = 1;", ["1:25 's.a' is declared here"]),
+    ("a member through a pointer", "struct s { int a[2]; } s, *to = &s;", "to->a[i] = 1;",
+     ["1:24 it may be in 's.a[]'"]),
+    ("a result that is followed", "int a[3]; int *f(void) { return a; }", "f()[i] = 1;",
+     ["1:5 it may be in 'a[]'"]),
+    ("a block of a constant size", "void *malloc(unsigned long);", "char *p = malloc(2); p[i] = 1;",
+     ["4:29 it may be in '%heap.N'"]),
+    ("a block that is assigned", "void *malloc(unsigned long);",
+     "char *p; p = (char *)malloc(3); p[i] = 1;", ["4:40 it may be in '%heap.N'"]),
+    ("a string has no place", "", 'char *p = "ab"; i = p[i];', []),
+)
+
+
+def try_places(room: str) -> None:
+    """Where the object is declared that an access leaves, or allocated."""
+    for name, head, statements, want in OBJECTS:
+        body = f"  int i = 3;      {statements}\n  return 0;\n"
+        write(room, f"{head}\nint main(void)\n{{\n{body}}}\n")
+        warnings = json.loads(source(room, "--why", "--format=json", "a.c")[1])["warnings"]
+        told = [
+            re.sub("heap.[0-9]+", "heap.N", f"{note['line']}:{note['column']} {note['message']}")
+            for each in warnings for note in each.get("objects", ())
+        ]
+        expect(f"{name}: one warning", len(warnings), 1)
+        expect(f"the place of {name}", told, want)
+    write(room, "#include <stdlib.h>\nstatic char *get(void)\n{\n  static char kept[2];\n"
+                "  return kept[0] ? malloc(2) : kept;\n}\nint main(void)\n{\n  char *p = get();\n"
+                "  char *q = get();\n  q[0] = 1;\n  return p[2];\n}\n")
+    warnings = json.loads(source(room, "--why", "--format=json", "a.c")[1])["warnings"]
+    told = sorted({(note["line"], note["column"]) for note in warnings[0]["objects"]})
+    expect("objects of a copy stand where the function has them", told, [(4, 15), (5, 20)])
+
+
 def try_arguments(room: str) -> None:
     """What main is given is memory from outside: a pointer that is read there may be any."""
     write(room, "int main(int n, char **v)\n{\n  return **v;\n}\n")
@@ -142,6 +180,7 @@ def main() -> int:
     with tempfile.TemporaryDirectory() as room:
         try_rows(room)
         try_objects(room)
+        try_places(room)
         try_arguments(room)
         try_forms(room)
         try_modes(room)

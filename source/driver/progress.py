@@ -1,4 +1,4 @@
-"""What is done, where it takes long: a line on a terminal, or plain lines where they are asked for."""
+"""What is done, where it takes long: a line on a terminal, or plain lines if they are asked for."""
 
 from __future__ import annotations
 

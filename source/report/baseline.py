@@ -1,7 +1,7 @@
 """Warnings that are known: a file with a fingerprint for each, which doesn't hang on its place.
 
-A fingerprint is a sum over the kind, the file, the text of the line without blanks and comments, and
-how many equal ones stand before it. So it stays where lines move, and where a comment comes.
+A fingerprint is a sum over the kind, the file, the text of the line without blanks and comments,
+and how many equal ones stand before it. So it stays where lines move, and where a comment comes.
 """
 
 from __future__ import annotations

@@ -40,6 +40,11 @@ class Definition:
         """Its place."""
         return self.unit.places.of(self.unit.tokens.starts[self.token])
 
+    @property
+    def end(self) -> Place:
+        """The place of its last token."""
+        return self.unit.places.of(self.unit.tokens.starts[self.last])
+
     def cells(self, nodes: Nodes) -> Cells:
         """The locations of its expressions, by what is used at its tokens."""
         if self.known_uses is None:
@@ -158,10 +163,13 @@ class Definitions:
         self.accesses: dict[Place, list[Definition]] = {}
         self.objects: dict[str, Definition] = {}
         self.functions: set[str] = set()
+        # What main is given.
+        self.given: list[Definition] = []
         gathered = [gathered_in(Unit(text, file)) for file, text in texts]
         for each in gathered:
             self.functions |= set(each.formals)
             self.objects.update(each.objects)
+            self.given += each.arguments
             for place, found in each.accesses.items():
                 self.accesses.setdefault(place, []).extend(found)
             for made in each.found:

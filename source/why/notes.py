@@ -49,9 +49,7 @@ def explain(
     places += [each.place for _, _, _, objects in told for each in objects]
     spots = Spots(Sources(), remembered, [Finding(place, REFUSED) for place in places])
     for item, cause, found, objects in told:
-        item.objects = [
-            noted(each.place, f"it may be in '{each.region}'", spots) for each in objects
-        ]
+        item.objects = [noted(each.place, each.said, spots) for each in objects]
         if cause is not None:
             item.notes = [
                 noted(place, said, spots) for place, said in zip(found, sentences_of(cause))

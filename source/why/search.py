@@ -5,7 +5,6 @@ printed have what is wrong, too. A cause is one that makes it of values which ha
 
 from __future__ import annotations
 
-import re
 from typing import NamedTuple, Optional
 
 from c.places import Place
@@ -15,8 +14,9 @@ from report.folding import Finding, is_unknown
 from report.kinds import NULL, OVERRUN, UNKNOWN, ZERO
 
 from .badness import PAST, UNSIZED, Badness, badness_of
+from .blocks import GIVEN, OF_MAIN, Blocks
 from .cells import Cells, calls, computes, constants, is_function
-from .definitions import ARGUMENT, OUTSIDE, STARTS, Definition, Definitions
+from .definitions import OUTSIDE, STARTS, Definition, Definitions
 from .values import Nodes, Uses, Value
 
 # So many locations are looked at for a warning.
@@ -28,8 +28,6 @@ UNKNOWN_SIZE = {
     "ext": "comes from outside, and its size isn't known",
 }
 HELD = "is memory from outside"
-# A block, or what comes from outside, with the number of the node that gets it.
-GIVEN = re.compile(r"%(heap|ext)\.([0-9]+)")
 
 
 class Step(NamedTuple):
@@ -58,6 +56,7 @@ class Search:
     def __init__(self, texts: list[tuple[str, str]], lines: list[str]) -> None:
         self.nodes = Nodes(lines)
         self.definitions = Definitions(texts, self.nodes)
+        self.blocks = Blocks(self.nodes, self.definitions)
         self.known: dict[State, tuple[list[Cause], list[tuple[State, Place]]]] = {}
 
     def cause(self, finding: Finding) -> Optional[Cause]:
@@ -77,8 +76,9 @@ class Search:
             value = self.nodes.uses[node].get(location)
             for target in value.targets if value is not None else ():
                 match = GIVEN.match(target.region)
-                if match is not None and is_unknown(target.size):
-                    place = self.nodes.places.get(int(match.group(2)))
+                # What main is given is told by the parameter that points there.
+                if match is not None and match.group() != OF_MAIN and is_unknown(target.size):
+                    place = self.blocks.place(match.group())
                     if place is not None:
                         return Cause(place, match.group(), UNKNOWN_SIZE[match.group(1)], [])
         return None
@@ -180,11 +180,7 @@ class Search:
         match = GIVEN.match(location)
         if match is None or match.group(1) != "ext":
             return []
-        place = self.nodes.places.get(int(match.group(2)))
-        starts = self.definitions.starting.values()
-        given = [made.place for made, what in starts if what == ARGUMENT]
-        if place is None and match.group(2) == "0" and given:
-            place = given[-1]
+        place = self.blocks.place(location)
         return [] if place is None else [Cause(place, location, HELD, [])]
 
 

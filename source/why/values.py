@@ -10,6 +10,9 @@ from report.folding import ALARM, INTERVAL, Interval, kind_of
 
 USE = re.compile(r"node ([0-9]+) (.*):([0-9]+):([0-9]+): (\S+) = (none|[\[&].*)", re.DOTALL)
 ALARM_OF_NODE = re.compile(r"node ([0-9]+) (.*)", re.DOTALL)
+# The result of a call, and memory that a call gives.
+RESULT = re.compile(r".*\.%[0-9]+", re.DOTALL)
+MEMORY = re.compile(r"%(?:heap|ext)\.([0-9]+)")
 TARGET = re.compile(r"&(\S+)\+\[(-?[0-9]+),(-?[0-9]+)\]/\[([0-9]+),([0-9]+)\]")
 
 
@@ -48,6 +51,8 @@ class Nodes:
         self.at: dict[Place, list[int]] = {}
         # The nodes of the alarms of each place and kind.
         self.alarms: dict[tuple[Place, str], list[int]] = {}
+        # Where the memory that a call gives is taken: by the first node behind the call's own.
+        self.taken: dict[str, Place] = {}
         for line in lines:
             self.read(line)
 
@@ -62,6 +67,8 @@ class Nodes:
                 self.places[node] = Place(file, int(row), int(column))
                 self.at.setdefault(self.places[node], []).append(node)
             self.uses[node][location] = value_of(value)
+            if RESULT.fullmatch(location):
+                self.take(node, self.uses[node][location])
             return
         told = ALARM_OF_NODE.fullmatch(line)
         alarm = None if told is None else ALARM.fullmatch(told.group(2))
@@ -71,6 +78,12 @@ class Nodes:
             nodes = self.alarms.setdefault(key, [])
             if int(told.group(1)) not in nodes:
                 nodes.append(int(told.group(1)))
+
+    def take(self, node: int, value: Value) -> None:
+        """Keeps where a node takes the result of a call, if that is one piece of memory."""
+        match = MEMORY.match(value.targets[0].region) if len(value.targets) == 1 else None
+        if match is not None and int(match.group(1)) < node:
+            self.taken.setdefault(match.group(), self.places[node])
 
     def used_at(self, places: Iterable[Place]) -> Uses:
         """What the nodes at some places use together."""
