@@ -12,7 +12,7 @@ from __future__ import annotations
 from typing import NamedTuple, Optional
 
 from c.rules import stripped
-from c.trees import Expression, Statement, Symbol
+from c.trees import Expression, Statement
 from c.types import Integer, Pointer
 from contexts.functions import ContextUnit
 from rewriting.unit import Program
@@ -113,13 +113,17 @@ class Conditions(Rewriting):
         steps = [side for side in sides if side.kind == "postfix"]
         if len(steps) != 1 or not all(side is steps[0] or is_plain(side) for side in sides):
             return None
-        symbol = changed(steps[0])
-        if symbol is None or any(side.symbol is symbol for side in sides):
+        target = changed(steps[0])
+        if target is None or any(side.symbol is target.symbol for side in sides if side.symbol):
             return None
         values = self.tokens.values
         tokens = range(inner.first, inner.last + 1)
         test = " ".join(values[token] for token in tokens if token != steps[0].last)
-        return Step(node, test, f"{symbol.name}{values[steps[0].last]}")
+        return Step(node, test, f"{self.text(target)}{values[steps[0].last]}")
+
+    def text(self, node: Expression) -> str:
+        """An expression on one line."""
+        return " ".join(self.tokens.values[node.first : node.last + 1])
 
     def tested(self, node: Expression) -> None:
         """A condition, or a part of one that is tested by itself: behind an assignment, or ++ and
@@ -137,12 +141,13 @@ class Conditions(Rewriting):
 
     def named(self, node: Expression) -> None:
         """Names what an assignment, or ++ and --, changes."""
-        symbol = changed(node)
-        if symbol is None:
+        target = changed(node)
+        if target is None:
             return
         if node.kind == "prefix":
             self.changes.before(node.first, "(")
-        self.changes.after(node.last, f", {symbol.name}{')' if node.kind == 'prefix' else ''}")
+        end = ")" if node.kind == "prefix" else ""
+        self.changes.after(node.last, f", {self.text(target)}{end}")
 
 
 def conjuncts(node: Expression) -> list[Expression]:
@@ -157,13 +162,18 @@ def taken(step: Step) -> str:
     return f"if ({step.test}) {step.change}; else {{ {step.change}; break; }}"
 
 
-def changed(node: Expression) -> Optional[Symbol]:
-    """The scalar object by whose name an expression changes it."""
+def changed(node: Expression) -> Optional[Expression]:
+    """The scalar object, or member of one, by whose name an expression changes it."""
     target = stripped(node.parts[0])
-    symbol = target.symbol
-    if target.kind != "name" or symbol is None or symbol.kind != "object":
-        return None
-    return symbol if isinstance(symbol.type, (Integer, Pointer)) else None
+    is_scalar = isinstance(target.type, (Integer, Pointer))
+    return target if is_scalar and is_named(target) else None
+
+
+def is_named(node: Expression) -> bool:
+    """Whether an expression is an object by its name, or a member of one."""
+    if node.kind == "member" and node.text == ".":
+        return is_named(stripped(node.parts[0]))
+    return node.kind == "name" and node.symbol is not None and node.symbol.kind == "object"
 
 
 def is_plain(node: Expression) -> bool:

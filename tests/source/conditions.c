@@ -41,6 +41,7 @@ static void steps(void)
   unsigned u;
   const char *t = "abc";
   char narrow = -128;
+  struct { int c; } r;
 
   n = 4;
   while (n-- > 0)
@@ -111,6 +112,12 @@ static void steps(void)
   show("other side", n, calls);
   if (n++ > n)
     show("itself", n, 0);
+  r.c = 3;
+  while (r.c-- > m)
+    s++;
+  show("member", r.c, s);
+  if ((r.c = next(4)) != 3 && --r.c == 3)
+    show("member and step", r.c, s);
   n = 0;
   while (n++ < 3) switch (n) { case 1: continue; case 2: break; default: show("switch", n, 0); }
   show("behind", n, 0);
