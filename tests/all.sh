@@ -12,4 +12,8 @@ for name in script install rows examples statuses cases source dist; do
 done
 echo "== tests/soundness.py"
 python3 tests/soundness.py || failed+=("tests/soundness.py")
+for name in hostile_self hostile; do
+    echo "== tests/$name.py"
+    python3 "tests/$name.py" || failed+=("tests/$name.py")
+done
 [ ${#failed[@]} -eq 0 ] || { echo "FAILED: ${failed[*]}"; exit 1; }

@@ -12,6 +12,7 @@ run takes less than 20 s of a processor and 2 GiB. Where the program takes `--sh
 from __future__ import annotations
 
 import argparse
+import functools
 import multiprocessing
 import os
 import subprocess
@@ -28,8 +29,8 @@ from hostile_limits import ACCEPTED
 from hostile_runs import Answer, Runner
 from hostile_texts import Corpus
 
-MODES = {"plain": [], "sharp": ["--sharp"]}
-PART = 50  # inputs that a job takes at a time
+MODES: dict[str, list[str]] = {"plain": [], "sharp": ["--sharp"]}
+PART = 50  # inputs of a task
 
 
 @dataclass
@@ -45,6 +46,17 @@ class Told:
         self.failures += other.failures
         self.counts += other.counts
         self.seconds, self.memory = max(self.seconds, other.seconds), max(self.memory, other.memory)
+
+
+@dataclass(frozen=True)
+class Task:
+    """Some inputs, and where their texts come from and go to."""
+
+    program: str
+    texts: Optional[Path]
+    keep: Optional[Path]
+    seeds: range
+    keep_each: bool
 
 
 class Tester:
@@ -64,7 +76,7 @@ class Tester:
         for seed in seeds:
             it = made(seed, self.corpus)
             faults = self.one(it, told.counts)
-            told.failures += [f"FAILED seed {seed}, {it.kind}, {fault}: {it.beginning()}" for fault in faults]
+            told.failures += [f"FAILED seed {seed}, {it.kind}, {what}: {it.beginning()}" for what in faults]
             if self.keep is not None and (faults or keep_each):
                 written(it.texts, self.keep / str(seed))
         told.seconds, told.memory = self.runner.most_seconds, self.runner.most_bytes
@@ -122,21 +134,30 @@ def written(texts: dict[str, bytes], folder: Path) -> None:
         (folder / name).write_bytes(text)
 
 
-def ran(program: str, texts: Optional[Path], keep: Optional[Path], seeds: range, keep_each: bool) -> Told:
-    """A job's part, in a folder of its own."""
-    corpus, before = Corpus(texts), os.getcwd()
+@functools.lru_cache(maxsize=1)
+def corpus_of(texts: Optional[Path]) -> Corpus:
+    """Each process reads the texts once."""
+    return Corpus(texts)
+
+
+def ran(task: Task) -> Told:
+    """A task, in a folder of its own."""
+    before = os.getcwd()
     with tempfile.TemporaryDirectory() as folder:
         os.chdir(folder)
         try:
-            return Tester(program, corpus, keep).all(seeds, keep_each)
+            return Tester(task.program, corpus_of(task.texts), task.keep).all(task.seeds, task.keep_each)
         finally:
             os.chdir(before)
 
 
-def parts(seeds: range, jobs: int) -> Iterator[range]:
-    """All seeds at once for one job, which reads the texts once."""
-    length = len(seeds) if jobs == 1 else max(PART, len(seeds) // (20 * jobs))
-    return (seeds[at:at + length] for at in range(0, len(seeds), length or 1))
+def told_of(tasks: list[Task], jobs: int) -> Iterator[Told]:
+    """What came of each task, as soon as it and those before it are done."""
+    if jobs == 1:
+        yield from map(ran, tasks)
+        return
+    with multiprocessing.Pool(jobs) as pool:
+        yield from pool.imap(ran, tasks)
 
 
 def words() -> argparse.Namespace:
@@ -155,23 +176,19 @@ def main() -> int:
     top = Path(__file__).resolve().parent.parent
     program = asked.program or subprocess.run([str(top / "sparrow"), "--program"], check=True, capture_output=True,
                                               text=True).stdout.strip()
-    folders = [it and it.resolve() for it in (asked.texts, asked.keep)]
-    told = Told()
-    tasks = [(str(Path(program).resolve()), *folders, part, asked.inputs == 1)
-             for part in parts(range(asked.seed, asked.seed + asked.inputs), asked.jobs)]
-    if asked.jobs == 1:
-        for task in tasks:
-            told.add(ran(*task))
-    else:
-        with multiprocessing.Pool(asked.jobs) as pool:
-            for part in pool.starmap(ran, tasks, chunksize=1):
-                told.add(part)
-    return tell(told)
+    texts, keep = (it and it.resolve() for it in (asked.texts, asked.keep))
+    seeds = range(asked.seed, asked.seed + asked.inputs)
+    tasks = [Task(str(Path(program).resolve()), texts, keep, seeds[at:at + PART], len(seeds) == 1)
+             for at in range(0, len(seeds), PART)]
+    all_told = Told()
+    for told in told_of(tasks, asked.jobs):
+        all_told.add(told)
+        for failure in told.failures:
+            print(failure, flush=True)
+    return tell(all_told)
 
 
 def tell(told: Told) -> int:
-    for failure in told.failures:
-        print(failure)
     failed = len({failure.split(",", 1)[0] for failure in told.failures})
     inputs = told.counts.pop("inputs", 0)
     print(f"{inputs} inputs: {', '.join(f'{count} {kind}' for kind, count in sorted(told.counts.items()))}; "

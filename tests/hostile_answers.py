@@ -29,7 +29,7 @@ Alarm = tuple[bytes, int, int, int, bytes]  # name, line, column, rank of the ki
 def refusal_texts() -> dict[str, re.Pattern[str]]:
     """The text of each code, by the table of the document. In one row N stands for a number."""
     found = ROW.findall(DOCUMENT.read_text(encoding="utf-8"))
-    return {code: re.compile(re.escape(text).replace("N\\ ", r"\d+\ ") if code == "M8" else re.escape(text)) for code, text in found}
+    return {code: re.compile(re.escape(text).replace("N", r"\d+") if code == "M8" else re.escape(text)) for code, text in found}
 
 
 TEXTS = refusal_texts()
@@ -65,11 +65,12 @@ def refusal_fault(answer: Answer, texts: dict[str, bytes]) -> str:
     name, line, column, code, text = found[1], int(found[2]), int(found[3]), found[4].decode("ascii"), found[5].decode("latin-1")
     if code not in TEXTS or not TEXTS[code].fullmatch(text):
         return f"the text of {code} isn't that of docs/REPORT.md: {text}"
+    file = name.decode("latin-1")
     if any(b"#" in it for it in texts.values()):
-        return "" if name.decode("latin-1") in texts or any(name in it for it in texts.values()) else f"a name of no file: {name!r}"
-    lines = texts.get(name.decode("latin-1"), b"").split(b"\n")
-    if name.decode("latin-1") not in texts or not 1 <= line <= len(lines) or not 1 <= column <= len(lines[line - 1]) + 1:
-        return f"a place outside the files: {name.decode('latin-1')}:{line}:{column}"
+        return "" if file in texts or any(name in it for it in texts.values()) else f"a name of no file: {name!r}"
+    lines = texts.get(file, b"").split(b"\n")
+    if file not in texts or not 1 <= line <= len(lines) or not 1 <= column <= len(lines[line - 1]) + 1:
+        return f"a place outside the files: {file}:{line}:{column}"
     return ""
 
 
@@ -122,10 +123,10 @@ def node_fault(lines: list[bytes], answer: Answer, alarms: list[bytes]) -> str:
         return f"lines behind the count: {lines[0]!r}"
     if None in nodes:
         return f"no line of a value or a node: {lines[values + nodes.index(None)]!r}"
-    told = [(int(it[1]), alarm_of(it[2])) for it in nodes if it]
-    if any(alarm is None for _, alarm in told):
+    told = [(int(it[1]), alarm) for it in nodes if it and (alarm := alarm_of(it[2])) is not None]
+    if len(told) < len(nodes):
         return "a line of a node without its alarm"
-    if any((one[0], one[1] or ()) >= (other[0], other[1] or ()) for one, other in zip(told, told[1:])):
+    if any(one >= other for one, other in zip(told, told[1:])):
         return "alarms of nodes that aren't sorted, or that stand twice"
     if "--nodes" in answer.words and {it[2] for it in nodes if it} != set(alarms):
         return "the alarms of nodes aren't those of the report"

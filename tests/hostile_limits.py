@@ -87,16 +87,18 @@ def sizes() -> list[Row]:
         one("100,000 semicolons at file scope", b";" * 100000 + MAIN),
         one("10,000 empty statements", in_main(b";" * 10000)),
         one("2,000 cases", in_main(b"switch(f()){" + numbered(b"case @:x=@;break;", 2000) + b"}")),
-        one("2,000 cases that fall through", in_main(b"switch(f()){" + numbered(b"case @:", 2000) + b"x=1;}")),
-        one("a case twice among 2,000", in_main(b"switch(f()){" + numbered(b"case @:", 2000) + b"case 7:x=1;}"), "F22"),
+        one("2,000 cases that fall through", in_main(b"switch(f()){" + numbered(b"case @:;", 2000) + b"x=1;}")),
+        one("a case twice among 2,000", in_main(b"switch(f()){" + numbered(b"case @:;", 2000) + b"case 7:x=1;}"), "F22"),
         one("500 parameters", b"int g(" + numbered(b"int p@", 500, b",") + b"){return p499;}" + MAIN),
         one("2,000 arguments", in_main(b"x=f(" + b",".join([b"x"] * 2000) + b");")),
         one("5,000 constants", b"enum{" + numbered(b"c@", 5000, b",") + b"};" + MAIN),
         one("5,000 start values", b"int a[]={" + b",".join([b"1"] * 5000) + b"};" + MAIN),
-        one("500 functions that call the next", numbered(b"int f@(void);", 501) + calls(500) + b"int main(void){return f0();}"),
+        one("500 functions that call the next",
+            numbered(b"int f@(void);", 501) + calls(500) + b"int main(void){return f0();}"),
         one("500 labels and jumps", in_main(numbered(b"l@:if(f())goto l@;", 500))),
         one("1,000 divisions by what may be 0", in_main(b"x=f();" + b"1/x;" * 1000)),
         one("1,000 overruns", b"int a[2];" + in_main(b"a[3];" * 1000)),
+        Row("main in two files", [MAIN, MAIN], "F23"),
         Row("1,000 objects in 10 files", [MAIN, *[numbered(b"static int s@;", 100)] * 9], ACCEPTED),
     ]
 
@@ -108,17 +110,24 @@ def calls(count: int) -> bytes:
 
 def oddities() -> list[Row]:
     """Texts without a program, and ends at odd places."""
-    nothing = [("an empty file", b""), ("a space", b" "), ("spaces", b" " * 1000), ("newlines", b"\n" * 1000),
-               ("carriage returns", b"\r" * 1000), ("form feeds", b"\f\v\t"), ("a comment alone", b"/**/"), ("a line comment alone", b"//"),
-               ("a marker line alone", b'# 1 "b.h"'), ("a semicolon", b";"), ("a prototype alone", b"int main(void);")]
-    bad = [("a zero byte", b"\0"), ("a zero byte behind", MAIN + b"\0"), ("a byte past ASCII", b"\x80"), ("a byte order mark", b"\xef\xbb\xbf" + MAIN),
-           ("a byte of 255", b"\xff" * 1000), ("a backslash", b"\\"), ("a backslash at the end", MAIN + b"\\"), ("a joined line", b"int\\\nx;" + MAIN),
-           ("an at sign", b"@")]
-    others = [("a quote", b"'", "F3"), ("a double quote", b'"', "F3"), ("a string with a newline", b'char*p="a\n";' + MAIN, "F3"), ("a number sign", b"#", "F6"),
-              ("an open comment", b"/*", "F2"), ("half an end of a comment", b"/**", "F2"), ("no character", in_main(b"'';"), "F4"), ("a brace", b"{", "F7"),
-              ("a closing brace", b"}", "F7"), ("a file that ends in main", MAIN[:-1], "F7"), ("main twice", MAIN * 2, "F23"),
-              ("no newline at the end", MAIN, ACCEPTED), ("carriage returns between", MAIN.replace(b" ", b"\r"), ACCEPTED)]
-    return [one(name, text, wanted) for found, wanted in ((nothing, "F25"), (bad, "F1")) for name, text in found] + [one(*it) for it in others]
+    nothing = [
+        ("an empty file", b""), ("a space", b" "), ("spaces", b" " * 1000), ("newlines", b"\n" * 1000),
+        ("carriage returns", b"\r" * 1000),
+        ("other blanks", b"\f\v\t"), ("a comment alone", b"/**/"), ("a line comment alone", b"//"),
+        ("a marker line alone", b'# 1 "b.h"'), ("a semicolon", b";"), ("a prototype alone", b"int main(void);")]
+    bad = [
+        ("a zero byte", b"\0"), ("a zero byte behind", MAIN + b"\0"), ("a byte past ASCII", b"\x80"),
+        ("a byte order mark", b"\xef\xbb\xbf" + MAIN), ("bytes of 255", b"\xff" * 1000), ("a backslash", b"\\"),
+        ("a backslash at the end", MAIN + b"\\"), ("a joined line", b"int\\\nx;" + MAIN), ("an at sign", b"@")]
+    others = [
+        ("a quote", b"'", "F3"), ("a double quote", b'"', "F3"), ("a string with a newline", b'char*p="a\n";' + MAIN, "F3"),
+        ("no character", in_main(b"'';"), "F4"), ("a number sign", b"#", "F6"),
+        ("an open comment", b"/*", "F2"), ("half an end of a comment", b"/**", "F2"),
+        ("a brace", b"{", "F7"), ("a closing brace", b"}", "F7"), ("a file that ends in main", MAIN[:-1], "F7"),
+        ("main twice", MAIN * 2, "F9"), ("no newline at the end", MAIN, ACCEPTED),
+        ("carriage returns between", MAIN.replace(b" ", b"\r"), ACCEPTED)]
+    groups = ((nothing, "F25"), (bad, "F1"))
+    return [one(name, text, wanted) for found, wanted in groups for name, text in found] + [one(*it) for it in others]
 
 
 ROWS = nests() + limits() + sizes() + oddities()

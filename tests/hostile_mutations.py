@@ -4,14 +4,14 @@ from __future__ import annotations
 import random
 from typing import Callable
 
-from hostile_tokens import NUMBER, NUMBERS, STRANGE, TABLE, pieces, token_places
+from hostile_tokens import NUMBERS, OPERATORS, STRANGE, TABLE, kind, pieces, token_places
 
 Mutation = Callable[[random.Random, bytes], bytes]
-SPECIAL = [b"\0", b"\r", b"\f", b"\v", b"\t", b"\n", b"\x1a", b"\x7f", b"\x80", b"\xc3\xa9", b"\xef\xbb\xbf", b"\xfe", b"\xff", b"\\",
-           b'"', b"'", b"#", b"/*", b"*/", b"//", b"\r\n", b"\\\n", b"?", b"%", b":"]
-MARKERS = [b'# 1 "b.h"', b'# 7 "b.h" 1 3 4', b'#line 9 "c.c"', b"#pragma once", b'# 0 "z"', b'# 2147483647 "z"', b'# 2147483648 "z"',
-           b'# 1 ""', b'# 3 "a\\"b"', b'# 3 "\xff\xfe"', b'# 1 "a.c:1:1: zero: divisor [0,0]"', b"#", b"# 1", b'#1 "b.h"', b"#define X",
-           b"#include <stdio.h>", b'# 1 "b.h', b'# 2 "' + b"n" * 5000 + b'"']
+SPECIAL = [b"\0", b"\r", b"\f", b"\v", b"\t", b"\n", b"\x1a", b"\x7f", b"\x80", b"\xc3\xa9", b"\xef\xbb\xbf", b"\xfe", b"\xff",
+           b"\\", b'"', b"'", b"#", b"/*", b"*/", b"//", b"\r\n", b"\\\n", b"?", b"%", b":"]
+MARKERS = [b'# 1 "b.h"', b'# 7 "b.h" 1 3 4', b'#line 9 "c.c"', b"#pragma once", b'# 0 "z"', b'# 2147483647 "z"',
+           b'# 2147483648 "z"', b'# 1 ""', b'# 3 "a\\"b"', b'# 3 "\xff\xfe"', b'# 1 "a.c:1:1: zero: divisor [0,0]"', b"#", b"# 1",
+           b'#1 "b.h"', b"#define X", b"#include <stdio.h>", b'# 1 "b.h', b'# 2 "' + b"n" * 5000 + b'"']
 MOST = 200000  # bytes of a changed text
 
 
@@ -89,16 +89,11 @@ def insert_token(rng: random.Random, text: bytes) -> bytes:
 
 
 def own_token(rng: random.Random, text: bytes) -> bytes:
-    """A token in place of another of the same text. Mostly both are words, or both are none, so that more is accepted."""
+    """A token in place of another of the same text. Mostly both are of a kind, so that more is accepted."""
     tokens = [part for part in pieces(text) if not part.isspace()]
     def alike(token: bytes) -> bytes:
-        found = [it for it in tokens if kind(it) == kind(token)] if rng.random() < 0.8 else tokens
-        return rng.choice(found)
+        return rng.choice([it for it in tokens if kind(it) == kind(token)] if rng.random() < 0.8 else tokens)
     return changed_token(rng, text, alike)
-
-
-def kind(token: bytes) -> str:
-    return "number" if NUMBER.fullmatch(token) else "word" if token[:1].isalpha() or token[:1] == b"_" else "mark"
 
 
 def swap_tokens(rng: random.Random, text: bytes) -> bytes:
@@ -114,11 +109,20 @@ def swap_tokens(rng: random.Random, text: bytes) -> bytes:
 
 def number(rng: random.Random, text: bytes) -> bytes:
     """A number at a limit in place of one of the text."""
+    return replaced(rng, text, lambda part: kind(part) == "number", NUMBERS)
+
+
+def operator(rng: random.Random, text: bytes) -> bytes:
+    return replaced(rng, text, lambda part: part in OPERATORS, OPERATORS)
+
+
+def replaced(rng: random.Random, text: bytes, fits: Callable[[bytes], bool], table: list[bytes]) -> bytes:
+    """A token of a table in place of one that fits."""
     parts = pieces(text)
-    places = [at for at, part in enumerate(parts) if NUMBER.fullmatch(part)]
+    places = [at for at, part in enumerate(parts) if fits(part)]
     if not places:
         return text
-    parts[rng.choice(places)] = rng.choice(NUMBERS)
+    parts[rng.choice(places)] = rng.choice(table)
     return b"".join(parts)
 
 
@@ -167,10 +171,10 @@ def changed_line(rng: random.Random, text: bytes, change: Callable[[bytes], list
 
 BY_BYTES = [flip_bit, insert_bytes, replace_bytes, delete_bytes, repeat_bytes, cut, other_blanks]
 BY_TOKENS = [delete_token, repeat_token, table_token, strange_token, insert_token, own_token, own_token, own_token,
-             swap_tokens, number, number, number]
+             swap_tokens, number, number, number, operator, operator]
 BY_LINES = [delete_line, repeat_line, marker_line, swap_lines, join_lines]
 # Each way with its share. Tokens change most: what comes of that is still a program more often.
-WAYS: list[tuple[str, list[Mutation], int]] = [("bytes", BY_BYTES, 3), ("tokens", BY_TOKENS, 6), ("lines", BY_LINES, 3)]
+WAYS: list[tuple[str, list[Mutation], int]] = [("bytes", BY_BYTES, 3), ("tokens", BY_TOKENS, 8), ("lines", BY_LINES, 3)]
 
 
 def mutated(rng: random.Random, text: bytes, mutations: list[Mutation]) -> bytes:

@@ -9,11 +9,12 @@ from __future__ import annotations
 from dataclasses import dataclass
 
 DEEPEST = 200
+MAIN = "int main(void){return 0;}"
 
 
 @dataclass(frozen=True)
 class Nest:
-    """`opened` and `closed` so many times around `middle`. In them `@` is the number of a level, and `$` of the one before."""
+    """`opened` and `closed` so many times around `middle`. In `opened` `@` is the number of a level, `$` of the one before."""
 
     name: str
     before: str
@@ -24,14 +25,15 @@ class Nest:
     greatest: int
 
     def text(self, depth: int) -> bytes:
-        levels = range(1, depth + 1)
-        inside = "".join(numbered(self.opened, level) for level in levels)
-        outside = "".join(numbered(self.closed, level) for level in reversed(levels))
+        inside, outside = leveled(self.opened, depth), self.closed * depth
         return "".join([self.before, inside, self.middle, outside, self.after]).encode("ascii")
 
 
-def numbered(part: str, level: int) -> str:
-    return part.replace("@", str(level)).replace("$", str(level - 1))
+def leveled(part: str, depth: int) -> str:
+    """The part for each level from 1."""
+    if "@" not in part:
+        return part * depth
+    return "".join(part.replace("@", str(level)).replace("$", str(level - 1)) for level in range(1, depth + 1))
 
 
 def expression(name: str, opened: str, middle: str, closed: str = "", each: int = 1) -> Nest:
@@ -47,7 +49,7 @@ def statement(name: str, opened: str, closed: str = "", taken: int = 2) -> Nest:
 
 def outside(name: str, before: str, opened: str, middle: str, closed: str, greatest: int) -> Nest:
     """A declaration at file scope."""
-    return Nest(name, before, opened, middle, closed, ";int main(void){return 0;}", greatest)
+    return Nest(name, before, opened, middle, closed, ";" + MAIN, greatest)
 
 
 EXPRESSIONS = [
@@ -94,9 +96,9 @@ DECLARATIONS = [
     outside("arrays", "int x", "", "", "[1]", DEEPEST - 1),
     outside("pointers to functions", "int ", "(*", "x", ")(void)", (DEEPEST - 1) // 3),
     outside("pointers to arrays", "int ", "(*", "x", ")[2]", (DEEPEST - 1) // 3),
-    outside("parameters of parameters", "int f(", "int a(", "void", ")", DEEPEST // 2 - 1),
-    outside("lengths", "int x[", "(", "1", ")", DEEPEST - 2),
-    outside("constants", "enum{A=", "(", "1", ")", DEEPEST - 1),
+    outside("parameters of parameters", "int f", "(int a", "(void)", ")", DEEPEST // 2 - 1),
+    Nest("lengths", "int x[", "(", "1", ")", "];" + MAIN, DEEPEST - 2),
+    Nest("constants", "enum{A=", "(", "1", ")", "};" + MAIN, DEEPEST - 1),
     outside("structs", "", "struct{", "int a;", "}a;", DEEPEST - 1),
     outside("start values", "int x" + "[1]" * (DEEPEST - 1) + "=", "{", "0", "}", DEEPEST - 2),
     Nest("pointers in casts", "int main(void){return (int)(int ", "*", "", "", ")0;}", DEEPEST - 5),

@@ -14,7 +14,8 @@ MEMORY = 2 << 30
 PATIENCE = 30 * SECONDS
 # What an endless answer may fill of the disk.
 WRITTEN = 1 << 30
-LIMITS = [(resource.RLIMIT_CPU, SECONDS), (resource.RLIMIT_AS, MEMORY), (resource.RLIMIT_FSIZE, WRITTEN), (resource.RLIMIT_CORE, 0)]
+LIMITS = [(resource.RLIMIT_CPU, SECONDS), (resource.RLIMIT_AS, MEMORY), (resource.RLIMIT_FSIZE, WRITTEN),
+          (resource.RLIMIT_CORE, 0)]
 
 
 @dataclass(frozen=True)

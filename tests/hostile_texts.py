@@ -33,27 +33,30 @@ def rows(path: Path) -> list[Texts]:
 
 
 class Corpus:
-    """Programs by the folder that they come from. Each folder has the same share, whatever it holds."""
+    """Programs by the folder that they come from. Each folder has its share, whatever it holds."""
 
     def __init__(self, folder: Optional[Path] = None) -> None:
         self.groups: list[list[Texts]] = []
-        for pattern in ("examples/*.c", "tests/idioms/*.c"):
-            self.add([[path.read_bytes()] for path in sorted(TOP.glob(pattern))])
-        for pattern in ("tests/cases/*.tsv", "tests/programs/*.tsv"):
-            self.add([texts for path in sorted(TOP.glob(pattern)) for texts in rows(path)])
+        self.shares: list[int] = []
+        self.add([[path.read_bytes()] for path in sorted(TOP.glob("examples/*.c"))], 1)
+        self.add([[path.read_bytes()] for path in sorted(TOP.glob("tests/idioms/*.c"))], 4)
+        # Most of the cases are refused as they are, so that little comes of a change.
+        self.add([texts for path in sorted(TOP.glob("tests/cases/*.tsv")) for texts in rows(path)], 1)
+        self.add([texts for path in sorted(TOP.glob("tests/programs/*.tsv")) for texts in rows(path)], 4)
         if folder is not None:
             found = sorted(it for it in folder.rglob("*") if it.is_file() and it.suffix in (".c", ".i"))
-            self.add([[path.read_bytes()] for path in found])
+            self.add([[path.read_bytes()] for path in found], 10)
 
-    def add(self, group: list[Texts]) -> None:
+    def add(self, group: list[Texts], share: int) -> None:
         if group:
             self.groups.append(group)
+            self.shares.append(share)
 
     def texts(self, rng: random.Random) -> Texts:
-        """The files of a program. One of twelve is random, since these take longest."""
-        if rng.random() < 1 / 12:
+        """The files of a program. One of forty is random, since these take longest."""
+        if rng.random() < 1 / 40:
             return [generated(rng).text().encode("ascii")]
-        return [text[:LONGEST] for text in rng.choice(rng.choice(self.groups))]
+        return [text[:LONGEST] for text in rng.choice(rng.choices(self.groups, self.shares)[0])]
 
     def text(self, rng: random.Random) -> bytes:
         return rng.choice(self.texts(rng) or [b""])

@@ -23,11 +23,21 @@ NUMBERS = [b"0", b"1", b"-1", b"127", b"128", b"255", b"256", b"32768", b"65536"
            b"02000000000000000000000", b"1099511627776", b"0u", b"4294967295u", b"1lu", b"2147483648ul", b"1lul", b"08", b"0x",
            b"1e", b"1.", b".5f", b"1ll", b"9" * LONG, b"0" * LONG, b"0x" + b"f" * LONG, b"0" * LONG + b"1"]
 TABLE = KEYWORDS + MARKS
+# Operators that may mostly stand for one another.
+OPERATORS = b"""+ - * / % << >> < > <= >= == != & ^ | && || =""".split()
 
 
 def pieces(text: bytes) -> list[bytes]:
     """The tokens of a text with the blanks between, which joined give the text."""
     return PIECE.findall(text)
+
+
+def kind(token: bytes) -> str:
+    if NUMBER.fullmatch(token):
+        return "number"
+    if token in KEYWORDS:
+        return "keyword"
+    return "name" if token[:1].isalpha() or token[:1] == b"_" else "mark"
 
 
 def token_places(parts: list[bytes]) -> list[int]:
