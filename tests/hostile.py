@@ -64,7 +64,7 @@ class Tester:
 
     def __init__(self, program: str, corpus: Corpus, keep: Optional[Path]) -> None:
         self.runner, self.corpus, self.keep = Runner(program), corpus, keep
-        self.modes = [words for words in MODES.values() if self.takes(["analyse", *words])]
+        self.modes = [words for words in MODES.values() if not words or self.takes(["analyse", *words])]
         self.has_calls = self.takes(["calls"])
 
     def takes(self, words: list[str]) -> bool:
@@ -162,7 +162,7 @@ def told_of(tasks: list[Task], jobs: int) -> Iterator[Told]:
 
 def words() -> argparse.Namespace:
     parser = argparse.ArgumentParser()
-    parser.add_argument("--inputs", type=int, default=2000)
+    parser.add_argument("--inputs", type=int, default=6000)
     parser.add_argument("--seed", type=int, default=0)
     parser.add_argument("--program")
     parser.add_argument("--jobs", type=int, default=1)
