@@ -169,10 +169,12 @@ def changed_line(rng: random.Random, text: bytes, change: Callable[[bytes], list
     return b"\n".join([*lines[:at], *change(lines[at]), *lines[at + 1:]])
 
 
-BY_BYTES = [flip_bit, insert_bytes, replace_bytes, delete_bytes, repeat_bytes, cut, other_blanks]
-BY_TOKENS = [delete_token, repeat_token, table_token, strange_token, insert_token, own_token, own_token, own_token,
-             swap_tokens, number, number, number, operator, operator]
-BY_LINES = [delete_line, repeat_line, marker_line, swap_lines, join_lines]
+BY_BYTES: list[Mutation] = [flip_bit, insert_bytes, replace_bytes, delete_bytes, repeat_bytes, cut, other_blanks]
+BY_TOKENS: list[Mutation] = [
+    delete_token, repeat_token, table_token, strange_token, insert_token, own_token, own_token, own_token, swap_tokens,
+    number, number, number, operator, operator,
+]
+BY_LINES: list[Mutation] = [delete_line, repeat_line, marker_line, swap_lines, join_lines]
 # Each way with its share. Tokens change most: what comes of that is still a program more often.
 WAYS: list[tuple[str, list[Mutation], int]] = [("bytes", BY_BYTES, 3), ("tokens", BY_TOKENS, 8), ("lines", BY_LINES, 3)]
 
