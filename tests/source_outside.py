@@ -62,10 +62,10 @@ def try_rows() -> None:
 
 
 def run(room: str, text: str, *words: str) -> tuple[int, str, str]:
-    """Status, standard output and standard error of ./sparrow source."""
+    """Status, standard output and standard error of ./sparrow source, without models."""
     with open(os.path.join(room, "a.c"), "w", encoding="ascii") as file:
         file.write(text)
-    command = [os.path.join(TOP, "sparrow"), "source", *words, "a.c"]
+    command = [os.path.join(TOP, "sparrow"), "source", "--no-models", *words, "a.c"]
     done = subprocess.run(command, cwd=room, capture_output=True, text=True, check=False)
     return done.returncode, done.stdout, done.stderr
 
