@@ -194,7 +194,7 @@ on_terminal() {
 }
 check 'a terminal is told what is done' 0 $'1\n' on_terminal
 check 'nothing else is' 0 '' eval 'slow 2>&1 >/dev/null'
-steps=$'sparrow: preprocessing 1 of 1\nsparrow: copying\nsparrow: analysing\n'
+steps=$'sparrow: preprocessing 1 of 1\nsparrow: preparing\nsparrow: copying\nsparrow: analysing\n'
 check 'plain lines where they are asked for' 0 "$steps" eval 'slow --progress 2>&1 >/dev/null'
 check 'standard output has none of them' 0 $'0 warnings\n' slow --progress
 repeated() {
