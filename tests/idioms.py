@@ -64,9 +64,10 @@ def wrong_lines(name: str) -> set[int]:
 
 def report(program: str, engine: str, mode: str, path: str) -> tuple[int, str]:
     """The status and what is written."""
-    words = [program, engine, *MODES[mode], path]
     if mode == SOURCE:
         words = [os.path.join(TOP, "sparrow"), SOURCE, "--format=plain", path]
+    else:
+        words = [program, engine, *MODES[mode], path]
     done = subprocess.run(words, cwd=TOP, capture_output=True, text=True, check=False)
     return done.returncode, done.stdout
 
