@@ -9,11 +9,14 @@ PRINTING = re.compile(
     r"%([-+ #0']*)(\*|[0-9]+)?(?:\.(\*|[0-9]*))?(hh|h|ll|l|L|q|j|z|t)?(.)", re.DOTALL
 )
 SCANNING = re.compile(r"%(\*?)([0-9]+)?(hh|h|ll|l|L|q|j|z|t)?(\[\^?\]?[^\]]*\]|.)", re.DOTALL)
-SIZES = {"hh": 1, "h": 2, "l": 8, "ll": 8, "q": 8, "j": 8, "z": 8, "t": 8}
+SIZES = {"hh": 1, "h": 2, "l": 8, "ll": 8, "L": 8, "q": 8, "j": 8, "z": 8, "t": 8}
 NUMBERS = frozenset("diouxXn")
 FLOATS = {"": 4, "l": 8, "L": 16}
-# The greatest number of digits before the point of a double, and of those behind it by themselves.
-DIGITS_OF_FLOAT, PRECISION = 310, 6
+# The most characters of a double up to its point, with a sign, and the digits behind it by
+# themselves.
+UP_TO_POINT, PRECISION = 311, 6
+# The size of a wide character, and the most bytes that it becomes.
+WIDE, MOST_BYTES = 4, 16
 
 
 class Printed(NamedTuple):
@@ -22,14 +25,29 @@ class Printed(NamedTuple):
     flags: str
     width: int
     precision: Optional[int]
-    size: int
+    modifier: str
     letter: str
+
+    @property
+    def size(self) -> int:
+        """The size of a number that it takes."""
+        return SIZES.get(self.modifier, 4)
+
+    @property
+    def is_wide(self) -> bool:
+        """Whether it takes wide characters."""
+        return is_wide(self.letter, self.modifier)
 
 
 class Scanned(NamedTuple):
     """A conversion of scanf that writes: how many bytes, or None where the input tells it."""
 
     size: Optional[int]
+
+
+def is_wide(letter: str, modifier: str) -> bool:
+    """Whether a conversion is one of wide characters."""
+    return letter in ("C", "S") or (modifier == "l" and letter[0] in "cs[")
 
 
 def number_in(word: str) -> int:
@@ -47,9 +65,8 @@ def printed(text: str) -> tuple[int, list[Printed]]:
         if letter == "%":
             rest += 1
             continue
-        size = SIZES.get(modifier or "", 4)
         precise = None if precision is None else number_in(precision)
-        found.append(Printed(flags, number_in(width or ""), precise, size, letter))
+        found.append(Printed(flags, number_in(width or ""), precise, modifier or "", letter))
     return rest, found
 
 
@@ -65,10 +82,14 @@ def scanned(text: str) -> list[Scanned]:
 
 def count_of(letter: str, width: int, modifier: str) -> Optional[int]:
     """How many bytes a conversion writes at most."""
+    size = WIDE if is_wide(letter, modifier) else 1
     if letter in NUMBERS:
         return SIZES.get(modifier, 4)
-    if letter == "c":
-        return width or 1
-    if letter == "s" or letter[0] == "[":
-        return width + 1 if width else None
+    if letter in "cC":
+        return (width or 1) * size
+    if letter in "sS" or letter[0] == "[":
+        return (width + 1) * size if width else None
+    if letter == "$":
+        # An argument by its number.
+        return None
     return FLOATS.get(modifier, 8) if letter in "aefgAEFG" else 8

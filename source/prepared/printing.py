@@ -9,11 +9,13 @@ from __future__ import annotations
 
 from typing import NamedTuple, Optional
 
-from .formats import DIGITS_OF_FLOAT, PRECISION, Printed, printed
+from .formats import MOST_BYTES, PRECISION, UP_TO_POINT, Printed, printed
 from .table import Parameter
 
 DECIMAL, HEXADECIMAL, OCTAL = 10, 16, 8
 LENGTH_OF_POINTER = 20
+# The types of numbers by their sizes.
+TYPES = {1: "char", 2: "short", 4: "int", 8: "long"}
 
 
 class Counted(NamedTuple):
@@ -57,28 +59,49 @@ def count_of_format(text: Optional[str], extras: list[Parameter]) -> Counted:
 
 def statements_for(each: Printed, argument: Parameter, name: str) -> Optional[str]:
     """The statements that make an object the number of characters of one conversion."""
+    if each.is_wide:
+        return wide(each, name)
     if each.letter == "c":
         return f"{name} = 1;"
     if each.letter == "s" and argument.is_pointer:
         most = "" if each.precision is None else f" {at_most(name, each.precision)}"
         return f"{name} = @strlen({argument.name});{most}"
     if each.letter in "diuxXo" and not argument.is_pointer:
-        return digits(each, argument.name, name)
-    if each.letter in "fFeEgG":
+        return digits(each, argument, name)
+    if each.letter in "fFeEgG" and each.modifier != "L":
         precision = PRECISION if each.precision is None else each.precision
-        return up_to(name, DIGITS_OF_FLOAT + precision)
+        return up_to(name, UP_TO_POINT + precision)
     return up_to(name, LENGTH_OF_POINTER) if each.letter == "p" else None
 
 
-def digits(each: Printed, number: str, name: str) -> str:
+def wide(each: Printed, name: str) -> Optional[str]:
+    """The statements for wide characters, each of which may become several bytes."""
+    if each.letter in "cC":
+        return up_to(name, MOST_BYTES)
+    return None if each.precision is None else up_to(name, each.precision)
+
+
+def converted(each: Printed, argument: Parameter) -> tuple[str, str]:
+    """The number that is printed, and its declaration: what is given becomes one of the
+    conversion's type."""
+    wanted = TYPES[each.size] if each.letter in "di" else f"unsigned {TYPES[each.size]}"
+    wanted = "signed char" if wanted == "char" else wanted
+    if argument.type == wanted:
+        return argument.name, ""
+    number = f"v{argument.name}"
+    return number, f"{{ {wanted} {number}; {number} = {argument.name};"
+
+
+def digits(each: Printed, argument: Parameter, name: str) -> str:
     """The statements for a number: one digit more from each power of the base on, and a sign."""
+    number, before = converted(each, argument)
     base = {"x": HEXADECIMAL, "X": HEXADECIMAL, "o": OCTAL}.get(each.letter, DECIMAL)
     is_signed = each.letter in "di"
     greatest = 2 ** (8 * each.size - 1) if is_signed else 2 ** (8 * each.size) - 1
     has_sign = is_signed and ("+" in each.flags or " " in each.flags)
     more = 2 * ("#" in each.flags) + has_sign
     least = max(1, each.precision or 0) + more
-    parts, made = [f"{name} = {least};"], f"{name} = 0 * {number} +"
+    parts, made = [f"{before} {name} = {least};"], f"{name} = 0 * {number} +"
     if is_signed:
         parts.append(f"if ({number} < 0) {made} {max(1, each.precision or 0) + 1};")
     power, count = base, 2
@@ -89,7 +112,10 @@ def digits(each: Printed, number: str, name: str) -> str:
             if is_signed:
                 parts.append(f"if ({number} <= -{power}) {made} {count + 1};")
         power, count = power * base, count + 1
-    return " ".join(parts)
+    if "'" in each.flags:
+        # Before each digit may stand a separator, of up to three bytes.
+        parts.append(f"{name} = 4 * {name};")
+    return " ".join(parts) + (" }" if before else "")
 
 
 def up_to(name: str, most: int) -> str:
