@@ -154,16 +154,18 @@ class Instance:
         texts = self.unit.tokens.values[node.first : node.last + 1]
         if any(not text.startswith('"') for text in texts):
             return None
-        return "".join(unescaped(text[1:-1]) for text in texts)
+        # It ends where a 0 stands.
+        return "".join(unescaped(text[1:-1]) for text in texts).partition("\0")[0]
 
     def scanned_by(self, text: Optional[str]) -> str:
-        """The statements that write what a format of scanf asks for."""
+        """The statements that write what a format of scanf asks for; one that isn't known may ask
+        for anything."""
         conversions = [] if text is None else scanned(text)
         parts = []
         for place, extra in enumerate(self.extras):
             if not extra.is_pointer:
                 continue
-            count: Optional[int] = 1
+            count = None if text is None else 1
             if place < len(conversions):
                 count = conversions[place].size
             size = "1 + ANY_SIZE / 2" if count is None else str(count)
@@ -216,9 +218,17 @@ def is_void_pointer(kind: MaybeType) -> bool:
     return isinstance(kind, Pointer) and isinstance(kind.target, Void)
 
 
-ESCAPE = re.compile(r"\\(?:[0-7]{1,3}|x[0-9a-fA-F]+|.)", re.DOTALL)
+ESCAPE = re.compile(r"\\([0-7]{1,3}|x[0-9a-fA-F]+|.)", re.DOTALL)
 
 
 def unescaped(text: str) -> str:
-    """A text with a character for each escape; which it is doesn't matter for a format."""
-    return ESCAPE.sub("~", text)
+    """A text with a character for each escape: the one of a number, as `\\045` may be a `%`. Which
+    one a letter stands for doesn't matter for a format."""
+    return ESCAPE.sub(lambda match: character(match.group(1)), text)
+
+
+def character(escape: str) -> str:
+    """The character of an escape."""
+    if escape[0] in "01234567":
+        return chr(int(escape, 8) & 255)
+    return chr(int(escape[1:], 16) & 255) if escape[0] == "x" and escape[1:] else "~"
