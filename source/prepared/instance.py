@@ -123,7 +123,7 @@ class Instance:
         place = [each.name for each in self.model.parameters].index(name)
         known = self.kind.parameters
         kind = decayed(known[place]) if known is not None and place < len(known) else None
-        if kind is None:
+        if kind is None or is_void_pointer(kind):
             kind = value_type(self.arguments[name])
         return (size_of(kind.target) if isinstance(kind, Pointer) else None) or 1
 

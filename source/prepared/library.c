@@ -36,17 +36,19 @@ long pread(int file, const void *p, unsigned long n, long from)
 { long r, most; r = ANY_LONG; most = (long)n; @memset((void *)p, ANY, n);
   if (r < -1) r = -1; if (most < r) r = most; return r; }
 
+/* With MSG_TRUNC, which is 32, it gives more than it writes. */
 long recv(int socket, const void *p, unsigned long n, int flags)
-{ long r, most; r = ANY_LONG; most = (long)n; @memset((void *)p, ANY, n);
-  if (r < -1) r = -1; if (most < r) r = most; return r; }
+{ long r, most; r = ANY_LONG; most = (long)n + (flags & 32) * 144115188075855872;
+  @memset((void *)p, ANY, n); if (r < -1) r = -1; if (most < r) r = most; return r; }
 
 long readlink(const void *path, const void *p, unsigned long n)
 { long r, most; r = ANY_LONG; most = (long)n; @memset((void *)p, ANY, n);
   if (r < -1) r = -1; if (most < r) r = most; return r; }
 
 long getline(const void *line, const void *size, const void *file)
-{ char *text; long r; text = (char *)malloc(1 + ANY_SIZE / 2); memset(text, ANY, 1);
-  @*(char **)line = text; @*(unsigned long *)size = ANY_SIZE;
+{ char *text; long r; text = @*(char **)line;
+  if (text == 0 || ANY) text = (char *)malloc(1 + ANY_SIZE / 2);
+  @memset(text, ANY, 1); @*(char **)line = text; @*(unsigned long *)size = ANY_SIZE;
   r = ANY_LONG; if (r < -1) r = -1; return r; }
 
 char *getcwd(const void *s, unsigned long n)
@@ -192,7 +194,8 @@ int lstat(const void *path, const void *buffer)
 int fstat(int file, const void *buffer)
 { @memset((void *)buffer, ANY, SIZE(buffer)); return -(ANY != 0); }
 int gettimeofday(const void *time, const void *zone)
-{ @memset((void *)time, ANY, SIZE(time)); return -(ANY != 0); }
+{ if (time != 0) @memset((void *)time, ANY, SIZE(time));
+  if (zone != 0) @memset((void *)zone, ANY, SIZE(zone)); return -(ANY != 0); }
 long mktime(const void *time) { @memset((void *)time, ANY, SIZE(time)); return ANY_LONG; }
 int pipe(const void *files) { @memset((void *)files, ANY, 8); return -(ANY != 0); }
 int wait(const void *status) { if (status != 0) @memset((void *)status, ANY, 4); return ANY_INT; }
@@ -205,10 +208,12 @@ void *gmtime(const void *time)
 
 /* What calls. */
 void qsort(const void *base, unsigned long n, unsigned long size, COMPARISON)
-{ unsigned long i, j; i = ANY_SIZE; j = ANY_SIZE;
-  if (i < n && j < n) @compare(ELEMENT(base, i, size), ELEMENT(base, j, size)); }
+{ unsigned long i, j; if (n > 1) @memmove((void *)base, base, n * size);
+  while (ANY) { i = ANY_SIZE; j = ANY_SIZE;
+    if (i < n && j < n) @compare(ELEMENT(base, i, size), ELEMENT(base, j, size)); } }
 
 void *bsearch(const void *key, const void *base, unsigned long n, unsigned long size, COMPARISON)
 { unsigned long i; i = ANY_SIZE; if (n <= i) return 0;
-  @compare(key, ELEMENT(base, i, size));
+  while (ANY) { i = ANY_SIZE; if (i < n) @compare(key, ELEMENT(base, i, size)); }
+  i = ANY_SIZE; if (n <= i) return 0;
   return ANY ? (void *)ELEMENT(base, i, size) : 0; }
