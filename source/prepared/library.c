@@ -38,7 +38,7 @@ long pread(int file, const void *p, unsigned long n, long from)
 
 /* With MSG_TRUNC, which is 32, it gives more than it writes. */
 long recv(int socket, const void *p, unsigned long n, int flags)
-{ long r, most; r = ANY_LONG; most = (long)n + (flags & 32) * 144115188075855872;
+{ long r, most; r = ANY_LONG; most = (long)n + flags / 32 % 2 * 4611686018427387904;
   @memset((void *)p, ANY, n); if (r < -1) r = -1; if (most < r) r = most; return r; }
 
 long readlink(const void *path, const void *p, unsigned long n)
