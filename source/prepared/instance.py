@@ -9,7 +9,7 @@ from c.constants import value_of
 from c.edits import marker_to
 from c.rules import stripped, value_type
 from c.trees import Expression
-from c.types import Floating, Function, Integer, MaybeType, Pointer, Void, decayed, promoted, size_of
+from c.types import Floating, Function, Integer, MaybeType, Pointer, Record, Void, decayed, promoted, size_of
 from contexts.functions import Call, ContextUnit
 from contexts.meant import spelling
 from outside.written import is_null
@@ -25,8 +25,8 @@ ANY = {
     "ANY_INT": "(int)4294967295u",
     "ANY": "(signed char)256u",
 }
-WORD = re.compile(r"\b(?:ANY_SIZE|ANY_LONG|ANY_INT|ANY|TARGET|OWN)\b|@")
-CALL = re.compile(r"\b(SIZE|SCANNED|PRINTED|ELEMENT|FIRST)\(([^()]*)\)")
+WORD = re.compile(r"\b(?:ANY_SIZE|ANY_LONG|ANY_INT|ANY|TARGET|OWN|RECORD)\b|@")
+CALL = re.compile(r"\b(SIZE|SCANNED|PRINTED|ELEMENT|FIRST|FIELD|SET)\(([^()]*)\)")
 POINTER = "const void *"
 COMPARED = f"int (*{COMPARE})({POINTER}, {POINTER})"
 
@@ -57,7 +57,7 @@ class Instance:
         body = CALL.sub(lambda match: self.expanded(match, before), self.model.body)
         body = body.replace("COUNT", self.counted.number)
         place = marker_to(self.unit.places.of(self.unit.tokens.starts[self.call.token]))
-        words = {**ANY, "@": place, "OWN": own, "TARGET": self.target(before)}
+        words = {**ANY, "@": place, "OWN": own, "RECORD": own, "TARGET": self.target(before)}
         body = WORD.sub(lambda match: words[match.group()], body)
         return f"{place}static {self.result(before)} {name}({parameters}) {{ {body} }}"
 
@@ -112,6 +112,10 @@ class Instance:
             return ""
         if word == "ELEMENT":
             return self.element(names, before)
+        if word == "SET":
+            return self.set(names[0], before)
+        if word == "FIELD":
+            return self.field(*names)
         literal = self.literal(names[0])
         if word == "PRINTED":
             self.counted = count_of_format(literal, self.extras)
@@ -134,6 +138,25 @@ class Instance:
         if target is None or target.kind != "name" or name.kind != "name":
             return ""
         return f"{target.text} = (char *){name.text}"
+
+    def set(self, name: str, before: int) -> str:
+        """What lets a variable hold anything, where the file declares it."""
+        known = self.unit.scope.names.get(name)
+        if known is None or known.kind != "object" or known.first >= before:
+            return ""
+        if isinstance(known.type, Pointer):
+            return f"{name} = (void *)ANY_LONG;"
+        return f"{name} = ANY_INT;" if isinstance(known.type, Integer) else ""
+
+    def field(self, name: str, least: str, most: str) -> str:
+        """What sets a member of the shared object to a number between two."""
+        kind = self.kind.result
+        target = kind.target if isinstance(kind, Pointer) else None
+        members = target.path_to(name) if isinstance(target, Record) else []
+        if not members or not isinstance(members[-1].type, Integer):
+            return ""
+        limits = f"if (n < {least}) n = {least}; if ({most} < n) n = {most};"
+        return f"n = ANY_INT; {limits} RECORD.{name} = n;"
 
     def element(self, names: list[str], before: int) -> str:
         """The element of a pointer: by its type, where elements have its size, else by bytes."""

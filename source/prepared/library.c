@@ -13,7 +13,10 @@ each that may be given. What stands behind an @ has the place of the call.
   gives, with the closing 0, behind PRINTED(f), which makes ready for that.
 - FIRST(p, q) says that the object to which p points holds q before all else. That is written where
   the call gives its address, and q by its name.
-- OWN is a pointer that all calls of the function share.
+- OWN is a pointer that all calls of the function share. RECORD is an object of the type TARGET that
+  all calls of all functions share.
+- FIELD(f, a, b) lets the member f of RECORD, if it has one, be from a to b.
+- SET(v) lets the variable v hold anything, where the file declares it.
 - ELEMENT(p, i, n) points to the element of p of that number, where elements have n bytes.
 - COMPARISON is the parameter `compare`, a pointer to a function of two pointers.
 */
@@ -63,7 +66,7 @@ int getchar(void) { return (unsigned char)ANY - (ANY != 0); }
 int getc_unlocked(const void *file) { return (unsigned char)ANY - (ANY != 0); }
 int getchar_unlocked(void) { return (unsigned char)ANY - (ANY != 0); }
 int getopt(int argc, const void *argv, const void *options)
-{ return (unsigned char)ANY - (ANY != 0); }
+{ SET(optind) SET(optarg) SET(optopt) return (unsigned char)ANY - (ANY != 0); }
 
 int scanf(const void *format, ...) { SCANNED(format) return ANY_INT; }
 int fscanf(const void *file, const void *format, ...) { SCANNED(format) return ANY_INT; }
@@ -202,9 +205,13 @@ int wait(const void *status) { if (status != 0) @memset((void *)status, ANY, 4);
 int waitpid(int process, const void *status, int options)
 { if (status != 0) @memset((void *)status, ANY, 4); return ANY_INT; }
 void *localtime(const void *time)
-{ static TARGET r; memset(&r, ANY, sizeof r); return &r; }
+{ int n; memset(&RECORD, ANY, sizeof(TARGET));
+  FIELD(tm_sec, 0, 60) FIELD(tm_min, 0, 59) FIELD(tm_hour, 0, 23) FIELD(tm_mday, 1, 31)
+  FIELD(tm_mon, 0, 11) FIELD(tm_wday, 0, 6) FIELD(tm_yday, 0, 365) return &RECORD; }
 void *gmtime(const void *time)
-{ static TARGET r; memset(&r, ANY, sizeof r); return &r; }
+{ int n; memset(&RECORD, ANY, sizeof(TARGET));
+  FIELD(tm_sec, 0, 60) FIELD(tm_min, 0, 59) FIELD(tm_hour, 0, 23) FIELD(tm_mday, 1, 31)
+  FIELD(tm_mon, 0, 11) FIELD(tm_wday, 0, 6) FIELD(tm_yday, 0, 365) return &RECORD; }
 
 /* What calls. */
 void qsort(const void *base, unsigned long n, unsigned long size, COMPARISON)

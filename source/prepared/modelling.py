@@ -15,6 +15,8 @@ from .table import Model, models
 
 # The calls of a program that get a model at most.
 MOST = 4000
+# The word for an object that the calls of several functions share.
+RECORD = "RECORD"
 # What models call.
 CALLED = re.compile(r"\b(memset|memmove|strlen|malloc)\(")
 
@@ -58,15 +60,16 @@ class Modeller:
             return None
         if not isinstance(known.type, Function):
             return None
-        own, head = self.owned_by(unit, call.name, model)
+        shared = shared_by(call.name, model)
         try:
             made = Instance(unit, call, known.type, model)
+            own, head = self.owned_by(unit, shared, made.target(before))
             text = made.text(self.fresh.make(call.name), before, own)
         except Unfit:
             return None
         if own:
-            self.owned[call.name] = own
-            self.declaring.add((id(unit), call.name))
+            self.owned[shared] = own
+            self.declaring.add((id(unit), shared))
         self.count += 1
         changes.replace(call.token, call.token, made.name)
         if made.first:
@@ -80,14 +83,22 @@ class Modeller:
         is_defined = call.name in self.shared or (id(unit), call.name) in self.own
         return None if is_defined else model
 
-    def owned_by(self, unit: ContextUnit, name: str, model: Model) -> tuple[str, str]:
-        """The name of what calls of a function share, and its declaration where the unit has none
-        yet: the first of the program defines it."""
-        if "OWN" not in model.body:
+    def owned_by(self, unit: ContextUnit, shared: str, target: str) -> tuple[str, str]:
+        """The name of what calls share, and its declaration where the unit has none yet: the first
+        of the program defines it."""
+        if not shared:
             return "", ""
-        if (id(unit), name) in self.declaring:
-            return self.owned[name], ""
-        if name in self.owned:
-            return self.owned[name], f"\nextern char *{self.owned[name]};"
-        own = self.fresh.make(f"{name}__text")
-        return own, f"\nchar *{own};"
+        kind = target if shared == RECORD else "char *"
+        if (id(unit), shared) in self.declaring:
+            return self.owned[shared], ""
+        if shared in self.owned:
+            return self.owned[shared], f"\nextern {kind} {self.owned[shared]};"
+        own = self.fresh.make(f"{shared.lower()}__shared")
+        return own, f"\n{kind} {own};"
+
+
+def shared_by(name: str, model: Model) -> str:
+    """What the calls of a function share: an object of its own, or that of several; or nothing."""
+    if RECORD in model.body:
+        return RECORD
+    return name if "OWN" in model.body else ""
