@@ -27,6 +27,7 @@ ANY = {
 }
 WORD = re.compile(r"\b(?:ANY_SIZE|ANY_LONG|ANY_INT|ANY|TARGET|OWN|RECORD)\b|@")
 CALL = re.compile(r"\b(SIZE|SCANNED|PRINTED|ELEMENT|FIRST|FIELD|SET)\(([^()]*)\)")
+FAILS = "FAILS "
 POINTER = "const void *"
 COMPARED = f"int (*{COMPARE})({POINTER}, {POINTER})"
 
@@ -55,6 +56,8 @@ class Instance:
         self.name = name
         parameters = self.parameters()
         body = CALL.sub(lambda match: self.expanded(match, before), self.model.body)
+        if body.startswith(FAILS):
+            body = f"{self.set('errno', before)} {{ {body[len(FAILS) :]} }}"
         body = body.replace("COUNT", self.counted.number)
         place = marker_to(self.unit.places.of(self.unit.tokens.starts[self.call.token]))
         words = {**ANY, "@": place, "OWN": own, "RECORD": own, "TARGET": self.target(before)}

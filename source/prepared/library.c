@@ -16,6 +16,7 @@ each that may be given. What stands behind an @ has the place of the call.
 - OWN is a pointer that all calls of the function share. RECORD is an object of the type TARGET that
   all calls of all functions share.
 - FIELD(f, a, b) lets the member f of RECORD, if it has one, be from a to b.
+- FAILS says that the function may set errno.
 - SET(v) lets the variable v hold anything, where the file declares it.
 - ELEMENT(p, i, n) points to the element of p of that number, where elements have n bytes.
 - COMPARISON is the parameter `compare`, a pointer to a function of two pointers.
@@ -23,77 +24,78 @@ each that may be given. What stands behind an @ has the place of the call.
 
 /* Input. */
 char *fgets(const void *s, int n, const void *file)
-{ @memset((void *)s, ANY, (unsigned long)n); return ANY ? (char *)s : 0; }
+{ FAILS @memset((void *)s, ANY, (unsigned long)n); return ANY ? (char *)s : 0; }
 
 char *gets(const void *s)
-{ @memset((void *)s, ANY, 1 + ANY_SIZE / 2); return ANY ? (char *)s : 0; }
+{ FAILS @memset((void *)s, ANY, 1 + ANY_SIZE / 2); return ANY ? (char *)s : 0; }
 
 unsigned long fread(const void *p, unsigned long size, unsigned long n, const void *file)
-{ unsigned long r; r = ANY_SIZE; if (n < r) r = n; @memset((void *)p, ANY, size * n); return r; }
+{ FAILS unsigned long r; r = ANY_SIZE; if (n < r) r = n; @memset((void *)p, ANY, size * n);
+  return r; }
 
 long read(int file, const void *p, unsigned long n)
-{ long r, most; r = ANY_LONG; most = (long)n; @memset((void *)p, ANY, n);
+{ FAILS long r, most; r = ANY_LONG; most = (long)n; @memset((void *)p, ANY, n);
   if (r < -1) r = -1; if (most < r) r = most; return r; }
 
 long pread(int file, const void *p, unsigned long n, long from)
-{ long r, most; r = ANY_LONG; most = (long)n; @memset((void *)p, ANY, n);
+{ FAILS long r, most; r = ANY_LONG; most = (long)n; @memset((void *)p, ANY, n);
   if (r < -1) r = -1; if (most < r) r = most; return r; }
 
 /* With MSG_TRUNC, which is 32, it gives more than it writes. */
 long recv(int socket, const void *p, unsigned long n, int flags)
-{ long r, most; r = ANY_LONG; most = (long)n + flags / 32 % 2 * 4611686018427387904;
+{ FAILS long r, most; r = ANY_LONG; most = (long)n + flags / 32 % 2 * 4611686018427387904;
   @memset((void *)p, ANY, n); if (r < -1) r = -1; if (most < r) r = most; return r; }
 
 long readlink(const void *path, const void *p, unsigned long n)
-{ long r, most; r = ANY_LONG; most = (long)n; @memset((void *)p, ANY, n);
+{ FAILS long r, most; r = ANY_LONG; most = (long)n; @memset((void *)p, ANY, n);
   if (r < -1) r = -1; if (most < r) r = most; return r; }
 
 long getline(const void *line, const void *size, const void *file)
-{ char *text; long r; text = @*(char **)line;
+{ FAILS char *text; long r; text = @*(char **)line;
   if (text == 0 || ANY) text = (char *)malloc(1 + ANY_SIZE / 2);
   @memset(text, ANY, 1); @*(char **)line = text; @*(unsigned long *)size = ANY_SIZE;
   r = ANY_LONG; if (r < -1) r = -1; return r; }
 
 char *getcwd(const void *s, unsigned long n)
-{ char *text; text = (char *)s;
+{ FAILS char *text; text = (char *)s;
   if (text == 0) { text = (char *)malloc(1 + ANY_SIZE / 2); memset(text, ANY, 1); }
   else @memset(text, ANY, n);
   return ANY ? text : 0; }
 
-int getc(const void *file) { return (unsigned char)ANY - (ANY != 0); }
-int fgetc(const void *file) { return (unsigned char)ANY - (ANY != 0); }
-int getchar(void) { return (unsigned char)ANY - (ANY != 0); }
-int getc_unlocked(const void *file) { return (unsigned char)ANY - (ANY != 0); }
-int getchar_unlocked(void) { return (unsigned char)ANY - (ANY != 0); }
+int getc(const void *file) { FAILS return (unsigned char)ANY - (ANY != 0); }
+int fgetc(const void *file) { FAILS return (unsigned char)ANY - (ANY != 0); }
+int getchar(void) { FAILS return (unsigned char)ANY - (ANY != 0); }
+int getc_unlocked(const void *file) { FAILS return (unsigned char)ANY - (ANY != 0); }
+int getchar_unlocked(void) { FAILS return (unsigned char)ANY - (ANY != 0); }
 int getopt(int argc, const void *argv, const void *options)
 { SET(optind) SET(optarg) SET(optopt) return (unsigned char)ANY - (ANY != 0); }
 
-int scanf(const void *format, ...) { SCANNED(format) return ANY_INT; }
-int fscanf(const void *file, const void *format, ...) { SCANNED(format) return ANY_INT; }
+int scanf(const void *format, ...) { FAILS SCANNED(format) return ANY_INT; }
+int fscanf(const void *file, const void *format, ...) { FAILS SCANNED(format) return ANY_INT; }
 int sscanf(const void *s, const void *format, ...)
-{ @strlen(s); SCANNED(format) return ANY_INT; }
+{ FAILS @strlen(s); SCANNED(format) return ANY_INT; }
 
 /* Output into memory. */
 int sprintf(const void *s, const void *format, ...)
-{ PRINTED(format) @memset((void *)s, ANY, COUNT); return ANY_INT; }
+{ FAILS PRINTED(format) @memset((void *)s, ANY, COUNT); return ANY_INT; }
 
 int snprintf(const void *s, unsigned long n, const void *format, ...)
-{ if (n > 0) @memset((void *)s, ANY, n); return ANY_INT; }
+{ FAILS if (n > 0) @memset((void *)s, ANY, n); return ANY_INT; }
 
 int vsprintf(const void *s, const void *format, const void *list)
-{ @memset((void *)s, ANY, 1 + ANY_SIZE / 2); return ANY_INT; }
+{ FAILS @memset((void *)s, ANY, 1 + ANY_SIZE / 2); return ANY_INT; }
 
 int vsnprintf(const void *s, unsigned long n, const void *format, const void *list)
-{ if (n > 0) @memset((void *)s, ANY, n); return ANY_INT; }
+{ FAILS if (n > 0) @memset((void *)s, ANY, n); return ANY_INT; }
 
 unsigned long strftime(const void *s, unsigned long n, const void *format, const void *time)
-{ unsigned long r; r = ANY_SIZE; if (n < r) r = n; @memset((void *)s, ANY, n); return r; }
+{ FAILS unsigned long r; r = ANY_SIZE; if (n < r) r = n; @memset((void *)s, ANY, n); return r; }
 
 unsigned long strxfrm(const void *s, const void *t, unsigned long n)
-{ if (n > 0) @memset((void *)s, ANY, n); return ANY_SIZE; }
+{ FAILS if (n > 0) @memset((void *)s, ANY, n); return ANY_SIZE; }
 
 char *tmpnam(const void *s)
-{ static char name[20]; char *text; text = (char *)s; if (text == 0) text = name;
+{ FAILS static char name[20]; char *text; text = (char *)s; if (text == 0) text = name;
   @memset(text, ANY, 20); return ANY ? text : 0; }
 
 void bzero(const void *p, unsigned long n) { @memset((void *)p, 0, n); }
@@ -144,18 +146,18 @@ unsigned long strcspn(const void *s, const void *t)
 { unsigned long k, n; k = ANY_SIZE; n = @strlen(s); if (n < k) k = n; return k; }
 
 char *strdup(const void *s)
-{ char *text; text = (char *)malloc(@strlen(s) + 1); memset(text, ANY, 1); return text; }
+{ FAILS char *text; text = (char *)malloc(@strlen(s) + 1); memset(text, ANY, 1); return text; }
 
 char *strndup(const void *s, unsigned long n)
-{ char *text; unsigned long k; k = @strlen(s); if (n < k) k = n;
+{ FAILS char *text; unsigned long k; k = @strlen(s); if (n < k) k = n;
   text = (char *)malloc(k + 1); memset(text, ANY, 1); return text; }
 
 long strtol(const void *s, const void *end, int base)
-{ unsigned long k, n; k = ANY_SIZE; n = @strlen(s); if (n < k) k = n;
+{ FAILS unsigned long k, n; k = ANY_SIZE; n = @strlen(s); if (n < k) k = n;
   FIRST(end, s) if (end != 0) @*(char **)end = (char *)s + k; return ANY_LONG; }
 
 unsigned long strtoul(const void *s, const void *end, int base)
-{ unsigned long k, n; k = ANY_SIZE; n = @strlen(s); if (n < k) k = n;
+{ FAILS unsigned long k, n; k = ANY_SIZE; n = @strlen(s); if (n < k) k = n;
   FIRST(end, s) if (end != 0) @*(char **)end = (char *)s + k; return ANY_SIZE; }
 
 char *getenv(const void *name)
@@ -163,13 +165,13 @@ char *getenv(const void *name)
   return ANY ? text : 0; }
 
 char *strerror(int number)
-{ char *text; text = (char *)malloc(1 + ANY_SIZE / 2); memset(text, ANY, 1); return text; }
+{ FAILS char *text; text = (char *)malloc(1 + ANY_SIZE / 2); memset(text, ANY, 1); return text; }
 
 char *ctime(const void *time)
-{ char *text; text = (char *)malloc(26); memset(text, ANY, 26); return text; }
+{ FAILS char *text; text = (char *)malloc(26); memset(text, ANY, 26); return text; }
 
 char *asctime(const void *time)
-{ char *text; text = (char *)malloc(26); memset(text, ANY, 26); return text; }
+{ FAILS char *text; text = (char *)malloc(26); memset(text, ANY, 26); return text; }
 
 /* Numbers. */
 int tolower(int c) { return ANY ? c : (unsigned char)ANY; }
@@ -179,43 +181,44 @@ long random(void)
 { long r; r = ANY_LONG; if (r < 0) r = 0; if (r > 2147483647) r = 2147483647; return r; }
 int abs(int n) { if (n < 0) return -n; return n; }
 long labs(long n) { if (n < 0) return -n; return n; }
-int isatty(int file) { return ANY != 0; }
+int isatty(int file) { FAILS return ANY != 0; }
 
 unsigned long fwrite(const void *p, unsigned long size, unsigned long n, const void *file)
-{ unsigned long r; r = ANY_SIZE; if (n < r) r = n; return r; }
+{ FAILS unsigned long r; r = ANY_SIZE; if (n < r) r = n; return r; }
 
 long write(int file, const void *p, unsigned long n)
-{ long r, most; r = ANY_LONG; most = (long)n;
+{ FAILS long r, most; r = ANY_LONG; most = (long)n;
   if (r < -1) r = -1; if (most < r) r = most; return r; }
 
 /* Records of the system. */
-long time(const void *time) { if (time != 0) @memset((void *)time, ANY, 8); return ANY_LONG; }
+long time(const void *time) { FAILS if (time != 0) @memset((void *)time, ANY, 8); return ANY_LONG; }
 int stat(const void *path, const void *buffer)
-{ @memset((void *)buffer, ANY, SIZE(buffer)); return -(ANY != 0); }
+{ FAILS @memset((void *)buffer, ANY, SIZE(buffer)); return -(ANY != 0); }
 int lstat(const void *path, const void *buffer)
-{ @memset((void *)buffer, ANY, SIZE(buffer)); return -(ANY != 0); }
+{ FAILS @memset((void *)buffer, ANY, SIZE(buffer)); return -(ANY != 0); }
 int fstat(int file, const void *buffer)
-{ @memset((void *)buffer, ANY, SIZE(buffer)); return -(ANY != 0); }
+{ FAILS @memset((void *)buffer, ANY, SIZE(buffer)); return -(ANY != 0); }
 int gettimeofday(const void *time, const void *zone)
-{ if (time != 0) @memset((void *)time, ANY, SIZE(time));
+{ FAILS if (time != 0) @memset((void *)time, ANY, SIZE(time));
   if (zone != 0) @memset((void *)zone, ANY, SIZE(zone)); return -(ANY != 0); }
-long mktime(const void *time) { @memset((void *)time, ANY, SIZE(time)); return ANY_LONG; }
-int pipe(const void *files) { @memset((void *)files, ANY, 8); return -(ANY != 0); }
-int wait(const void *status) { if (status != 0) @memset((void *)status, ANY, 4); return ANY_INT; }
+long mktime(const void *time) { FAILS @memset((void *)time, ANY, SIZE(time)); return ANY_LONG; }
+int pipe(const void *files) { FAILS @memset((void *)files, ANY, 8); return -(ANY != 0); }
+int wait(const void *status)
+{ FAILS if (status != 0) @memset((void *)status, ANY, 4); return ANY_INT; }
 int waitpid(int process, const void *status, int options)
-{ if (status != 0) @memset((void *)status, ANY, 4); return ANY_INT; }
+{ FAILS if (status != 0) @memset((void *)status, ANY, 4); return ANY_INT; }
 void *localtime(const void *time)
-{ int n; memset(&RECORD, ANY, sizeof(TARGET));
+{ FAILS int n; memset(&RECORD, ANY, sizeof(TARGET));
   FIELD(tm_sec, 0, 60) FIELD(tm_min, 0, 59) FIELD(tm_hour, 0, 23) FIELD(tm_mday, 1, 31)
   FIELD(tm_mon, 0, 11) FIELD(tm_wday, 0, 6) FIELD(tm_yday, 0, 365) return &RECORD; }
 void *gmtime(const void *time)
-{ int n; memset(&RECORD, ANY, sizeof(TARGET));
+{ FAILS int n; memset(&RECORD, ANY, sizeof(TARGET));
   FIELD(tm_sec, 0, 60) FIELD(tm_min, 0, 59) FIELD(tm_hour, 0, 23) FIELD(tm_mday, 1, 31)
   FIELD(tm_mon, 0, 11) FIELD(tm_wday, 0, 6) FIELD(tm_yday, 0, 365) return &RECORD; }
 
 /* What calls. */
 void qsort(const void *base, unsigned long n, unsigned long size, COMPARISON)
-{ unsigned long i, j; if (n > 1) @memmove((void *)base, base, n * size);
+{ FAILS unsigned long i, j; if (n > 1) @memmove((void *)base, base, n * size);
   while (ANY) { i = ANY_SIZE; j = ANY_SIZE;
     if (i < n && j < n) @compare(ELEMENT(base, i, size), ELEMENT(base, j, size)); } }
 
