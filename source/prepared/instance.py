@@ -15,7 +15,7 @@ from contexts.meant import spelling
 from outside.written import is_null
 
 from .formats import scanned
-from .printing import UNKNOWN, count_of_format
+from .printing import UNKNOWN, count_of_format, numbers_told
 from .table import COMPARE, COMPARISON, Model, Parameter
 
 # For the analysis any number of the type, since the constant is too large for it.
@@ -26,7 +26,7 @@ ANY = {
     "ANY": "(signed char)256u",
 }
 WORD = re.compile(r"\b(?:ANY_SIZE|ANY_LONG|ANY_INT|ANY|TARGET|OWN|RECORD)\b|@")
-CALL = re.compile(r"\b(SIZE|SCANNED|PRINTED|ELEMENT|FIRST|FIELD|SET)\(([^()]*)\)")
+CALL = re.compile(r"\b(SIZE|SCANNED|PRINTED|ELEMENT|FIRST|FIELD|SET|TOLD|ONLY_TOLD)\(([^()]*)\)")
 FAILS = "FAILS "
 POINTER = "const void *"
 COMPARED = f"int (*{COMPARE})({POINTER}, {POINTER})"
@@ -120,6 +120,11 @@ class Instance:
         if word == "FIELD":
             return self.field(*names)
         literal = self.literal(names[0])
+        if word in ("TOLD", "ONLY_TOLD"):
+            told = numbers_told(literal, self.extras)
+            if not told and word == "ONLY_TOLD":
+                raise Unfit
+            return told
         if word == "PRINTED":
             self.counted = count_of_format(literal, self.extras)
             return self.counted.before

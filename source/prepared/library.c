@@ -11,6 +11,8 @@ each that may be given. What stands behind an @ has the place of the call.
 - `...` are the arguments that the call has there. SCANNED(f) writes through them what a format
   like that of scanf asks for. COUNT is the number of characters that a format like that of printf
   gives, with the closing 0, behind PRINTED(f), which makes ready for that.
+- TOLD(f) writes what `%n` asks for in a format like that of printf. Where ONLY_TOLD(f) has nothing
+  to write, the call has no model.
 - FIRST(p, q) says that the object to which p points holds q before all else. That is written where
   the call gives its address, and q by its name.
 - OWN is a pointer that all calls of the function share. RECORD is an object of the type TARGET that
@@ -75,12 +77,17 @@ int fscanf(const void *file, const void *format, ...) { FAILS SCANNED(format) re
 int sscanf(const void *s, const void *format, ...)
 { FAILS @strlen(s); SCANNED(format) return ANY_INT; }
 
+/* Output. */
+int printf(const void *format, ...) { FAILS ONLY_TOLD(format) return ANY_INT; }
+int fprintf(const void *file, const void *format, ...)
+{ FAILS ONLY_TOLD(format) return ANY_INT; }
+
 /* Output into memory. */
 int sprintf(const void *s, const void *format, ...)
-{ FAILS PRINTED(format) @memset((void *)s, ANY, COUNT); return ANY_INT; }
+{ FAILS PRINTED(format) @memset((void *)s, ANY, COUNT); TOLD(format) return ANY_INT; }
 
 int snprintf(const void *s, unsigned long n, const void *format, ...)
-{ FAILS if (n > 0) @memset((void *)s, ANY, n); return ANY_INT; }
+{ FAILS if (n > 0) @memset((void *)s, ANY, n); TOLD(format) return ANY_INT; }
 
 int vsprintf(const void *s, const void *format, const void *list)
 { FAILS @memset((void *)s, ANY, 1 + ANY_SIZE / 2); return ANY_INT; }

@@ -25,6 +25,9 @@ class Counted(NamedTuple):
     number: str
 
 
+# A conversion, the arguments of its `*`, and its own.
+Match = tuple[Printed, list[Parameter], Parameter]
+
 UNKNOWN = Counted("", "1 + ANY_SIZE / 2")
 
 
@@ -37,28 +40,74 @@ def count_of_format(text: Optional[str], extras: list[Parameter]) -> Counted:
     declared: list[str] = []
     statements: list[str] = []
     terms = [str(rest + 1)]
-    if len(conversions) > len(extras):
+    pairs = matched(conversions, extras)
+    if len(pairs) < len(conversions):
         return UNKNOWN
-    for each, argument in zip(conversions, extras):
-        if -1 in (each.width, each.precision):
-            # The widths that an argument tells may be any.
+    for each, stars, argument in pairs:
+        if any(star.type != "int" for star in stars):
             return UNKNOWN
         if each.letter == "s" and argument.is_pointer and not each.width and each.precision is None:
             terms.append(f"@strlen({argument.name})")
             continue
         name = f"k{len(declared)}"
-        written = statements_for(each, argument, name)
+        plain = each._replace(width=max(0, each.width))
+        if each.precision == -1:
+            # No more than without one, but for numbers.
+            plain = plain._replace(precision=None)
+        written = statements_for(plain, argument, name)
         if written is None:
             return UNKNOWN
         declared.append(name)
-        statements.append(written + at_least(name, each.width))
+        statements.append(written + at_least(name, each.width) + starred(each, stars, name))
         terms.append(name)
     head = f"unsigned long {', '.join(declared)};" if declared else ""
     return Counted(" ".join([head, *statements]), " + ".join(terms))
 
 
+def starred(each: Printed, stars: list[Parameter], name: str) -> str:
+    """The statements for a width and a precision that are arguments."""
+    text = ""
+    if each.width == -1:
+        width = stars[0].name
+        text += f" if (0 < {width}) {{ if ({name} < {width}) {name} = {width}; }}"
+        text += f" if ({width} < 0) {name} = {name} - (long){width};"
+    if each.precision == -1:
+        precision = stars[-1].name
+        if each.letter in "sS":
+            # One below 0 is a great number here, and no limit.
+            limit = f"unsigned long most; most = {precision};"
+            text += f" {{ {limit} if (most < {name}) {name} = most; }}"
+        else:
+            text += f" if (0 < {precision}) {name} = {name} + {precision};"
+    return text
+
+
+def numbers_told(text: Optional[str], extras: list[Parameter]) -> str:
+    """The statements that write the numbers that `%n` asks for."""
+    conversions = [] if text is None else printed(text)[1]
+    return " ".join(
+        f"@memset((void *){extra.name}, ANY, {each.size});"
+        for each, _, extra in matched(conversions, extras)
+        if each.letter == "n" and extra.is_pointer
+    )
+
+
+def matched(conversions: list[Printed], extras: list[Parameter]) -> list[Match]:
+    """The conversions that have their arguments, each with those of its `*` and its own."""
+    found, place = [], 0
+    for each in conversions:
+        stars = (each.width, each.precision).count(-1)
+        if len(extras) <= place + stars:
+            break
+        found.append((each, extras[place : place + stars], extras[place + stars]))
+        place += stars + 1
+    return found
+
+
 def statements_for(each: Printed, argument: Parameter, name: str) -> Optional[str]:
     """The statements that make an object the number of characters of one conversion."""
+    if each.letter == "n":
+        return f"{name} = 0;"
     if each.is_wide:
         return wide(each, name)
     if each.letter == "c":
