@@ -12,7 +12,7 @@ from typing import Optional
 from c.constants import value_of
 from c.rules import stripped
 from c.trees import Expression, Statement
-from c.types import Void
+from c.types import Function, Integer, MaybeType, Void
 from contexts.functions import ContextUnit
 from rewriting.unit import Program
 from rewriting.walk import Context, Rewriting, Walk
@@ -58,6 +58,9 @@ class Endings:
             return (unit, name) in self.found
         if name in self.shared:
             return (self.shared[name], name) in self.found
+        if name not in KNOWN and not takes_status(symbol.type):
+            # Another function of that name, in a file that isn't given.
+            return False
         if name == WITH_STATUS:
             return len(call.parts) > 1 and value_of(call.parts[1]) not in (None, 0)
         return name in ENDING
@@ -118,6 +121,12 @@ def end_calls(unit: ContextUnit, endings: Endings, changes: Changes) -> bool:
     calls = EndingCalls(unit, context, endings, changes)
     Walk(unit, context, [calls]).walk()
     return calls.is_changed
+
+
+def takes_status(kind: MaybeType) -> bool:
+    """Whether the first parameter of a function is a number, as a status is."""
+    parameters = kind.parameters if isinstance(kind, Function) else None
+    return parameters is not None and isinstance(next(iter(parameters), None), Integer)
 
 
 def called(node: Statement) -> Optional[Expression]:

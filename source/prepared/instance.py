@@ -9,7 +9,18 @@ from c.constants import value_of
 from c.edits import marker_to
 from c.rules import stripped, value_type
 from c.trees import Expression
-from c.types import Floating, Function, Integer, MaybeType, Pointer, Record, Void, decayed, promoted, size_of
+from c.types import (
+    Floating,
+    Function,
+    Integer,
+    MaybeType,
+    Pointer,
+    Record,
+    Void,
+    decayed,
+    promoted,
+    size_of,
+)
 from contexts.functions import Call, ContextUnit
 from contexts.meant import spelling
 from outside.written import is_null
