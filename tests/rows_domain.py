@@ -6,7 +6,8 @@ usage: tests/rows_domain.py          writes crates/rows_domain/stdin and stdout
 
 Intervals are gone through member by member, octagons point by point: nothing here knows the formulas of the
 crates. tests/rows/interval.tsv has cases with wider numbers, of the same form: call, operands, range, answer.
-The rows under "worked" have answers that were found by hand.
+The rows under "worked" have answers that were found by hand. Triples are kept as a list or as a diagram: the nodes
+of a diagram are counted as the parts of the set that differ.
 """
 import itertools
 import os
@@ -207,6 +208,154 @@ def closures(first, step, count):
     return f"{held} {digest}"
 
 
+# ---- triples that are kept
+
+NUMBERS = 2**20
+MOST = 2**26
+
+
+def nodes_of(rows):
+    """The nodes of the reduced ordered diagram of a set of rows of 60 bits: for each bit as many as there are sets of
+    lower bits behind a beginning of rows that differ with the bit and without it."""
+    count = 0
+    for bit in range(60):
+        behind = {}
+        for row in rows:
+            behind.setdefault(row >> (bit + 1), (set(), set()))[row >> bit & 1].add(row % 2**bit)
+        count += len({(frozenset(low), frozenset(high)) for low, high in behind.values() if low != high})
+    return count
+
+
+def code(triple):
+    return triple[0] * 2**40 + triple[1] * 2**20 + triple[2]
+
+
+def box(block):
+    return itertools.product(*(range(first, last + 1) for first, last in block))
+
+
+def form(nodes, locations, limit, triples):
+    """How triples are kept: a diagram is tried where the first sixteenth of them needs no more than a sixteenth of the
+    limit and 60 nodes, and kept where all of them need no more than the limit."""
+    if nodes > NUMBERS or locations > NUMBERS:
+        return "list"
+    codes = sorted(code(triple) for triple in triples)
+    if nodes_of(codes[:len(codes) // 16]) > limit // 16 + 60:
+        return "list"
+    needed = nodes_of(codes)
+    return f"diagram {needed}" if needed <= limit else "list"
+
+
+def show_block(block):
+    return ":".join(str(first) if first == last else f"{first}-{last}" for first, last in block)
+
+
+def show_triples(triples):
+    return "".join(f" {from_}:{location}:{to}" for from_, location, to in triples)
+
+
+def keeping(nodes, locations, limit, blocks, asked):
+    """The row that keeps the triples of blocks and asks for those of others, and its answer."""
+    triples = {triple for block in blocks for triple in box(block)}
+    held = [triple for block in asked for triple in box(block) if triple in triples]
+    after = [triple for (first, last), *_ in asked for triple in sorted(triples) if first <= triple[0] <= last]
+    row = " ".join(["keeping", str(nodes), str(locations), f"{limit};", *map(show_block, blocks)])
+    row += "; " + " ".join(map(show_block, asked))
+    return row, f"{form(nodes, locations, limit, triples)}; holds{show_triples(held)}; after{show_triples(after)}"
+
+
+def at(*triple):
+    return tuple((number, number) for number in triple)
+
+
+def whole(nodes, locations):
+    """All triples, and those just past the counts."""
+    return [((0, nodes), (0, locations), (0, nodes))]
+
+
+def scattered(count, nodes, locations, seed):
+    """Triples without a pattern, each as a block of its own."""
+    found, state = set(), seed
+    while len(found) < count:
+        numbers = []
+        for bound in (nodes, locations, nodes):
+            state = (state * 6364136223846793005 + 1442695040888963407) % 2**64
+            numbers.append((state >> 33) % bound)
+        found.add(tuple(numbers))
+    return [at(*triple) for triple in sorted(found)]
+
+
+def limits(triples):
+    """None, one node too few, exactly enough, and the most."""
+    needed = nodes_of([code(triple) for triple in triples])
+    return sorted({0, max(needed - 1, 0), needed, MOST})
+
+
+def shapes():
+    """Nodes, locations and blocks of triples."""
+    yield 0, 0, []
+    yield 3, 2, []
+    yield 3, 2, [at(1, 1, 2)]
+    yield 3, 2, [((0, 2), (0, 1), (0, 2))]
+    yield 8, 2, [((0, 7), (0, 1), (0, 7))]
+    yield 12, 6, [((0, 4), (0, 5), (6, 11))]
+    yield 12, 6, [((0, 9), (1, 2), (3, 9)), ((0, 9), (4, 5), (3, 9))]
+    yield 40, 12, scattered(30, 40, 12, 1)
+
+
+def small_sets():
+    """Every set of triples of two nodes and two locations, with a limit of one node too few and with enough."""
+    triples = list(itertools.product(range(2), repeat=3))
+    for number in range(256):
+        chosen = [triple for place, triple in enumerate(triples) if number >> place & 1]
+        needed = nodes_of([code(triple) for triple in chosen])
+        for limit in sorted({max(needed - 1, 0), needed}):
+            yield keeping(2, 2, limit, [at(*triple) for triple in chosen], whole(2, 2))
+
+
+def front_rows():
+    """A set whose first sixteenth needs most of the nodes: a diagram is tried only from a limit on that is far higher
+    than what all of it needs."""
+    front = scattered(24, 4, 12, 3)
+    blocks = front + [((4, 25), (0, 5), (20, 25))]
+    codes = sorted(code(triple) for block in blocks for triple in box(block))
+    needed = nodes_of(codes)
+    tried = 16 * (nodes_of(codes[:len(codes) // 16]) - 60)
+    assert needed < tried < 16 * needed, (needed, tried)
+    for limit in (needed, tried - 1, tried, 16 * needed):
+        yield keeping(26, 12, limit, blocks, [((3, 5), (0, 12), (18, 26)), at(25, 5, 25), at(26, 0, 20)])
+
+
+def greatest_rows():
+    """The greatest numbers that a diagram takes, and those past them. Numbers past 2^20 may not be taken for others."""
+    last = NUMBERS - 1
+    corner = [((last - 1, last + 1), (last - 1, last + 1), (last - 1, last + 1))]
+    for limit in (59, 60, MOST):
+        yield keeping(NUMBERS, NUMBERS, limit, [at(last, last, last)], corner)
+    ends = [at(0, 0, 0), at(0, last, last), at(last, 0, last), at(last, last, 0)]
+    yield keeping(NUMBERS, NUMBERS, MOST, ends, [*ends, *corner])
+    shifted = [at(5, 3, 7), at(5, 2, 7 + NUMBERS), at(4, 3 + NUMBERS, 7), at(5, 3 + NUMBERS, 7), at(5, 3, 7 + NUMBERS)]
+    for locations in (NUMBERS, NUMBERS + 1, 2**32 - 1):
+        yield keeping(9, locations, MOST, shifted[:1], shifted)
+    yield keeping(NUMBERS + 1, 4, MOST, [at(5, 3, 7)], shifted)
+    yield keeping(NUMBERS + 1, 4, MOST, [at(NUMBERS, 3, NUMBERS)], [((last, NUMBERS + 1), (3, 3), (last, NUMBERS + 1))])
+    yield keeping(9, 2**32 - 1, MOST, [at(5, 2**32 - 2, 7)], [((5, 5), (2**32 - 3, 2**32 - 1), (7, 7))])
+
+
+def keeping_rows():
+    yield "# triples, kept as a list and as a diagram", None
+    for nodes, locations, blocks in shapes():
+        triples = {triple for block in blocks for triple in box(block)}
+        for limit in limits(triples):
+            yield keeping(nodes, locations, limit, blocks, whole(nodes, locations))
+    yield "# where a diagram is tried", None
+    yield from front_rows()
+    yield "# the greatest numbers", None
+    yield from greatest_rows()
+    yield "# every set of triples of two nodes and two locations", None
+    yield from small_sets()
+
+
 # ---- the rows
 
 INT = "[-2147483648,2147483647] 32"
@@ -311,12 +460,24 @@ WORKED = [
     ("octagon 2; set 1 0 5; set 0 1 -6; close", "false"),
     # half the sum of 3 and 4, rounded down
     ("octagon 2; set 1 0 4; set 3 2 3; close; entry 3 0; entry 3 2", "true 3 3"),
+    ("# worked: triples that are kept", None),
+    ("keeping 3 2 60; 1:1:2; 0-3:0-2:0-3", "diagram 60; holds 1:1:2; after 1:1:2"),
+    ("keeping 3 2 59; 1:1:2; 0-3:0-2:0-3", "list; holds 1:1:2; after 1:1:2"),
+    # both targets: the last bit isn't tested
+    ("keeping 3 2 59; 1:1:0-1; 0-3:0-2:0-3", "diagram 59; holds 1:1:0 1:1:1; after 1:1:0 1:1:1"),
+    ("keeping 3 2 0; ; 0-3:0-2:0-3", "diagram 0; holds; after"),
     ("# not rows", None),
     ("octagon 9; close", "not a row"),
     ("octagon 2; forget 2", "not a row"),
     ("octagon 2; constrain 1 < 1", "not a row"),
     ("add [3,2] [1,1] [0,255] 8", "not a row"),
     ("add [0,1] [0,1] [0,255] 7", "not a row"),
+    ("keeping 3 2 60; 1:2:2; 0:0:0", "not a row"),
+    ("keeping 3 2 60; 1:1:3; 0:0:0", "not a row"),
+    ("keeping 3 2 60; 1:1:2 1:1:2; 0:0:0", "not a row"),
+    ("keeping 3 2 60; 1:1:2 1:1:1; 0:0:0", "not a row"),
+    ("keeping 3 2 60; 1:1:2 1:0:2; 0:0:0", "not a row"),
+    ("keeping 3 2 60; 1:1; 0:0:0", "not a row"),
 ]
 
 
@@ -357,6 +518,7 @@ def rows():
     for start in range(0, 16630, 1000):
         count = min(1000, 16630 - start)
         yield f"closures {101 * start} 101 {count}", closures(101 * start, 101, count)
+    yield from keeping_rows()
 
 
 def main():

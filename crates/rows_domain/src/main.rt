@@ -1,5 +1,5 @@
-//! Answers rows on the ladder, on intervals and on octagons: a row a line on standard input, its
-//! answer a line on standard output. Fields are apart by tabs or blanks; a line that begins with
+//! Answers rows on the ladder, on intervals, on octagons and on triples that are kept: a row a line
+//! on standard input, its answer a line on standard output. Fields are apart by tabs or blanks; a line that begins with
 //! `#` is a remark.
 //!
 //! An interval is written `[a,b]` or `empty`, a range as its bounds and its width (`[0,255] 8`),
@@ -9,6 +9,7 @@
 
 mod fields;
 mod intervals;
+mod keepings;
 mod ladders;
 mod octagons;
 
@@ -22,6 +23,7 @@ fn try_answer(alloc: Global, line: &str) -> Result<Option<String>, AllocError> {
     match field(&row, 0) {
         "ladder" => ladders::answer(alloc, field(&row, 1), field(&row, 2), field(&row, 3)),
         "octagon" => octagons::answer(alloc, line),
+        "keeping" => keepings::answer(alloc, line),
         "closures" => octagons::closures(alloc, field(&row, 1), field(&row, 2), field(&row, 3)),
         _ => intervals::answer(alloc, &row),
     }
