@@ -214,16 +214,45 @@ NUMBERS = 2**20
 MOST = 2**26
 
 
-def nodes_of(rows):
-    """The nodes of the reduced ordered diagram of a set of rows of 60 bits: for each bit as many as there are sets of
-    lower bits behind a beginning of rows that differ with the bit and without it."""
-    count = 0
+def diagram(rows):
+    """The nodes of the reduced ordered diagram of a set of rows of 60 bits: for each bit the pairs of sets of lower bits
+    that stand behind one beginning of rows, without the bit and with it, where they differ."""
+    nodes = set()
     for bit in range(60):
         behind = {}
         for row in rows:
             behind.setdefault(row >> (bit + 1), (set(), set()))[row >> bit & 1].add(row % 2**bit)
-        count += len({(frozenset(low), frozenset(high)) for low, high in behind.values() if low != high})
-    return count
+        nodes |= {(bit, frozenset(low), frozenset(high)) for low, high in behind.values() if low != high}
+    return nodes
+
+
+def nodes_of(rows):
+    return len(diagram(rows))
+
+
+def diagrams(limit, left, right, first, last):
+    """The row that makes the sets of two rows, their union and their meet in one manager, and its answer."""
+    row = f"diagrams {limit} {left} {right} {first} {last}"
+    held, counts = set(), []
+    for made in ({left}, {right}, {left, right}, {left} & {right}):
+        held |= diagram(made)
+        counts.append(len(held))
+    if counts[-1] > limit:
+        return row, "full"
+    shown = [[str(asked in made).lower() for asked in (left, right)] + [str(r) for r in sorted(made) if first <= r <= last]
+             for made in ({left, right}, {left} & {right}, {left})]
+    numbers = f"{counts[0]} {counts[1]} {counts[3]} {str(left == right).lower()}"
+    return row, "; ".join([numbers, *map(" ".join, shown)])
+
+
+def diagram_rows():
+    top = 2**60 - 1
+    for left, right in [(5, 9), (9, 5), (5, 5), (0, 1), (0, top), (2**59, 2**59 - 1), (6, 7)]:
+        needed = len(diagram({left}) | diagram({right}) | diagram({left, right}))
+        for limit in sorted({0, 59, 60, needed - 1, needed, 200}):
+            yield diagrams(limit, left, right, 0, top)
+        yield diagrams(MOST, left, right, 6, 9)
+        yield diagrams(MOST, left, right, 9, 6)
 
 
 def code(triple):
@@ -343,6 +372,8 @@ def greatest_rows():
 
 
 def keeping_rows():
+    yield "# decision diagrams", None
+    yield from diagram_rows()
     yield "# triples, kept as a list and as a diagram", None
     for nodes, locations, blocks in shapes():
         triples = {triple for block in blocks for triple in box(block)}
@@ -460,6 +491,13 @@ WORKED = [
     ("octagon 2; set 1 0 5; set 0 1 -6; close", "false"),
     # half the sum of 3 and 4, rounded down
     ("octagon 2; set 1 0 4; set 3 2 3; close; entry 3 0; entry 3 2", "true 3 3"),
+    ("# worked: decision diagrams", None),
+    ("diagrams 59 5 5 0 9", "full"),
+    ("diagrams 60 5 5 0 9", "60 60 60 true; true true 5; true true 5; true true 5"),
+    ("diagrams 60 0 1 0 1", "full"),
+    # each row has 60 nodes, and those of bit 0 alone are no one's parts; of the union bit 0 isn't tested
+    ("diagrams 179 0 1 0 1", "60 120 179 false; true true 0 1; false false; true false 0"),
+    ("diagrams 178 0 1 0 1", "full"),
     ("# worked: triples that are kept", None),
     ("keeping 3 2 60; 1:1:2; 0-3:0-2:0-3", "diagram 60; holds 1:1:2; after 1:1:2"),
     ("keeping 3 2 59; 1:1:2; 0-3:0-2:0-3", "list; holds 1:1:2; after 1:1:2"),
@@ -472,6 +510,8 @@ WORKED = [
     ("octagon 2; constrain 1 < 1", "not a row"),
     ("add [3,2] [1,1] [0,255] 8", "not a row"),
     ("add [0,1] [0,1] [0,255] 7", "not a row"),
+    (f"diagrams 200 5 {2**60} 0 9", "not a row"),
+    (f"diagrams 200 5 9 0 {2**60}", "not a row"),
     ("keeping 3 2 60; 1:2:2; 0:0:0", "not a row"),
     ("keeping 3 2 60; 1:1:3; 0:0:0", "not a row"),
     ("keeping 3 2 60; 1:1:2 1:1:2; 0:0:0", "not a row"),

@@ -1,11 +1,8 @@
 //! Rows on triples of a node, a location and a node that are kept: in which form, and what it
 //! tells.
-ghost use Rattle.std.specs.Prelude.{◌≡◌, ◌×◌, true, length, All, IfOk, IfSome};
-ghost use Rattle.sp_engine_keeping.specs.Triples.{Ascends, AreWithin};
-
 use crate::fields::field;
+use crate::triples::checked;
 use sp_engine_keeping::Keeping;
-use sp_lattice::rows::Rows;
 use std::alloc::{AllocError, Global};
 
 // The numbers from one to another, both included.
@@ -70,41 +67,17 @@ fn row_of(alloc: Global, blocks: &[Block], from: u32) -> Result<Vec<(u32, u32)>,
     Ok(row)
 }
 
-// Whether the pairs ascend, and their locations and targets are below these counts.
-fn is_in_order(row: &[(u32, u32)], locations: u32, nodes: u32) -> bool
-    ensures { result ≡ true → Ascends row.now × AreWithin locations nodes row.now }
-{
-    for place in 0..row.len() {
-        let pair = row[place];
-        if pair.0 >= locations || pair.1 >= nodes {
-            return false;
-        }
-        if place > 0 && row[place - 1] >= pair {
-            return false;
-        }
-    }
-    true
-}
-
-// The rows that blocks give so many nodes; none where one isn't in order.
-fn rows_of(
+// The pairs of each of so many nodes.
+fn lists_of(
     alloc: Global,
     nodes: u32,
-    locations: u32,
     blocks: &[Block],
-) -> Result<Option<Rows<(u32, u32)>>, AllocError>
-    ensures { IfOk result (λ made. IfSome made (λ rows.
-        (length rows ≡ nodes) × All Ascends rows × All (AreWithin locations nodes) rows)) }
-{
-    let mut rows = Rows::with_capacity(alloc, nodes as usize, 0)?;
+) -> Result<Vec<Vec<(u32, u32)>>, AllocError> {
+    let mut lists = Vec::new(alloc);
     for from in 0..nodes {
-        let row = row_of(alloc, blocks, from)?;
-        if !is_in_order(&row, locations, nodes) {
-            return Ok(None);
-        }
-        rows.push_row(&row)?;
+        lists.push(row_of(alloc, blocks, from)?)?;
     }
-    Ok(Some(rows))
+    Ok(lists)
 }
 
 fn add_triple(
@@ -119,7 +92,12 @@ fn add_triple(
 }
 
 // The triples of a block that are kept.
-fn tell_held(alloc: Global, text: &mut String, kept: &Keeping, block: Block) -> Result<(), AllocError> {
+fn tell_held(
+    alloc: Global,
+    text: &mut String,
+    kept: &Keeping,
+    block: Block,
+) -> Result<(), AllocError> {
     for from in block.froms.first..=block.froms.last {
         for location in block.locations.first..=block.locations.last {
             for target in block.targets.first..=block.targets.last {
@@ -133,7 +111,12 @@ fn tell_held(alloc: Global, text: &mut String, kept: &Keeping, block: Block) -> 
 }
 
 // All triples that leave the nodes of a block.
-fn tell_after(alloc: Global, text: &mut String, kept: &Keeping, nodes: Span) -> Result<(), AllocError> {
+fn tell_after(
+    alloc: Global,
+    text: &mut String,
+    kept: &Keeping,
+    nodes: Span,
+) -> Result<(), AllocError> {
     for from in nodes.first..=nodes.last {
         for (location, target) in &kept.after(from)? {
             add_triple(alloc, text, from, *location, *target)?;
@@ -181,7 +164,8 @@ pub(crate) fn answer(alloc: Global, line: &str) -> Result<Option<String>, AllocE
     let (Some(blocks), Some(asked)) = (blocks_of(alloc, triples)?, blocks_of(alloc, asked)?) else {
         return Ok(None);
     };
-    let Some(rows) = rows_of(alloc, nodes, locations, &blocks)? else {
+    let lists = lists_of(alloc, nodes, &blocks)?;
+    let Some(rows) = checked(alloc, &lists, locations)? else {
         return Ok(None);
     };
     let kept = Keeping::keep(alloc, rows, locations, limit)?;

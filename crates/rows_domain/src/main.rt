@@ -1,5 +1,5 @@
-//! Answers rows on the ladder, on intervals, on octagons and on triples that are kept: a row a line
-//! on standard input, its answer a line on standard output. Fields are apart by tabs or blanks; a line that begins with
+//! Answers rows on the ladder, on intervals, on octagons, on decision diagrams and on triples that
+//! are kept: a row a line on standard input, its answer a line on standard output. Fields are apart by tabs or blanks; a line that begins with
 //! `#` is a remark.
 //!
 //! An interval is written `[a,b]` or `empty`, a range as its bounds and its width (`[0,255] 8`),
@@ -7,11 +7,13 @@
 //! answers computed apart.
 #![tactic(auto)]
 
+mod diagrams;
 mod fields;
 mod intervals;
 mod keepings;
 mod ladders;
 mod octagons;
+mod triples;
 
 use crate::fields::field;
 use std::alloc::{AllocError, Global};
@@ -23,6 +25,7 @@ fn try_answer(alloc: Global, line: &str) -> Result<Option<String>, AllocError> {
     match field(&row, 0) {
         "ladder" => ladders::answer(alloc, field(&row, 1), field(&row, 2), field(&row, 3)),
         "octagon" => octagons::answer(alloc, line),
+        "diagrams" => diagrams::answer(alloc, &row),
         "keeping" => keepings::answer(alloc, line),
         "closures" => octagons::closures(alloc, field(&row, 1), field(&row, 2), field(&row, 3)),
         _ => intervals::answer(alloc, &row),
