@@ -174,4 +174,5 @@ def main():
             table("dense", Shape(made.__name__, made), [4000, 8000, 16100], [sparrow, "dense"], source)
 
 
-main()
+if __name__ == "__main__":
+    main()

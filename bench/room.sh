@@ -58,3 +58,13 @@ replace() {
 without_in() {
     find "$@" -name '*.in' | while read -r file; do mv "$file" "${file%.in}"; done
 }
+
+# add_systems: puts the systems over intervals of bench/sparse/systems, with their definitions and proofs, into the program in the room.
+add_systems() {
+    folder=$room/crates/${bench}_bench
+    rm -rf "$folder/proofs" "$folder/specs"
+    cp -R "$top/bench/sparse/systems/proofs" "$top/bench/sparse/systems/specs" "$folder/"
+    cp "$top"/bench/sparse/systems/*.rt.in "$folder/src/"
+    without_in "$folder"
+    grep -rlF sparse_bench "$folder/src" "$folder/proofs" "$folder/specs" | xargs sed -i "s/sparse_bench/${bench}_bench/g"
+}

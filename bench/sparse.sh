@@ -6,13 +6,7 @@ top=$(cd "$(dirname "$0")/.." && pwd)
 . "$top/bench/room.sh"
 make_room sparse sp_lattice sp_interval sp_dense sp_deps sp_sparse
 
-# The program's systems over intervals stand beside it, with their definitions and proofs.
-systems=$top/bench/sparse/systems
-folder=$room/crates/sparse_bench
-cp "$systems/systems.rt.in" "$folder/src/systems.rt"
-rm -rf "$folder/proofs" "$folder/specs"
-cp -R "$systems/proofs" "$systems/specs" "$folder/"
-without_in "$folder/proofs" "$folder/specs"
+add_systems
 mkdir -p "$folder/proofs/main"
 cp "$top/bench/sparse/main.antt.in" "$folder/proofs/main/Invariants.antt"
 (cd "$folder" && rt run -- blocks 1000) >"$room/built.txt"
