@@ -9,6 +9,7 @@ use Rattle.sp_ir.specs.declared.command.Routine.{Routine}
 use Rattle.sp_ir.specs.declared.command.Routine.TheVariants.{Malloc, Memset, Memcpy, Memmove, Strlen, Strcpy, Strncpy, Strcat}
 use Rattle.sp_ir.specs.Regions.{Region}
 use Rattle.sp_ir.specs.Programs.{Lowered}
+use Rattle.sp_numbers.specs.Numbers.{plain}
 use Rattle.sp_value.specs.Known.{Known, none, of_numbers, of_target}
 use Rattle.sp_effect_alarms.specs.declared.alarm.Alarm.{Alarm}
 use Rattle.sp_effect_alarms.specs.declared.alarm.AlarmKind.TheVariants.{Overrun, Pointer, Punned}
@@ -56,10 +57,10 @@ abbrev u : Known
 u = at_region 4 (span 0 0) 8
 
 abbrev bytes : ℕ → Known
-bytes n = of_numbers (span n n)
+bytes n = of_numbers (plain (span n n))
 
 abbrev null : Known
-null = of_numbers (span 0 0)
+null = of_numbers (plain (span 0 0))
 
 module _ (at : Place) where
   abbrev of_call : Routine → List Known → List Alarm
@@ -88,7 +89,7 @@ module _ (at : Place) where
   fills_null = refl
 
   -- a negative count of an int prototype
-  fills_backwards : of_call Memset (a ∷ null ∷ of_numbers (Of (neg_ℤ (pos 5)) (neg_ℤ (pos 1))) ∷ []) ≡ []
+  fills_backwards : of_call Memset (a ∷ null ∷ of_numbers (plain (Of (neg_ℤ (pos 5)) (neg_ℤ (pos 1)))) ∷ []) ≡ []
   unfolding library_alarms byte_alarms number_alarms
   fills_backwards = refl
 

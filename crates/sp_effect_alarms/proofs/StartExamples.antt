@@ -58,7 +58,7 @@ module _ (first inner : Place) where
   element i = address (through (move (decay (through (move (decay (direct 0 rows)) (number (pos i) Int) false 12) row inner)) (number (pos 0) Int) false 4) int first)
 
   abbrev at_start : Expression → List Alarm
-  at_start e = command_alarms (p_is e) (λ r. none) first start
+  at_start e = command_alarms false (p_is e) (λ r. none) first start
 
   -- int *p = &a[5][0];
   past : at_start (element 5) ≡ alarm inner (Overrun (span 5) (span 1) (span 2)) ∷ []

@@ -13,6 +13,7 @@ use Rattle.sp_interval.specs.Inclusion.{bounds_from_le, le_from_bounds}
 use Rattle.sp_interval.proofs.Machine.{machine, fits_in_bounds, difference_exact}
 use Rattle.sp_ir.specs.Terrain.{Terrain}
 use Rattle.sp_value.specs.declared.targets.Target.{Target}
+use Rattle.sp_numbers.specs.Numbers.{plain}
 use Rattle.sp_value.specs.Known.{of_numbers, is_proper_within, every_offset, every_size}
 use Rattle.sp_value.specs.FormedLaws.{formed_from_test, test_from_formed, hull-ordered_within}
 use Rattle.sp_value.specs.Tests.{both, first, second}
@@ -98,5 +99,5 @@ hull-formed i j h g = formed_from_test (hull i j) (hull-ordered_within whole i j
 
 pub text_length-more : (g : Terrain) (xs : List Target) (i : ℕ) (d : Target) → i < length xs → hull (text_length g (take i xs)) (room_at g (slice_index_or xs i d)) ≡ text_length g (take (i + 1) xs)
 text_length-more g xs i d low =
-    sym (ap (λ v. v.numbers) (gathered-snoc (λ x. of_numbers (room_at g x)) (take i xs) (slice_index_or xs i d)))
+    sym (ap (λ v. v.numbers.span) (gathered-snoc (λ x. of_numbers (plain (room_at g x))) (take i xs) (slice_index_or xs i d)))
     ∙ ap (text_length g) (sym (take_more xs i d low))

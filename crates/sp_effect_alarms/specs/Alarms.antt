@@ -8,6 +8,7 @@ use Rattle.sp_tree.specs.declared.token.Punct.TheVariants.{Slash, Percent}
 use Rattle.sp_types.specs.Types.{CType}
 use Rattle.sp_interval.specs.declared.interval.Interval.{Interval}
 use Rattle.sp_interval.specs.declared.interval.Interval.TheVariants.{Empty, Of}
+use Rattle.sp_numbers.specs.Numbers.{may_be_zero}
 use Rattle.sp_ir.specs.Commands.{Expression, number, address, decay, read, convert, unary, binary, compare, move, distance, Lvalue, direct, through, field}
 use Rattle.sp_ir.specs.Terrain.{Terrain}
 use Rattle.sp_value.specs.declared.targets.Target.{Target}
@@ -49,17 +50,13 @@ target_alarms g t at x = reaching_alarms g t at (reach_of g t x.region) x
 
 -- a pointer that may be a number
 unfoldable pub number_alarms : Place → Known → List Alarm
-number_alarms at v = cond (has_numbers v) (alarm at (Pointer v.numbers) ∷ []) []
+number_alarms at v = cond (has_numbers v) (alarm at (Pointer v.numbers.span) ∷ []) []
 
 -- of an access of a type through a pointer
 unfoldable pub through_alarms : Terrain → CType → Place → Known → List Alarm
 through_alarms g t at v = flat_map (target_alarms g t at) v.targets ++ number_alarms at v
 
 -- ---- divisors (C90 6.3.5)
-
-abbrev pub holds_zero : Interval → Bool
-holds_zero Empty = false
-holds_zero (Of a b) = int_le a (pos 0) && int_le (pos 0) b
 
 abbrev pub divides : Punct → Bool
 divides Slash = true
@@ -68,37 +65,37 @@ divides op = false
 
 unfoldable pub divisor_alarms : Punct → Place → Known → List Alarm
 divisor_alarms op at v =
-    cond (divides op && holds_zero v.numbers) (alarm at (Zero v.numbers) ∷ []) []
+    cond (divides op && may_be_zero v.numbers) (alarm at (Zero v.numbers.span) ∷ []) []
 
 -- ---- all forms
 
 abbrev mutual
   -- of an lvalue that is read, written or stepped into
-  pub access_alarms : Terrain → (ℕ → Known) → Lvalue → List Alarm
-  access_alarms g cells (direct o t) = []
-  access_alarms g cells (through e t at) =
-      expression_alarms g cells e ++ through_alarms g t at (value_of g cells e)
-  access_alarms g cells (field l k t) = access_alarms g cells l
+  pub access_alarms : Bool → Terrain → (ℕ → Known) → Lvalue → List Alarm
+  access_alarms sharp g cells (direct o t) = []
+  access_alarms sharp g cells (through e t at) =
+      expression_alarms sharp g cells e ++ through_alarms g t at (value_of sharp g cells e)
+  access_alarms sharp g cells (field l k t) = access_alarms sharp g cells l
 
   -- of one whose address is taken: a pointer at its top isn't followed (C90 6.3.3.2)
-  pub address_alarms : Terrain → (ℕ → Known) → Lvalue → List Alarm
-  address_alarms g cells (direct o t) = []
-  address_alarms g cells (through e t at) = expression_alarms g cells e
-  address_alarms g cells (field l k t) = access_alarms g cells l
+  pub address_alarms : Bool → Terrain → (ℕ → Known) → Lvalue → List Alarm
+  address_alarms sharp g cells (direct o t) = []
+  address_alarms sharp g cells (through e t at) = expression_alarms sharp g cells e
+  address_alarms sharp g cells (field l k t) = access_alarms sharp g cells l
 
-  pub expression_alarms : Terrain → (ℕ → Known) → Expression → List Alarm
-  expression_alarms g cells (number z k) = []
-  expression_alarms g cells (address l) = address_alarms g cells l
-  expression_alarms g cells (decay l) = access_alarms g cells l
-  expression_alarms g cells (read l) = access_alarms g cells l
-  expression_alarms g cells (convert t e) = expression_alarms g cells e
-  expression_alarms g cells (unary op k e) = expression_alarms g cells e
-  expression_alarms g cells (binary op k e f at) =
-      expression_alarms g cells e ++ expression_alarms g cells f
-      ++ divisor_alarms op at (value_of g cells f)
-  expression_alarms g cells (compare op e f) =
-      expression_alarms g cells e ++ expression_alarms g cells f
-  expression_alarms g cells (move e f back size) =
-      expression_alarms g cells e ++ expression_alarms g cells f
-  expression_alarms g cells (distance e f size) =
-      expression_alarms g cells e ++ expression_alarms g cells f
+  pub expression_alarms : Bool → Terrain → (ℕ → Known) → Expression → List Alarm
+  expression_alarms sharp g cells (number z k) = []
+  expression_alarms sharp g cells (address l) = address_alarms sharp g cells l
+  expression_alarms sharp g cells (decay l) = access_alarms sharp g cells l
+  expression_alarms sharp g cells (read l) = access_alarms sharp g cells l
+  expression_alarms sharp g cells (convert t e) = expression_alarms sharp g cells e
+  expression_alarms sharp g cells (unary op k e) = expression_alarms sharp g cells e
+  expression_alarms sharp g cells (binary op k e f at) =
+      expression_alarms sharp g cells e ++ expression_alarms sharp g cells f
+      ++ divisor_alarms op at (value_of sharp g cells f)
+  expression_alarms sharp g cells (compare op e f) =
+      expression_alarms sharp g cells e ++ expression_alarms sharp g cells f
+  expression_alarms sharp g cells (move e f back size) =
+      expression_alarms sharp g cells e ++ expression_alarms sharp g cells f
+  expression_alarms sharp g cells (distance e f size) =
+      expression_alarms sharp g cells e ++ expression_alarms sharp g cells f

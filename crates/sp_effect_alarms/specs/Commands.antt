@@ -22,12 +22,12 @@ unfoldable pub callee_alarms : Lowered → ℕ → Place → Known → List Alar
 callee_alarms p count at v = number_alarms at v
     ++ cond (calls_other p count v.targets) (alarm at NoFunction ∷ []) []
 
-module _ (p : Lowered) (cells : ℕ → Known) where
+module _ (sharp : Bool) (p : Lowered) (cells : ℕ → Known) where
   abbrev pub alarms_of : Expression → List Alarm
-  alarms_of e = expression_alarms (terrain_of p) cells e
+  alarms_of e = expression_alarms sharp (terrain_of p) cells e
 
   abbrev pub alarms_at : Lvalue → List Alarm
-  alarms_at l = access_alarms (terrain_of p) cells l
+  alarms_at l = access_alarms sharp (terrain_of p) cells l
 
   abbrev pub list_alarms : List Expression → List Alarm
   list_alarms es = flat_map alarms_of es
@@ -46,7 +46,7 @@ module _ (p : Lowered) (cells : ℕ → Known) where
 
   -- what arguments are worth
   abbrev pub values_of : List Expression → List Known
-  values_of es = map (value_of (terrain_of p) cells) es
+  values_of es = map (value_of sharp (terrain_of p) cells) es
 
   -- at a place; a start value is no command of its own, so those of all objects are the start's
   abbrev pub command_alarms : Place → Command → List Alarm
@@ -60,7 +60,7 @@ module _ (p : Lowered) (cells : ℕ → Known) where
   command_alarms at (assume e op f) = alarms_of e ++ alarms_of f
   command_alarms at (eval e) = alarms_of e
   command_alarms at (call callee args) = alarms_of callee ++ list_alarms args
-      ++ callee_alarms p (length args) at (value_of (terrain_of p) cells callee)
+      ++ callee_alarms p (length args) at (value_of sharp (terrain_of p) cells callee)
   command_alarms at (return c to) = result_alarms to
   command_alarms at (library r to args site) =
       result_alarms to ++ list_alarms args ++ library_alarms p at r (values_of args)

@@ -1,5 +1,5 @@
 -- The laws of alarms, as the layers above use them.
-use Rattle.std.specs.Prelude.{◌≡◌, ℕ, true, Option}
+use Rattle.std.specs.Prelude.{◌≡◌, ℕ, Bool, true, Option}
 use Rattle.sp_ir.specs.Commands.{Expression, Lvalue, Command, Node}
 use Rattle.sp_ir.specs.Programs.{Lowered}
 use Rattle.sp_ir.specs.Terrain.{Terrain}
@@ -14,14 +14,14 @@ use Rattle.sp_effect_alarms.specs.Uses.{node_uses}
 -- The alarms of an expression, of an lvalue, and of a whole node hang on the cells that it uses
 -- alone; and the commands of formed programs are proper.
 pub record AlarmLaws : Type 0 where
-  pub expression_agrees : (g : Terrain) (points : PointsTo) (s t : ℕ → Known)
+  pub expression_agrees : (sharp : Bool) (g : Terrain) (points : PointsTo) (s t : ℕ → Known)
       → PointWithin points s → (e : Expression) → AgreeOn (uses_of g points e) s t
-      → expression_alarms g s e ≡ expression_alarms g t e
-  pub access_agrees : (g : Terrain) (points : PointsTo) (s t : ℕ → Known)
+      → expression_alarms sharp g s e ≡ expression_alarms sharp g t e
+  pub access_agrees : (sharp : Bool) (g : Terrain) (points : PointsTo) (s t : ℕ → Known)
       → PointWithin points s → (l : Lvalue) → AgreeOn (pointer_uses g points l) s t
-      → access_alarms g s l ≡ access_alarms g t l
-  pub node_agrees : (p : Lowered) (points : PointsTo) (s t : ℕ → Known)
+      → access_alarms sharp g s l ≡ access_alarms sharp g t l
+  pub node_agrees : (sharp : Bool) (p : Lowered) (points : PointsTo) (s t : ℕ → Known)
       → PointWithin points s → (n : Node) → AgreeOn (node_uses p points n) s t
-      → node_alarms p s n ≡ node_alarms p t n
+      → node_alarms sharp p s n ≡ node_alarms sharp p t n
   pub proper : (p : Lowered) → IsFormed p → (n : ℕ) (f : Option ℕ) (c : Command)
       → IsCommand (table_of p) p.regions n f c → is_proper_command p c ≡ true

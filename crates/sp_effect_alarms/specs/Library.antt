@@ -10,6 +10,7 @@ use Rattle.sp_types.specs.Types.{CType, integer}
 use Rattle.sp_interval.specs.declared.interval.Interval.{Interval}
 use Rattle.sp_interval.specs.declared.interval.Interval.TheVariants.{Empty, Of}
 use Rattle.sp_interval.specs.Interval.{interval_le}
+use Rattle.sp_numbers.specs.Numbers.{plain}
 use Rattle.sp_ir.specs.declared.command.Routine.{Routine}
 use Rattle.sp_ir.specs.declared.command.Routine.TheVariants.{Malloc, Calloc, Realloc, Free, Exit, Abort, Memset, Memcpy, Memmove, Strlen, Strcpy, Strncpy, Strcat}
 use Rattle.sp_ir.specs.Programs.{Lowered}
@@ -31,7 +32,7 @@ counted g bytes r = outward (g.element_size r) bytes
 -- Bytes are accessed, whatever the elements are; where their count has no number, none is checked.
 unfoldable pub byte_alarms : Terrain → Place → Known → Known → List Alarm
 byte_alarms g at p n = cond (has_numbers n)
-    (flat_map (λ x. check at (counted g n.numbers x.region) x) p.targets ++ number_alarms at p) []
+    (flat_map (λ x. check at (counted g n.numbers.span x.region) x) p.targets ++ number_alarms at p) []
 
 -- elements of one type are copied to those of another
 abbrev pub pair_alarms : Lowered → Place → Target → Target → List Alarm
@@ -60,7 +61,7 @@ room_at g x = cond (g.accepts x.region character) (room x.offset x.size) Empty
 
 -- how many characters the text at these targets may have, with its closing zero
 abbrev pub text_length : Terrain → List Target → Interval
-text_length g xs = (gathered (λ x. of_numbers (room_at g x)) xs).numbers
+text_length g xs = (gathered (λ x. of_numbers (plain (room_at g x))) xs).numbers.span
 
 -- a pointer that is followed by so many characters; not where their count has no number
 abbrev pub followed_alarms : Place → Interval → Known → List Alarm
@@ -105,7 +106,7 @@ module _ (p : Lowered) (at : Place) where
   routine_alarms Strlen s b c = read_alarms s
   routine_alarms Strcpy d s c =
       read_alarms s ++ written_alarms (text_length (terrain_of p) s.targets) d
-  routine_alarms Strncpy d s n = read_alarms s ++ written_alarms n.numbers d
+  routine_alarms Strncpy d s n = read_alarms s ++ written_alarms n.numbers.span d
   routine_alarms Strcat d s c =
       read_alarms s ++ written_alarms (text_length (terrain_of p) s.targets) (text_end d)
   routine_alarms Malloc a b c = []

@@ -7,7 +7,7 @@ ghost use Rattle.sp_ir.specs.Programs.{lowered_of};
 ghost use Rattle.sp_ir.specs.Terrain.{terrain_of};
 ghost use Rattle.sp_value.specs.Known.{are_formed, is_proper_within, every_offset};
 ghost use Rattle.sp_value.specs.Slots.{known_of};
-ghost use Rattle.sp_effect_alarms.specs.Alarms.{may_leave, reach_of, check, reaching_alarms, target_alarms, number_alarms, through_alarms, holds_zero, divides, divisor_alarms};
+ghost use Rattle.sp_effect_alarms.specs.Alarms.{may_leave, reach_of, check, reaching_alarms, target_alarms, number_alarms, through_alarms, divides, divisor_alarms};
 ghost use Rattle.sp_effect_alarms.specs.Commands.{calls_other, callee_alarms};
 
 use crate::alarm::{Alarm, AlarmKind};
@@ -179,11 +179,11 @@ pub(crate) fn add_number(
     ensures { OnOk result (alarms.new.items ≡ alarms.old.items ++
         number_alarms place (known_of pointer.now)) }
 {
-    if !pointer.numbers.leq(&Interval::Empty) {
+    if !pointer.span.leq(&Interval::Empty) {
         alarms.push(Alarm {
             place,
             kind: AlarmKind::Pointer {
-                value: pointer.numbers,
+                value: pointer.span,
             },
         })?;
     }
@@ -195,16 +195,6 @@ pub(crate) fn divides(op: Punct) -> bool
     ensures { result ≡ divides op }
 {
     matches!(op, Punct::Slash | Punct::Percent)
-}
-
-// Whether 0 is a member.
-fn holds_zero(numbers: Interval) -> bool
-    ensures { result ≡ holds_zero numbers }
-{
-    match numbers {
-        Interval::Empty => false,
-        Interval::Of { lo, hi } => lo <= 0 && 0 <= hi,
-    }
 }
 
 /// Adds the alarm of an operator beside a right operand of this value, where it divides by what may
@@ -219,11 +209,11 @@ pub(crate) fn add_divisor(
     ensures { OnOk result (alarms.new.items ≡ alarms.old.items ++
         divisor_alarms op place (known_of divisor.now)) }
 {
-    if divides(op) && holds_zero(divisor.numbers) {
+    if divides(op) && divisor.numbers().may_be_zero() {
         alarms.push(Alarm {
             place,
             kind: AlarmKind::Zero {
-                divisor: divisor.numbers,
+                divisor: divisor.span,
             },
         })?;
     }

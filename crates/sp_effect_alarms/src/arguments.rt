@@ -7,8 +7,7 @@ ghost use Rattle.sp_value.specs.Slots.{known_of};
 ghost use Rattle.sp_effect_alarms.specs.Library.{argument};
 ghost use Rattle.sp_effect_alarms.specs.Commands.{values_of, are_proper};
 
-use sp_eval::evaluate;
-use sp_interval::Interval;
+use crate::input::Input;
 use sp_ir::{Expr, Lowered};
 use sp_value::{Locations, Value, View};
 use std::alloc::{AllocError, Global};
@@ -23,21 +22,18 @@ pub struct Arguments {
 
 // The argument of a number.
 fn argument<V: View>(
-    alloc: Global,
-    lowered: &Lowered,
-    locations: &Locations,
-    view: &V,
+    input: &Input<'_, V>,
     args: &[Expr],
     number: usize,
 ) -> Result<Value, AllocError>
     requires { are_proper (map expression_of args.now) ≡ true }
-    ensures { IfOk result (λ value. known_of value ≡ argument (values_of (lowered_of lowered.now)
-        (cells_at locations.now.cells.items (V.store view.now)) (map expression_of args.now))
-        number) }
+    ensures { IfOk result (λ value. known_of value ≡ argument (values_of input.now.sharp
+        (lowered_of input.now.lowered.now) (cells_at input.now.locations.now.cells.items (V.store input.now.view.now))
+        (map expression_of args.now)) number) }
 {
     match args.get(number) {
-        Some(arg) => evaluate(alloc, lowered, locations, arg, view),
-        None => Ok(Value::of_numbers(alloc, Interval::Empty)),
+        Some(arg) => input.value(arg),
+        None => Ok(Value::none(input.alloc)),
     }
 }
 
@@ -46,19 +42,27 @@ pub fn arguments_of<V: View>(
     alloc: Global,
     lowered: &Lowered,
     locations: &Locations,
+    sharp: bool,
     view: &V,
     args: &[Expr],
 ) -> Result<Arguments, AllocError>
     requires { are_proper (map expression_of args.now) ≡ true }
-    ensures { IfOk result (λ arguments. let values = values_of (lowered_of lowered.now)
+    ensures { IfOk result (λ arguments. let values = values_of sharp (lowered_of lowered.now)
         (cells_at locations.now.cells.items (V.store view.now)) (map expression_of args.now) in
         (known_of arguments.first ≡ argument values 0)
         × (known_of arguments.second ≡ argument values 1)
         × (known_of arguments.third ≡ argument values 2)) }
 {
-    let first = argument(alloc, lowered, locations, view, args, 0)?;
-    let second = argument(alloc, lowered, locations, view, args, 1)?;
-    let third = argument(alloc, lowered, locations, view, args, 2)?;
+    let input = Input {
+        alloc,
+        lowered,
+        locations,
+        sharp,
+        view,
+    };
+    let first = argument(&input, args, 0)?;
+    let second = argument(&input, args, 1)?;
+    let third = argument(&input, args, 2)?;
     Ok(Arguments {
         first,
         second,

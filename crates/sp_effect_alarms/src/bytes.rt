@@ -80,11 +80,11 @@ pub(crate) fn add_bytes(
     ensures { OnOk result (alarms.new.items ≡ alarms.old.items ++ byte_alarms
         (terrain_of (lowered_of lowered.now)) place (known_of pointer.now) (known_of count.now)) }
 {
-    if !count.numbers.leq(&Interval::Empty) {
+    if !count.span.leq(&Interval::Empty) {
         add_counted(
             lowered,
             place,
-            count.numbers,
+            count.span,
             pointer.targets.as_slice(),
             alarms,
         )?;

@@ -24,6 +24,7 @@ mod accesses;
 mod alarm;
 mod arguments;
 mod bytes;
+mod input;
 mod lawful;
 mod library;
 mod nodes;

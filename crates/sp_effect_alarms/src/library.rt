@@ -38,7 +38,7 @@ pub(crate) fn add_library(
         }
         Routine::Strncpy => {
             add_read(lowered, place, second, alarms)?;
-            add_text(lowered, place, third.numbers, first, alarms)
+            add_text(lowered, place, third.span, first, alarms)
         }
         Routine::Strcat => {
             let count = text_length(lowered, second.targets.as_slice());

@@ -1,38 +1,39 @@
 -- What a cell holds of a value, by the type of its elements.
-use Rattle.std.proofs.Common.{◌≡◌, ℕ, false, [], Option, Some, None, refl, sym, ap, ◌∙◌}
+use Rattle.std.proofs.Common.{◌≡◌, ℕ, Bool, true, false, [], Option, Some, None, refl, sym, ap, ◌∙◌}
 use Rattle.std.proofs.lemmas.Bool.{false≢true}
 use Rattle.sp_types.specs.Types.{CType, integer}
-use Rattle.sp_interval.specs.declared.interval.Interval.{Interval}
-use Rattle.sp_interval.specs.declared.interval.Interval.TheVariants.{Empty}
+use Rattle.sp_numbers.specs.declared.numbers.Numbers.{Numbers}
+use Rattle.sp_numbers.specs.Numbers.{no_numbers}
 use Rattle.sp_ir.specs.Formed.{is_integer}
 use Rattle.sp_value.specs.Known.{Known, none}
 use Rattle.sp_eval.specs.Steps.{numbers_as}
 use Rattle.sp_effect_assign.specs.Scene.{Scene, fitted_numbers, fitted}
 
-with_type : Option CType → Known → Known
-with_type o v = record { numbers = fitted_numbers o v.numbers; targets = v.targets }
+with_type : Bool → Option CType → Known → Known
+with_type sharp o v = record { numbers = fitted_numbers sharp o v.numbers; targets = v.targets }
 
-other-stays : (t : CType) (i : Interval) → is_integer t ≡ false → i ≡ numbers_as t i
-other-stays (integer k) i h = absurd (false≢true (sym h))
-other-stays t i h = refl
+other-stays : (sharp : Bool) (t : CType) (n : Numbers) → is_integer t ≡ false → n ≡ numbers_as sharp t n
+other-stays sharp (integer k) n h = absurd (false≢true (sym h))
+other-stays sharp t n h = refl
 
 module _ (c : Scene) (r : ℕ) (v : Known) where
-  pub fitted-typed : (t : CType) → Some t ≡ c.element r → record { numbers = numbers_as t v.numbers; targets = v.targets } ≡ fitted c r v
+  pub fitted-typed : (t : CType) → Some t ≡ c.element r → record { numbers = numbers_as c.setting.grid.sharp t v.numbers; targets = v.targets } ≡ fitted c r v
   unfolding with_type
-  fitted-typed t e = ap (λ o. with_type o v) e
+  fitted-typed t e = ap (λ o. with_type c.setting.grid.sharp o v) e
 
   pub fitted-other : (t : CType) → Some t ≡ c.element r → is_integer t ≡ false → v ≡ fitted c r v
-  fitted-other t e h = ap (λ (i : Interval). let k : Known = record { numbers = i; targets = v.targets } in k) (other-stays t v.numbers h) ∙ fitted-typed t e
+  fitted-other t e h = ap (λ (n : Numbers). let k : Known = record { numbers = n; targets = v.targets } in k) (other-stays c.setting.grid.sharp t v.numbers h) ∙ fitted-typed t e
 
   pub fitted-bytes : None ≡ c.element r → v ≡ fitted c r v
   unfolding with_type
-  fitted-bytes e = ap (λ o. with_type o v) e
+  fitted-bytes e = ap (λ o. with_type c.setting.grid.sharp o v) e
 
-none-stays : (o : Option CType) → fitted_numbers o Empty ≡ Empty
-none-stays None = refl
-none-stays (Some (integer k)) = refl
-none-stays (Some t) = refl
+none-stays : (sharp : Bool) (o : Option CType) → fitted_numbers sharp o no_numbers ≡ no_numbers
+none-stays sharp None = refl
+none-stays true (Some (integer k)) = refl
+none-stays false (Some (integer k)) = refl
+none-stays sharp (Some t) = refl
 
 -- of nothing a cell holds nothing
 pub fitted-none : (c : Scene) (r : ℕ) → fitted c r none ≡ none
-fitted-none c r = ap (λ (i : Interval). let k : Known = record { numbers = i; targets = [] } in k) (none-stays (c.element r))
+fitted-none c r = ap (λ (n : Numbers). let k : Known = record { numbers = n; targets = [] } in k) (none-stays c.setting.grid.sharp (c.element r))

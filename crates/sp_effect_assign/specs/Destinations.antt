@@ -15,10 +15,10 @@ use Rattle.sp_effect_assign.specs.Scene.{Scene, fitted, known_in_regions}
 -- ---- the bottom of an lvalue: the object or the pointer that its members are steps from
 
 -- the address at the bottom
-abbrev pub bottom_of : Terrain → (ℕ → Known) → Lvalue → Known
-bottom_of g cells (direct o t) = of_target (whole_of g (g.root o))
-bottom_of g cells (through e t at) = value_of g cells e
-bottom_of g cells (field l k t) = bottom_of g cells l
+abbrev pub bottom_of : Bool → Terrain → (ℕ → Known) → Lvalue → Known
+bottom_of sharp g cells (direct o t) = of_target (whole_of g (g.root o))
+bottom_of sharp g cells (through e t at) = value_of sharp g cells e
+bottom_of sharp g cells (field l k t) = bottom_of sharp g cells l
 
 -- the regions that it may have
 abbrev pub bottom_regions : Terrain → (ℕ → List ℕ) → Lvalue → List ℕ
@@ -47,7 +47,7 @@ is_direct (field l k t) = is_direct l
 -- the destination of a scalar lvalue: a punned target is counted, and nothing is written there
 abbrev pub destination : Scene → Lvalue → Destination
 destination c l = record {
-  targets = λ s. (bottom_of c.terrain (known_in_regions c s) l).targets;
+  targets = λ s. (bottom_of c.setting.grid.sharp c.terrain (known_in_regions c s) l).targets;
   hits = λ r k. bottom_accepts c.terrain l r
       && nat_eq (region_under c.terrain l r) (cell_of c.setting k);
   regions = bottom_regions c.terrain c.setting.points_to l;
@@ -58,8 +58,9 @@ destination c l = record {
 
 -- the value goes wherever the lvalue may be, and each cell holds it as one of its type
 abbrev pub assigning : Scene → Lvalue → Expression → Store → Row
-assigning c l e = storing c.setting.ladder (destination c l)
-    (λ s r k. fitted c (cell_of c.setting k) (value_of c.terrain (known_in_regions c s) e))
+assigning c l e = storing c.setting.grid (destination c l)
+    (λ s r k. fitted c (cell_of c.setting k)
+    (value_of c.setting.grid.sharp c.terrain (known_in_regions c s) e))
 
 -- a store keeps what it may hit: through a pointer always, directly where the cell is a summary
 abbrev pub keeps_hit : Scene → Lvalue → ℕ → Bool

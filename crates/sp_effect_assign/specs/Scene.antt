@@ -1,7 +1,7 @@
 -- What the effects of commands need to know of an analysed program.
 use Rattle.std.specs.Prelude.{ℕ, Bool, false, Option, Some, None}
 use Rattle.sp_types.specs.Types.{CType}
-use Rattle.sp_interval.specs.declared.interval.Interval.{Interval}
+use Rattle.sp_numbers.specs.declared.numbers.Numbers.{Numbers}
 use Rattle.sp_ir.specs.Terrain.{Terrain, IsTerrain}
 use Rattle.sp_ir.specs.Formed.{is_integer}
 use Rattle.sp_value.specs.Known.{Known}
@@ -30,13 +30,16 @@ is_integer_element (Some t) = is_integer t
 abbrev pub has_integers : Scene → ℕ → Bool
 has_integers c r = is_integer_element (c.element r)
 
-abbrev pub fitted_numbers : Option CType → Interval → Interval
-fitted_numbers None i = i
-fitted_numbers (Some t) i = numbers_as t i
+abbrev pub fitted_numbers : Bool → Option CType → Numbers → Numbers
+fitted_numbers sharp None n = n
+fitted_numbers sharp (Some t) n = numbers_as sharp t n
 
 -- A value as a region's cell holds it: numbers become those of the cell's type; targets stay.
 abbrev pub fitted : Scene → ℕ → Known → Known
-fitted c r v = record { numbers = fitted_numbers (c.element r) v.numbers; targets = v.targets }
+fitted c r v = record {
+  numbers = fitted_numbers c.setting.grid.sharp (c.element r) v.numbers;
+  targets = v.targets;
+}
 
 -- what a store says of each region: nothing of one that is no cell
 abbrev pub known_in_regions : Scene → Store → ℕ → Known

@@ -44,9 +44,10 @@ pub fn assign<S: Scenery, V: View>(
 {
     let lowered = scene.lowered();
     let locations = scene.locations();
-    let bottom = bottom_of(alloc, lowered, locations, lvalue, view)?;
-    let value = evaluate(alloc, lowered, locations, value, view)?;
-    let slot = value.stored(alloc, scene.ladder())?;
+    let grid = scene.grid();
+    let bottom = bottom_of(alloc, lowered, locations, grid.sharp, lvalue, view)?;
+    let value = evaluate(alloc, lowered, locations, grid.sharp, value, view)?;
+    let slot = value.stored(alloc, grid)?;
     let to = Into {
         scene,
         lvalue,

@@ -26,18 +26,19 @@ pub fn bottom_of<V: View>(
     alloc: Global,
     lowered: &Lowered,
     locations: &Locations,
+    sharp: bool,
     lvalue: &Lvalue,
     view: &V,
 ) -> Result<Value, AllocError>
     requires { is_proper_lvalue (lvalue_of lvalue.now) ≡ true }
     ensures { IfOk result (λ value. known_of value ≡
-        bottom_of (terrain_of (lowered_of lowered.now))
+        bottom_of sharp (terrain_of (lowered_of lowered.now))
         (cells_at locations.now.cells.items (V.store view.now)) (lvalue_of lvalue.now)) }
 {
     match lvalue {
-        Lvalue::Direct(_, _) => address_of(alloc, lowered, locations, lvalue, view),
-        Lvalue::Through(pointer, _, _) => evaluate(alloc, lowered, locations, pointer, view),
-        Lvalue::Field(of, _, _) => bottom_of(alloc, lowered, locations, of, view),
+        Lvalue::Direct(_, _) => address_of(alloc, lowered, locations, sharp, lvalue, view),
+        Lvalue::Through(pointer, _, _) => evaluate(alloc, lowered, locations, sharp, pointer, view),
+        Lvalue::Field(of, _, _) => bottom_of(alloc, lowered, locations, sharp, of, view),
     }
 }
 
@@ -94,7 +95,7 @@ pub(crate) struct Into<'a, S: Scenery> {
     pub lvalue: &'a Lvalue,
     pub value: &'a Value,
     pub slot: &'a Slot,
-    ghost made: { slot.now ≡ stored (S.scene scene.now).setting.ladder (known_of value.now) },
+    ghost made: { slot.now ≡ stored (S.scene scene.now).setting.grid (known_of value.now) },
 }
 
 impl<S: Scenery> Stores for Into<'_, S> {
@@ -107,7 +108,7 @@ impl<S: Scenery> Stores for Into<'_, S> {
 
     ghost reach = { λ to. destination (S.scene to.scene.now) (lvalue_of to.lvalue.now) };
 
-    ghost slots = { λ to l. stored (S.scene to.scene.now).setting.ladder
+    ghost slots = { λ to l. stored (S.scene to.scene.now).setting.grid
         (fitted (S.scene to.scene.now) (cell_of (S.scene to.scene.now).setting l)
         (known_of to.value.now)) };
 
@@ -134,8 +135,10 @@ impl<S: Scenery> Stores for Into<'_, S> {
         match self.scene.element(location) {
             Some(of) => {
                 if is_integer(of) {
-                    let value = self.value.with_numbers(alloc, numbers_as(of, self.value))?;
-                    let slot = value.stored(alloc, self.scene.ladder())?;
+                    let grid = self.scene.grid();
+                    let numbers = numbers_as(grid.sharp, of, self.value);
+                    let value = self.value.with_numbers(alloc, numbers)?;
+                    let slot = value.stored(alloc, grid)?;
                     Ok(Some(slot))
                 } else {
                     Ok(None)

@@ -1,10 +1,11 @@
 //! Assignments: where an lvalue is stored to, and the row of `lvalue = value` (C90 6.3.16).
 //!
 //! What effects ask of an analysed program is a [`Scenery`]: the program, its locations, which of them
-//! are summaries, the types of their elements, and the ladder. Contracts see it as a `Scene` (`specs.Scene`). The
-//! *bottom* of an lvalue is the object or the pointer that its members are steps from. A store goes by
-//! the targets of the bottom: at each that matches, to the member under it. So a direct lvalue and one
-//! through a pointer follow one rule, and a target that is punned is counted and not written.
+//! are summaries, the types of their elements, and the grid, which is the ladder and the mode. Contracts
+//! see it as a `Scene` (`specs.Scene`). The *bottom* of an lvalue is the object or the pointer that its
+//! members are steps from. A store goes by the targets of the bottom: at each that matches, to the
+//! member under it. So a direct lvalue and one through a pointer follow one rule, and a target that is
+//! punned is counted and not written.
 //!
 //! Each cell holds the value as one of its own type: a store through a pointer may have the other
 //! signedness.

@@ -7,7 +7,7 @@ ghost use Rattle.sp_effect_rows.specs.Setting.{cell_of};
 ghost use Rattle.sp_effect_assign.specs.Scene.{Scene, IsScene};
 
 use sp_ir::Lowered;
-use sp_lattice::Ladder;
+use sp_numbers::Grid;
 use sp_types::CType;
 use sp_value::Locations;
 
@@ -33,9 +33,9 @@ pub trait Scenery {
         ensures { option_map (λ t. type_of t.now) result ≡
             (scene self.now).element (cell_of (scene self.now).setting location) };
 
-    /// The points to which what is stored is moved.
-    fn ladder(&self) -> &Ladder
-        ensures { result.now ≡ (scene self.now).setting.ladder };
+    /// The points to which what is stored is moved, and the mode.
+    fn grid(&self) -> &Grid
+        ensures { result.now ≡ (scene self.now).setting.grid };
 
     ghost lawful: { (s : Self) → IsScene (scene s) };
 }

@@ -1,9 +1,10 @@
 -- Steps of a condition on a row: what a location has after them.
-use Rattle.std.proofs.Common.{◌≡◌, ◌≢◌, ◌⊎◌, inl, inr, ℕ, Bool, true, false, cond, not, ◌&&◌, ◌||◌, nat_eq, List, ℤ, refl, sym, ap, ◌∙◌, subst}
+use Rattle.std.proofs.Common.{◌≡◌, ◌≢◌, ◌⊎◌, inl, inr, ℕ, Bool, true, false, cond, not, ◌&&◌, ◌||◌, nat_eq, List, refl, sym, ap, ◌∙◌, subst}
 use Rattle.std.proofs.lemmas.Bool.{false≢true}
 use Rattle.sp_value.specs.declared.slots.Slot.{Slot}
 use Rattle.sp_value.specs.declared.slots.Slot.TheVariants.{Nothing}
 use Rattle.sp_lattice.specs.declared.relations.Relation.{Relation}
+use Rattle.sp_numbers.specs.declared.grid.Grid.{Grid}
 use Rattle.sp_ir.specs.Commands.{Expression}
 use Rattle.sp_ir.specs.Terrain.{Terrain}
 use Rattle.sp_value.specs.Known.{Known}
@@ -58,20 +59,20 @@ at-one test location new changed old are there others l = by (which l location)
     by (inr e) = others l e ∙ ap (λ b. cond b (changed l) (old l)) (sym (are l ∙ apart_numbers l location e))
 
 -- what is stored of what is left of a cell
-pub stored-left : (left : Known → Known) (slot : Slot) (p points : List ℤ) (v u own : Known) → slot ≡ stored p v → p ≡ points → v ≡ left u → u ≡ own → slot ≡ stored points (left own)
+pub stored-left : (left : Known → Known) (slot : Slot) (p points : Grid) (v u own : Known) → slot ≡ stored p v → p ≡ points → v ≡ left u → u ≡ own → slot ≡ stored points (left own)
 stored-left left slot p points v u own made same is known =
     subst (λ (x : Known). slot ≡ stored points (left x)) known (subst (λ (x : Known). slot ≡ stored points x) is (subst (λ ps. slot ≡ stored ps v) same made))
 
 -- ---- both sides of a condition, one after the other
 
-module _ (c : Scene) (s : Store) (t : Terrain) (cells : List ℕ) (one : t ≡ c.terrain) (two : cells ≡ c.setting.cells) (e f : Expression) (op : Relation) (v w : Known)
-    (left : v ≡ value_of t (cells_at cells s) e) (right : w ≡ value_of t (cells_at cells s) f) where
+module _ (c : Scene) (s : Store) (t : Terrain) (cells : List ℕ) (grid : Grid) (one : t ≡ c.terrain) (two : cells ≡ c.setting.cells) (three : grid ≡ c.setting.grid) (e f : Expression) (op : Relation) (v w : Known)
+    (left : v ≡ value_of grid.sharp t (cells_at cells s) e) (right : w ≡ value_of grid.sharp t (cells_at cells s) f) where
   -- what was changed where the left side names, and then where the right one does, is what the condition makes
   pub both-changed : (old mid new : Store) (l : ℕ)
       → mid l ≡ cond (names c e l) (applied (changing c e op f v w s) old l) (old l)
       → new l ≡ cond (names c f l) (applied (changing c e op f v w s) mid l) (mid l)
       → new l ≡ applied (assuming c e op f s) old l
   both-changed old mid new l first second =
-      subst (λ (x : Known). new l ≡ applied (changing c e op f (value_of c.terrain (known_in_regions c s) e) x s) old l) (value-seen c s t cells one two f w right)
-      (subst (λ (x : Known). new l ≡ applied (changing c e op f x w s) old l) (value-seen c s t cells one two e v left)
-      (changed-twice (either_names c e f l (known_in (s l))) (names c e l) (names c f l) (old l) (mid l) (new l) (stored c.setting.ladder (left_by c e op f l v w (known_in (s l)))) first second (named (names c e l) (keeps_present (has_integers c (cell_of c.setting l)) (known_in (s l)) e) (names c f l) (keeps_present (has_integers c (cell_of c.setting l)) (known_in (s l)) f))))
+      subst (λ (x : Known). new l ≡ applied (changing c e op f (value_of c.setting.grid.sharp c.terrain (known_in_regions c s) e) x s) old l) (value-seen c s t cells grid one two three f w right)
+      (subst (λ (x : Known). new l ≡ applied (changing c e op f x w s) old l) (value-seen c s t cells grid one two three e v left)
+      (changed-twice (either_names c e f l (known_in (s l))) (names c e l) (names c f l) (old l) (mid l) (new l) (stored c.setting.grid (left_by c e op f l v w (known_in (s l)))) first second (named (names c e l) (keeps_present (has_integers c (cell_of c.setting l)) (known_in (s l)) e) (names c f l) (keeps_present (has_integers c (cell_of c.setting l)) (known_in (s l)) f))))

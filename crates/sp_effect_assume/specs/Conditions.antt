@@ -4,8 +4,9 @@ use Rattle.sp_lattice.specs.System.{has}
 use Rattle.sp_lattice.specs.Relation.{flipped}
 use Rattle.sp_lattice.specs.declared.relations.Relation.{Relation}
 use Rattle.sp_lattice.specs.declared.relations.Relation.TheVariants.{Less, LessEqual, Greater, GreaterEqual, Equal, Different}
-use Rattle.sp_interval.specs.declared.interval.Interval.{Interval}
-use Rattle.sp_interval.specs.Interval.{refined, met}
+use Rattle.sp_numbers.specs.declared.numbers.Numbers.{Numbers}
+use Rattle.sp_numbers.specs.Numbers.{plain}
+use Rattle.sp_numbers.specs.Conditions.{refined_numbers, met_numbers}
 use Rattle.sp_ir.specs.Commands.{Expression}
 use Rattle.sp_ir.specs.Denoted.{uses_of}
 use Rattle.sp_value.specs.declared.slots.Slot.TheVariants.{Nothing}
@@ -39,10 +40,10 @@ is_equality GreaterEqual = false
 
 -- the numbers of an integer cell are refined by the other side's, where that has no target; those of
 -- a pointer cell by the constant 0
-abbrev pub refined_by : Bool → Relation → Bool → Known → Interval → Interval
-refined_by int op zero other own = cond int
-    (cond (has_targets other) own (refined op own other.numbers))
-    (cond (zero && is_equality op) (refined op own (exactly (pos 0))) own)
+abbrev pub refined_by : Bool → Bool → Relation → Bool → Known → Numbers → Numbers
+refined_by sharp int op zero other own = cond int
+    (cond (has_targets other) own (refined_numbers sharp op own other.numbers))
+    (cond (zero && is_equality op) (refined_numbers sharp op own (plain (exactly (pos 0)))) own)
 
 -- an integer cell loses its targets where the other side is nothing; a pointer cell that equals 0 has
 -- none, unless its side converts it to an integer type
@@ -51,9 +52,10 @@ drops int op zero as_integer other =
     cond int (is_none other) (zero && (is_equal op && not as_integer))
 
 -- what the side e leaves of a location that holds `own`, where the side f is worth `other`
-abbrev pub numbers_left : Scene → Expression → Relation → Expression → ℕ → Known → Known → Interval
+abbrev pub numbers_left : Scene → Expression → Relation → Expression → ℕ → Known → Known → Numbers
 numbers_left c e op f l other own = cond (names_all c e l own)
-    (refined_by (has_integers c (cell_of c.setting l)) op (is_zero f) other own.numbers) own.numbers
+    (refined_by c.setting.grid.sharp (has_integers c (cell_of c.setting l)) op (is_zero f) other own.numbers)
+    own.numbers
 
 abbrev pub drops_left : Scene → Expression → Relation → Expression → ℕ → Known → Known → Bool
 drops_left c e op f l other own = names_all c e l own
@@ -64,7 +66,7 @@ drops_left c e op f l other own = names_all c e l own
 -- where the sides are worth v and w; two refinements of one cell are met
 abbrev pub left_by : Scene → Expression → Relation → Expression → ℕ → Known → Known → Known → Known
 left_by c e op f l v w own = record {
-  numbers = met (numbers_left c e op f l w own) (numbers_left c f (flipped op) e l v own);
+  numbers = met_numbers c.setting.grid.sharp (numbers_left c e op f l w own) (numbers_left c f (flipped op) e l v own);
   targets = cond (drops_left c e op f l w own || drops_left c f (flipped op) e l v own)
       [] own.targets;
 }
@@ -77,13 +79,13 @@ abbrev pub changing : Scene → Expression → Relation → Expression → Known
 changing c e op f v w s = record {
   keeps = λ l. not (either_names c e f l (known_in (s l)));
   puts = λ l. cond (either_names c e f l (known_in (s l)))
-      (stored c.setting.ladder (left_by c e op f l v w (known_in (s l)))) Nothing;
+      (stored c.setting.grid (left_by c e op f l v w (known_in (s l)))) Nothing;
 }
 
 -- the row of the condition `e op f`; both sides use the store as it comes in
 abbrev pub assuming : Scene → Expression → Relation → Expression → Store → Row
-assuming c e op f s = changing c e op f (value_of c.terrain (known_in_regions c s) e)
-    (value_of c.terrain (known_in_regions c s) f) s
+assuming c e op f s = changing c e op f (value_of c.setting.grid.sharp c.terrain (known_in_regions c s) e)
+    (value_of c.setting.grid.sharp c.terrain (known_in_regions c s) f) s
 
 -- ---- definitions and uses
 

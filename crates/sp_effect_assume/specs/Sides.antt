@@ -38,7 +38,7 @@ names c (distance e f size) l = false
 -- a conversion to this type keeps every present number of the cell, and makes no pointer of an integer
 -- that has a target
 abbrev pub is_kept : Bool → Known → CType → Bool
-is_kept int v t = interval_le v.numbers (every_number t) && not (int && (is_pointer t && has_targets v))
+is_kept int v t = interval_le v.numbers.span (every_number t) && not (int && (is_pointer t && has_targets v))
 
 -- each conversion of a side does
 abbrev pub keeps_present : Bool → Known → Expression → Bool

@@ -44,7 +44,7 @@ fn change_at<S: Scenery, V: View>(
     let own = known(alloc, view.slot(location))?;
     if condition.either_names(scene, location, &own) {
         let left = condition.left_by(alloc, scene, location, &own)?;
-        let slot = left.stored(alloc, scene.ladder())?;
+        let slot = left.stored(alloc, scene.grid())?;
         put_at(row, places, location, slot);
     }
     Ok(())
@@ -105,8 +105,9 @@ pub fn assume<S: Scenery, V: View>(
 {
     let lowered = scene.lowered();
     let locations = scene.locations();
-    let left_value = evaluate(alloc, lowered, locations, left, view)?;
-    let right_value = evaluate(alloc, lowered, locations, right, view)?;
+    let sharp = scene.grid().sharp;
+    let left_value = evaluate(alloc, lowered, locations, sharp, left, view)?;
+    let right_value = evaluate(alloc, lowered, locations, sharp, right, view)?;
     let condition = Condition {
         left,
         op,

@@ -1,7 +1,7 @@
 //! What a condition leaves of a cell.
 ghost use Rattle.std.specs.Prelude.{◌≡◌, ◌||◌, true, IfOk};
 ghost use Rattle.sp_lattice.specs.Relation.{flipped};
-ghost use Rattle.sp_interval.specs.Interval.{IsFormed};
+ghost use Rattle.sp_numbers.specs.Numbers.{IsFormedNumbers};
 ghost use Rattle.sp_ir.specs.View.{expression_of};
 ghost use Rattle.sp_value.specs.Slots.{known_of, known_in};
 ghost use Rattle.sp_effect_assume.specs.Conditions.{is_equality, is_equal, refined_by, drops, numbers_left, drops_left, left_by, either_names};
@@ -11,6 +11,7 @@ use sp_effect_assign::Scenery;
 use sp_interval::Interval;
 use sp_ir::Expr;
 use sp_lattice::Relation;
+use sp_numbers::Numbers;
 use sp_value::{Slot, Value};
 use std::alloc::{AllocError, Global};
 
@@ -27,19 +28,27 @@ fn is_equal(op: Relation) -> bool
 }
 
 // What the other side leaves of a cell's numbers.
-fn refined_by(integer: bool, op: Relation, zero: bool, other: &Value, own: Interval) -> Interval
-    requires { IsFormed own }
-    ensures value { result ≡ refined_by integer op zero (known_of other.now) own }
-    ensures formed { IsFormed result }
+fn refined_by(
+    sharp: bool,
+    integer: bool,
+    op: Relation,
+    zero: bool,
+    other: &Value,
+    own: Numbers,
+) -> Numbers
+    requires { IsFormedNumbers own }
+    ensures value { result ≡ refined_by sharp integer op zero (known_of other.now) own }
+    ensures formed { IsFormedNumbers result }
 {
     if integer {
         if other.targets.is_empty() {
-            own.refine(op, other.numbers)
+            own.refine(op, other.numbers(), sharp)
         } else {
             own
         }
     } else if zero && is_equality(op) {
-        own.refine(op, Interval::Of { lo: 0, hi: 0 })
+        let nought = Numbers::of(false, Interval::Of { lo: 0, hi: 0 });
+        own.refine(op, nought, sharp)
     } else {
         own
     }
@@ -61,7 +70,7 @@ pub(crate) fn known(alloc: Global, slot: &Slot) -> Result<Value, AllocError>
     ensures { IfOk result (λ value. known_of value ≡ known_in slot.now) }
 {
     match slot {
-        Slot::Nothing => Ok(Value::of_numbers(alloc, Interval::Empty)),
+        Slot::Nothing => Ok(Value::of_numbers(alloc, Numbers::of(false, Interval::Empty))),
         Slot::Plain(value) => value.copy(alloc),
     }
 }
@@ -77,23 +86,23 @@ struct Side<'a> {
 
 impl Side<'_> {
     // What the side leaves of the numbers of a location that holds this.
-    fn numbers_left<S: Scenery>(&self, scene: &S, location: u32, own: &Value) -> Interval
+    fn numbers_left<S: Scenery>(&self, scene: &S, location: u32, own: &Value) -> Numbers
         ensures value { result ≡ numbers_left (S.scene scene.now) (expression_of self.now.side.now)
             self.now.op (expression_of self.now.other.now) location (known_of self.now.value.now)
             (known_of own.now) }
-        ensures formed { IsFormed result }
+        ensures formed { IsFormedNumbers result }
     {
         if names_all(scene, self.side, location, own) {
-            let integer = has_integers(scene, location);
             refined_by(
-                integer,
+                scene.grid().sharp,
+                has_integers(scene, location),
                 self.op,
                 is_zero(self.other),
                 self.value,
-                own.numbers,
+                own.numbers(),
             )
         } else {
-            own.numbers
+            own.numbers()
         }
     }
 
@@ -133,12 +142,12 @@ impl Condition<'_> {
         names_all(scene, self.left, location, own) || names_all(scene, self.right, location, own)
     }
 
-    fn numbers<S: Scenery>(&self, scene: &S, location: u32, own: &Value) -> Interval
+    fn numbers<S: Scenery>(&self, scene: &S, location: u32, own: &Value) -> Numbers
         ensures value { result ≡ (left_by (S.scene scene.now) (expression_of self.now.left.now)
             self.now.op (expression_of self.now.right.now) location
             (known_of self.now.left_value) (known_of self.now.right_value)
             (known_of own.now)).numbers }
-        ensures formed { IsFormed result }
+        ensures formed { IsFormedNumbers result }
     {
         let left = Side {
             side: self.left,
@@ -153,7 +162,8 @@ impl Condition<'_> {
             value: &self.left_value,
         };
         let left_by_left = left.numbers_left(scene, location, own);
-        left_by_left.meet(right.numbers_left(scene, location, own))
+        let left_by_right = right.numbers_left(scene, location, own);
+        left_by_left.meet(left_by_right, scene.grid().sharp)
     }
 
     fn drops<S: Scenery>(&self, scene: &S, location: u32, own: &Value) -> bool

@@ -9,7 +9,8 @@
 //! met. Packs of variables aren't there yet.
 //!
 //! So `if (i < n)` with `i` in [0,20] and `n` in [5,10] leaves [0,9] of `i` and [5,10] of `n`, and
-//! `if (p != 0)` leaves a pointer its targets and no number 0.
+//! `if (p != 0)` leaves a pointer its targets and no number 0. In the sharp mode `if (n != 0)` with `n`
+//! in [-5,5] leaves those numbers without 0, as does `if (n == m)` where `m` is without 0.
 //!
 //! The layer above uses that [`assume`] makes the row `assuming` (`specs.Conditions`) of a node's row of
 //! slots, and that this row is lawful (`ConditionLaws` of `specs.Laws`, which

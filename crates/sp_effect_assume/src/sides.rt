@@ -143,7 +143,7 @@ pub(crate) fn to_integer(side: &Expr) -> bool
 fn is_kept(integer: bool, held: &Value, to: &CType) -> bool
     ensures { result ≡ is_kept integer (known_of held.now) (type_of to.now) }
 {
-    held.numbers.leq(&every_number(to))
+    held.span.leq(&every_number(to))
         && !(integer && (matches!(to, CType::Pointer(_)) && !held.targets.is_empty()))
 }
 

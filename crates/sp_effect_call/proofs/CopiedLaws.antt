@@ -8,16 +8,16 @@ use Rattle.sp_ir.specs.Regions.{is_cell_at}
 use Rattle.sp_ir.specs.Terrain.{Terrain, IsTerrain, terrain_of}
 use Rattle.sp_ir.specs.Denoted.{PointsTo, cells_of, pointer_uses}
 use Rattle.sp_ir.specs.Programs.{Lowered}
-use Rattle.sp_interval.specs.Interval.{whole}
-use Rattle.sp_interval.specs.Inclusion.{interval_le-refl}
-use Rattle.sp_value.specs.Known.{Known, none, known_le, known_join, has_numbers, gathered, is_ordered_within}
+use Rattle.sp_numbers.specs.Numbers.{plain}
+use Rattle.sp_numbers.specs.Order.{le-refl}
+use Rattle.sp_value.specs.Known.{Known, none, known_le, known_join, has_numbers, gathered, is_formed_numbers}
 use Rattle.sp_value.specs.KnownLaws.{numbers_le, the_targets_le, known_made, known-refl, known_join-monotone, gathered-monotone}
-use Rattle.sp_value.specs.FormedLaws.{IsFormedKnown, none-formed, known_join-formed, gathered-formed, Within, within-join, within-more, within-gathered, gathered-agrees, test_from_formed}
+use Rattle.sp_value.specs.FormedLaws.{IsFormedKnown, none-formed, known_join-formed, gathered-formed, Within, within-join, within-more, within-gathered, gathered-agrees}
 use Rattle.sp_eval.specs.Laws.{AreFormed, AreBelow, PointWithin, AgreeOn}
 use Rattle.sp_eval.specs.Evaluation.{matched, address_of, is_proper_lvalue}
 use Rattle.sp_eval.proofs.Among.{chosen}
 use Rattle.sp_eval.proofs.FormLaws.{matched-formed, address-formed}
-use Rattle.sp_eval.proofs.MonotoneLaws.{address-monotone, matched-monotone, rising_choice, same_choice, same_numbers, has_numbers-rises}
+use Rattle.sp_eval.proofs.MonotoneLaws.{address-monotone, matched-monotone, rising_choice, same_choice, same_kept, has_numbers-rises}
 use Rattle.sp_eval.proofs.RegionLaws.{matched-address-within}
 use Rattle.sp_eval.proofs.SupportLaws.{address-agrees}
 use Rattle.sp_points_rules.specs.Paths.{reaches, mirrored}
@@ -28,7 +28,7 @@ use Rattle.sp_effect_entry.specs.Joined.{joined}
 use Rattle.sp_effect_entry.specs.Given.{every_in}
 use Rattle.sp_effect_entry.proofs.Lists.{all_from}
 use Rattle.sp_effect_entry.proofs.JoinedLaws.{joined-formed, joined-monotone, joined-within, joined-agrees}
-use Rattle.sp_effect_entry.proofs.GivenLaws.{every_in-formed, of_numbers-formed}
+use Rattle.sp_effect_entry.proofs.GivenLaws.{every_in-formed, of_span-formed}
 use Rattle.sp_effect_entry.specs.Entries.{every_value}
 use Rattle.sp_effect_call.specs.Copied.{cells_in, copied_cell, copied_some, copied_from, copied_at, copied_of}
 
@@ -61,8 +61,8 @@ module _ (p : Lowered) where
   module _ (cells : ℕ → Known) (each : AreFormed cells) where
     cell-formed : (c b : ℕ) → IsFormedKnown (copied_cell p cells c b)
     cell-formed c b = record {
-      numbers = chosen (λ i. is_ordered_within whole i ≡ true) (g.collapsed b) (every_in (element_of p c)) (cells b).numbers
-          (λ e. test_from_formed (every_in (element_of p c)) (every_in-formed (element_of p c))) (λ e. (each b).numbers);
+      numbers = chosen (λ n. is_formed_numbers n ≡ true) (g.collapsed b) (plain (every_in (element_of p c))) (cells b).numbers
+          (λ e. (of_span-formed (every_in (element_of p c)) (every_in-formed (element_of p c))).numbers) (λ e. (each b).numbers);
       targets = (each b).targets;
       ascending = (each b).ascending;
     }
@@ -77,22 +77,22 @@ module _ (p : Lowered) where
         (λ e. some-formed c (mirrored p q s c))
 
     pub every-formed : (c : ℕ) → IsFormedKnown (every_value p c)
-    every-formed c = of_numbers-formed (every_in (element_of p c)) (every_in-formed (element_of p c))
+    every-formed c = of_span-formed (every_in (element_of p c)) (every_in-formed (element_of p c))
 
     pub at-formed : (q c : ℕ) (v : Known) → IsFormedKnown v → IsFormedKnown (copied_at p cells q c v)
     at-formed q c v h = known_join-formed (cond (has_numbers v) (every_value p c) none) (gathered (λ x. copied_from p cells q c x.region) v.targets)
         (chosen IsFormedKnown (has_numbers v) (every_value p c) none (λ e. every-formed c) (λ e. none-formed))
         (gathered-formed (λ x. copied_from p cells q c x.region) (λ x k. from-formed q c x.region) v.targets h.targets)
 
-    pub of-formed : IsTerrain g → (q c : ℕ) (l : Lvalue) → is_proper_lvalue l ≡ true → IsFormedKnown (copied_of p cells q c l)
-    of-formed is q c l proper = at-formed q c (matched g l (address_of g cells l)) (matched-formed g is l (address_of g cells l) (address-formed g is cells each l proper))
+    pub of-formed : (sharp : Bool) → IsTerrain g → (q c : ℕ) (l : Lvalue) → is_proper_lvalue l ≡ true → IsFormedKnown (copied_of sharp p cells q c l)
+    of-formed sharp is q c l proper = at-formed q c (matched g l (address_of sharp g cells l)) (matched-formed g is l (address_of sharp g cells l) (address-formed sharp g is cells each l proper))
 
   -- ---- rising
 
   module _ (s t : ℕ → Known) (below : AreBelow s t) where
     cell-monotone : (c b : ℕ) → known_le (copied_cell p s c b) (copied_cell p t c b) ≡ true
     cell-monotone c b = known_made (copied_cell p s c b) (copied_cell p t c b)
-        (same_numbers (g.collapsed b) (every_in (element_of p c)) (s b).numbers (every_in (element_of p c)) (t b).numbers (λ e. interval_le-refl (every_in (element_of p c))) (numbers_le (s b) (t b) (below b)))
+        (same_kept (g.collapsed b) (plain (every_in (element_of p c))) (s b).numbers (plain (every_in (element_of p c))) (t b).numbers (le-refl (plain (every_in (element_of p c)))) (numbers_le (s b) (t b) (below b)))
         (the_targets_le (s b) (t b) (below b))
 
     some-monotone : (c : ℕ) (o : Option ℕ) → known_le (copied_some p s c o) (copied_some p t c o) ≡ true
@@ -114,9 +114,9 @@ module _ (p : Lowered) where
         (λ x y same less. subst (λ n. known_le (copied_from p s q c x.region) (copied_from p t q c n) ≡ true) same (from-monotone q c x.region))
         v.targets w.targets (the_targets_le v w h))
 
-    pub of-monotone : IsTerrain g → AreFormed s → (q c : ℕ) (l : Lvalue) → is_proper_lvalue l ≡ true → known_le (copied_of p s q c l) (copied_of p t q c l) ≡ true
-    of-monotone is each q c l proper = at-monotone q c (matched g l (address_of g s l)) (matched g l (address_of g t l))
-        (matched-monotone g l (address_of g s l) (address_of g t l) (address-monotone g is s t each below l proper))
+    pub of-monotone : (sharp : Bool) → IsTerrain g → AreFormed s → (q c : ℕ) (l : Lvalue) → is_proper_lvalue l ≡ true → known_le (copied_of sharp p s q c l) (copied_of sharp p t q c l) ≡ true
+    of-monotone sharp is each q c l proper = at-monotone q c (matched g l (address_of sharp g s l)) (matched g l (address_of sharp g t l))
+        (matched-monotone g l (address_of sharp g s l) (address_of sharp g t l) (address-monotone sharp g is s t each below l proper))
 
   -- ---- pointing where the regions correspond
 
@@ -148,14 +148,14 @@ module _ (p : Lowered) where
         (chosen (λ (w : Known). Within P w.targets) (has_numbers v) (every_value p c) none (λ e. tt) (λ e. tt))
         (within-gathered S P (λ x. copied_from p cells q c x.region) (λ x m. from-within x.region (closes x.region m)) v.targets h)
 
-    pub of-within : (l : Lvalue) → ((s : ℕ) → has s (cells_of g points l) ≡ true → Closes s) → Within P (copied_of p cells q c l).targets
-    of-within l closes = at-within (λ s. has s (cells_of g points l) ≡ true) (matched g l (address_of g cells l)) (matched-address-within g points cells inside l) closes
+    pub of-within : (sharp : Bool) (l : Lvalue) → ((s : ℕ) → has s (cells_of g points l) ≡ true → Closes s) → Within P (copied_of sharp p cells q c l).targets
+    of-within sharp l closes = at-within (λ s. has s (cells_of g points l) ≡ true) (matched g l (address_of sharp g cells l)) (matched-address-within sharp g points cells inside l) closes
 
   -- ---- hanging on what is under the region
 
   module _ (s t : ℕ → Known) where
     cell-agrees : (c b : ℕ) → s b ≡ t b → copied_cell p s c b ≡ copied_cell p t c b
-    cell-agrees c b e = ap (λ (v : Known). let k : Known = record { numbers = cond (g.collapsed b) (every_in (element_of p c)) v.numbers; targets = v.targets } in k) e
+    cell-agrees c b e = ap (λ (v : Known). let k : Known = record { numbers = cond (g.collapsed b) (plain (every_in (element_of p c))) v.numbers; targets = v.targets } in k) e
 
     pub from-agrees : (q c r : ℕ) → ((b : ℕ) → reaches p r b ≡ true → s b ≡ t b) → copied_from p s q c r ≡ copied_from p t q c r
     from-agrees q c r same = by (g.collapsed q)
@@ -172,8 +172,8 @@ module _ (p : Lowered) where
     at-agrees S q c v h same = ap (known_join (cond (has_numbers v) (every_value p c) none))
         (gathered-agrees S (λ x. copied_from p s q c x.region) (λ x. copied_from p t q c x.region) (λ x m. from-agrees q c x.region (λ b there. same x.region b m there)) v.targets h)
 
-    pub of-agrees : (points : PointsTo) → PointWithin points s → (q c : ℕ) (l : Lvalue) → AgreeOn (pointer_uses g points l) s t
-        → ((r b : ℕ) → has r (cells_of g points l) ≡ true → reaches p r b ≡ true → s b ≡ t b) → copied_of p s q c l ≡ copied_of p t q c l
-    of-agrees points inside q c l found same =
-        at-agrees (λ r. has r (cells_of g points l) ≡ true) q c (matched g l (address_of g s l)) (matched-address-within g points s inside l) same
-        ∙ ap (λ v. copied_at p t q c (matched g l v)) (address-agrees g points s t inside l found)
+    pub of-agrees : (sharp : Bool) (points : PointsTo) → PointWithin points s → (q c : ℕ) (l : Lvalue) → AgreeOn (pointer_uses g points l) s t
+        → ((r b : ℕ) → has r (cells_of g points l) ≡ true → reaches p r b ≡ true → s b ≡ t b) → copied_of sharp p s q c l ≡ copied_of sharp p t q c l
+    of-agrees sharp points inside q c l found same =
+        at-agrees (λ r. has r (cells_of g points l) ≡ true) q c (matched g l (address_of sharp g s l)) (matched-address-within sharp g points s inside l) same
+        ∙ ap (λ v. copied_at p t q c (matched g l v)) (address-agrees sharp g points s t inside l found)

@@ -102,13 +102,13 @@ module _ (a : Analysed) (whole : IsAnalysed a) (n : ℕ) (to from : Lvalue) (is 
   read_alike : (s t : Store) → AgreeAt (copy_uses a to from) s t → (r : ℕ) → has r reads ≡ true → cells s r ≡ cells t r
   read_alike s t agree = cells-agree (setting_of a) scene.setting s t reads (λ l m. agree l (or_right (keeps_leaves a to l) (has (cell_of (setting_of a) l) reads) m))
 
-  copied_value : IsLeafValue a to (copy_uses a to from) (λ s q c. copied_of a.program (cells s) q c from)
+  copied_value : IsLeafValue a to (copy_uses a to from) (λ s q c. copied_of a.grid.sharp a.program (cells s) q c from)
   copied_value = record {
-    formed = λ s q c. of-formed a.program (cells s) (cells-formed (setting_of a) scene.setting s) scene.terrain q c from from_proper;
-    rises = λ s t q c below. of-monotone a.program (cells s) (cells t) (cells-monotone (setting_of a) scene.setting s t below) scene.terrain (cells-formed (setting_of a) scene.setting s) q c from from_proper;
+    formed = λ s q c. of-formed a.program (cells s) (cells-formed (setting_of a) scene.setting s) a.grid.sharp scene.terrain q c from from_proper;
+    rises = λ s t q c below. of-monotone a.program (cells s) (cells t) (cells-monotone (setting_of a) scene.setting s t below) a.grid.sharp scene.terrain (cells-formed (setting_of a) scene.setting s) q c from from_proper;
     within = λ r c m accepts h. of-within a.program u (cells (ceiling (setting_of a))) (inside (ceiling (setting_of a)) (λ k low. slot-refl (ceiling (setting_of a) k)))
-        (Points a c) (region_under g to r) c (struct-has a.program (lvalue_type to) the_struct.0 (region_under g to r) c the_struct.1 h) from (closes r c m accepts);
-    agree = λ s t q c under agree. of-agrees a.program (cells s) (cells t) u (inside s under) q c from
+        (Points a c) (region_under g to r) c (struct-has a.program (lvalue_type to) the_struct.0 (region_under g to r) c the_struct.1 h) a.grid.sharp from (closes r c m accepts);
+    agree = λ s t q c under agree. of-agrees a.program (cells s) (cells t) a.grid.sharp u (inside s under) q c from
         (λ r m. read_alike s t agree r (among-left (struct_reads a from) (pointer_uses g u to) r (struct-found a from r m)))
         (λ r b m there. read_alike s t agree b (among-left (struct_reads a from) (pointer_uses g u to) b (struct-held a from r b m there)));
   }
@@ -117,4 +117,4 @@ module _ (a : Analysed) (whole : IsAnalysed a) (n : ℕ) (to from : Lvalue) (is 
   copy-lawful = leaves-lawful a scene to (lvalue-proper (table_of a.program) formed.0 to formed.1.0) (copy_uses a to from)
       (λ l m. or_right (keeps_leaves a to l) (has (cell_of (setting_of a) l) reads) (among-right (struct_reads a from) (pointer_uses g u to) (cell_of (setting_of a) l) m))
       (λ l k. or_left (keeps_leaves a to l) (has (cell_of (setting_of a) l) reads) k)
-      (λ s q c. copied_of a.program (cells s) q c from) copied_value
+      (λ s q c. copied_of a.grid.sharp a.program (cells s) q c from) copied_value

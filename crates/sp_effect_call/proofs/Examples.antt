@@ -19,6 +19,7 @@ use Rattle.sp_ir.specs.Regions.{Region}
 use Rattle.sp_ir.specs.Programs.{Lowered, Object}
 use Rattle.sp_value.specs.declared.targets.Target.{Target}
 use Rattle.sp_value.specs.declared.slots.Slot.TheVariants.{Nothing}
+use Rattle.sp_numbers.specs.Numbers.{plain}
 use Rattle.sp_value.specs.Known.{Known, none, of_numbers, of_target, every_size}
 use Rattle.sp_value.specs.Slots.{known_in, slot_of}
 use Rattle.sp_eval.specs.Numbers.{exactly}
@@ -71,7 +72,7 @@ abbrev analysed : Analysed
 analysed = record {
   program = program;
   told = record { rows = []; calls = (0 ∷ 1 ∷ []) ∷ [] ∷ []; recursive = false ∷ false ∷ [] };
-  ladder = points;
+  grid = record { ladder = points; sharp = false };
 }
 
 -- locations 0: t.n, 1: t.p, 2: u.n, 3: u.p, 4: v, 5: z, 6: a, 7: b, 8: f's result, 9: g's, 10: y
@@ -79,8 +80,8 @@ abbrev at_y : Target
 at_y = record { region = 12; offset = exactly (pos 0); size = exactly (pos 1) }
 
 abbrev known : ℕ → Known
-known l = cond (nat_eq l 2) (of_numbers (exactly (pos 1))) (cond (nat_eq l 3) (of_target at_y) (cond (nat_eq l 5) (record { numbers = exactly (pos 2); targets = at_y ∷ [] })
-    (cond (nat_eq l 8) (of_numbers (exactly (pos 3))) (cond (nat_eq l 9) (of_numbers (exactly (pos 0))) (of_numbers (exactly (pos 2)))))))
+known l = cond (nat_eq l 2) (of_numbers (plain (exactly (pos 1)))) (cond (nat_eq l 3) (of_target at_y) (cond (nat_eq l 5) (record { numbers = plain (exactly (pos 2)); targets = at_y ∷ [] })
+    (cond (nat_eq l 8) (of_numbers (plain (exactly (pos 3)))) (cond (nat_eq l 9) (of_numbers (plain (exactly (pos 0)))) (of_numbers (plain (exactly (pos 2))))))))
 
 abbrev store : Store
 store l = slot_of (known l)
@@ -90,7 +91,7 @@ after row l = known_in (applied row store l)
 
 -- ---- `t = u;` and `v = z;`
 
-copied_n : after (copying analysed (direct 0 (structure 0)) (direct 1 (structure 0)) store) 0 ≡ of_numbers (exactly (pos 1))
+copied_n : after (copying analysed (direct 0 (structure 0)) (direct 1 (structure 0)) store) 0 ≡ of_numbers (plain (exactly (pos 1)))
 unfolding matched
 copied_n = refl
 
@@ -98,42 +99,42 @@ copied_p : after (copying analysed (direct 0 (structure 0)) (direct 1 (structure
 unfolding matched
 copied_p = refl
 
-copied_y : after (copying analysed (direct 0 (structure 0)) (direct 1 (structure 0)) store) 10 ≡ of_numbers (exactly (pos 2))
+copied_y : after (copying analysed (direct 0 (structure 0)) (direct 1 (structure 0)) store) 10 ≡ of_numbers (plain (exactly (pos 2)))
 unfolding matched
 copied_y = refl
 
 -- bytes get every number, and the targets
-copied_v : after (copying analysed (direct 2 (structure 1)) (direct 3 (structure 1)) store) 4 ≡ record { numbers = whole; targets = at_y ∷ [] }
+copied_v : after (copying analysed (direct 2 (structure 1)) (direct 3 (structure 1)) store) 4 ≡ record { numbers = plain whole; targets = at_y ∷ [] }
 unfolding matched
 copied_v = refl
 
 -- ---- a call of f and of g, `h(3)`
 
-called_a : after (calling analysed 0 (number (pos 3) Int ∷ []) store) 6 ≡ of_numbers (exactly (pos 3))
+called_a : after (calling analysed 0 (number (pos 3) Int ∷ []) store) 6 ≡ of_numbers (plain (exactly (pos 3)))
 unfolding matched converted
 called_a = refl
 
-called_b : after (calling analysed 0 (number (pos 3) Int ∷ []) store) 7 ≡ of_numbers (exactly (pos 3))
+called_b : after (calling analysed 0 (number (pos 3) Int ∷ []) store) 7 ≡ of_numbers (plain (exactly (pos 3)))
 unfolding matched converted
 called_b = refl
 
 -- a struct doesn't fit
-called_struct : after (calling analysed 0 (read (direct 1 (structure 0)) ∷ []) store) 6 ≡ of_numbers (Of (neg_ℤ (pos 2147483648)) (pos 2147483647))
+called_struct : after (calling analysed 0 (read (direct 1 (structure 0)) ∷ []) store) 6 ≡ of_numbers (plain (Of (neg_ℤ (pos 2147483648)) (pos 2147483647)))
 unfolding matched converted
 called_struct = refl
 
-called_y : after (calling analysed 0 (number (pos 3) Int ∷ []) store) 10 ≡ of_numbers (exactly (pos 2))
+called_y : after (calling analysed 0 (number (pos 3) Int ∷ []) store) 10 ≡ of_numbers (plain (exactly (pos 2)))
 unfolding matched converted
 called_y = refl
 
 -- ---- `y = h(3);`: the join of 3 and of 0
 
-returned_y : after (returning analysed 0 (Some (direct 8 int)) store) 10 ≡ of_numbers (Of (pos 0) (pos 3))
+returned_y : after (returning analysed 0 (Some (direct 8 int)) store) 10 ≡ of_numbers (plain (Of (pos 0) (pos 3)))
 unfolding matched converted
 returned_y = refl
 
 -- the result doesn't fit a struct
-returned_t : after (returning analysed 0 (Some (direct 0 (structure 0))) store) 0 ≡ of_numbers (Of (neg_ℤ (pos 2147483648)) (pos 2147483647))
+returned_t : after (returning analysed 0 (Some (direct 0 (structure 0))) store) 0 ≡ of_numbers (plain (Of (neg_ℤ (pos 2147483648)) (pos 2147483647)))
 unfolding matched converted
 returned_t = refl
 
@@ -144,15 +145,15 @@ returned_none = refl
 
 -- ---- from outside
 
-outside_n : after (from_outside analysed (Some (direct 0 (structure 0))) (Some 9) store) 0 ≡ of_numbers (Of (neg_ℤ (pos 2147483648)) (pos 2147483647))
+outside_n : after (from_outside analysed (Some (direct 0 (structure 0))) (Some 9) store) 0 ≡ of_numbers (plain (Of (neg_ℤ (pos 2147483648)) (pos 2147483647)))
 outside_n = refl
 
 outside_p : after (from_outside analysed (Some (direct 0 (structure 0))) (Some 9) store) 1 ≡ of_target (record { region = 13; offset = exactly (pos 0); size = every_size })
 outside_p = refl
 
-outside_y : after (from_outside analysed (Some (direct 8 int)) None store) 10 ≡ of_numbers (Of (neg_ℤ (pos 2147483648)) (pos 2147483647))
+outside_y : after (from_outside analysed (Some (direct 8 int)) None store) 10 ≡ of_numbers (plain (Of (neg_ℤ (pos 2147483648)) (pos 2147483647)))
 outside_y = refl
 
 -- a union that is itself assigned gets the site
-outside_v : after (from_outside analysed (Some (direct 2 (structure 1))) (Some 9) store) 4 ≡ record { numbers = whole; targets = record { region = 13; offset = exactly (pos 0); size = every_size } ∷ [] }
+outside_v : after (from_outside analysed (Some (direct 2 (structure 1))) (Some 9) store) 4 ≡ record { numbers = plain whole; targets = record { region = 13; offset = exactly (pos 0); size = every_size } ∷ [] }
 outside_v = refl

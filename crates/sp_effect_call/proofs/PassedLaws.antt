@@ -66,61 +66,61 @@ struct-proper e s h proper = subst (λ x. is_proper x ≡ true) (struct-argument
 
 -- ---- one argument
 
-module _ (p : Lowered) (is : IsTerrain (terrain_of p)) where
+module _ (sharp : Bool) (p : Lowered) (is : IsTerrain (terrain_of p)) where
   abbrev g : Terrain
   g = terrain_of p
 
   module _ (cells : ℕ → Known) (each : AreFormed cells) (e : Expression) (proper : is_proper e ≡ true) (c : ℕ) where
-    as-formed : (t : CType) (q : ℕ) (s : Option (ℕ × Lvalue)) → as_struct e ≡ s → IsFormedKnown (passed_as p cells t q c e s)
-    as-formed t q None h = chosen IsFormedKnown (is_scalar t) (converted t (value_of g cells e)) (every_value p c) (λ k. value-formed g is cells each (convert t e) proper) (λ k. every-formed p cells each c)
-    as-formed t q (Some s) h = chosen IsFormedKnown (is_of (Aggregate s.0) t) (copied_of p cells q c s.1) (every_value p c) (λ k. of-formed p cells each is q c s.1 (struct-proper e s h proper)) (λ k. every-formed p cells each c)
+    as-formed : (t : CType) (q : ℕ) (s : Option (ℕ × Lvalue)) → as_struct e ≡ s → IsFormedKnown (passed_as sharp p cells t q c e s)
+    as-formed t q None h = chosen IsFormedKnown (is_scalar t) (converted sharp t (value_of sharp g cells e)) (every_value p c) (λ k. value-formed sharp g is cells each (convert t e) proper) (λ k. every-formed p cells each c)
+    as-formed t q (Some s) h = chosen IsFormedKnown (is_of (Aggregate s.0) t) (copied_of sharp p cells q c s.1) (every_value p c) (λ k. of-formed p cells each sharp is q c s.1 (struct-proper e s h proper)) (λ k. every-formed p cells each c)
 
-    typed-formed : (of : Option CType) (q : ℕ) → IsFormedKnown (passed_typed p cells of q c e)
+    typed-formed : (of : Option CType) (q : ℕ) → IsFormedKnown (passed_typed sharp p cells of q c e)
     typed-formed None q = every-formed p cells each c
     typed-formed (Some t) q = as-formed t q (as_struct e) refl
 
-    pub to-formed : (o : ℕ) → IsFormedKnown (passed_to p cells o e c)
-    to-formed o = where-formed (formal_has p o c) (passed_typed p cells (type_in (slice_get p.objects o)) (g.root o) c e) (typed-formed (type_in (slice_get p.objects o)) (g.root o))
+    pub to-formed : (o : ℕ) → IsFormedKnown (passed_to sharp p cells o e c)
+    to-formed o = where-formed (formal_has p o c) (passed_typed sharp p cells (type_in (slice_get p.objects o)) (g.root o) c e) (typed-formed (type_in (slice_get p.objects o)) (g.root o))
 
   module _ (s t : ℕ → Known) (each : AreFormed s) (below : AreBelow s t) (e : Expression) (proper : is_proper e ≡ true) (c : ℕ) where
-    as-monotone : (of : CType) (q : ℕ) (x : Option (ℕ × Lvalue)) → as_struct e ≡ x → known_le (passed_as p s of q c e x) (passed_as p t of q c e x) ≡ true
-    as-monotone of q None h = same_choice (is_scalar of) (converted of (value_of g s e)) (every_value p c) (converted of (value_of g t e)) (every_value p c) (value-monotone g is s t each below (convert of e) proper) (known-refl (every_value p c))
-    as-monotone of q (Some x) h = same_choice (is_of (Aggregate x.0) of) (copied_of p s q c x.1) (every_value p c) (copied_of p t q c x.1) (every_value p c) (of-monotone p s t below is each q c x.1 (struct-proper e x h proper)) (known-refl (every_value p c))
+    as-monotone : (of : CType) (q : ℕ) (x : Option (ℕ × Lvalue)) → as_struct e ≡ x → known_le (passed_as sharp p s of q c e x) (passed_as sharp p t of q c e x) ≡ true
+    as-monotone of q None h = same_choice (is_scalar of) (converted sharp of (value_of sharp g s e)) (every_value p c) (converted sharp of (value_of sharp g t e)) (every_value p c) (value-monotone sharp g is s t each below (convert of e) proper) (known-refl (every_value p c))
+    as-monotone of q (Some x) h = same_choice (is_of (Aggregate x.0) of) (copied_of sharp p s q c x.1) (every_value p c) (copied_of sharp p t q c x.1) (every_value p c) (of-monotone p s t below sharp is each q c x.1 (struct-proper e x h proper)) (known-refl (every_value p c))
 
-    typed-monotone : (of : Option CType) (q : ℕ) → known_le (passed_typed p s of q c e) (passed_typed p t of q c e) ≡ true
+    typed-monotone : (of : Option CType) (q : ℕ) → known_le (passed_typed sharp p s of q c e) (passed_typed sharp p t of q c e) ≡ true
     typed-monotone None q = known-refl (every_value p c)
     typed-monotone (Some of) q = as-monotone of q (as_struct e) refl
 
-    to-monotone : (o : ℕ) → known_le (passed_to p s o e c) (passed_to p t o e c) ≡ true
-    to-monotone o = where-monotone (formal_has p o c) (passed_typed p s (type_in (slice_get p.objects o)) (g.root o) c e) (passed_typed p t (type_in (slice_get p.objects o)) (g.root o) c e) (typed-monotone (type_in (slice_get p.objects o)) (g.root o))
+    to-monotone : (o : ℕ) → known_le (passed_to sharp p s o e c) (passed_to sharp p t o e c) ≡ true
+    to-monotone o = where-monotone (formal_has p o c) (passed_typed sharp p s (type_in (slice_get p.objects o)) (g.root o) c e) (passed_typed sharp p t (type_in (slice_get p.objects o)) (g.root o) c e) (typed-monotone (type_in (slice_get p.objects o)) (g.root o))
 
   -- ---- the arguments of one function
 
   module _ (cells : ℕ → Known) (each : AreFormed cells) (c : ℕ) where
-    pub each-formed : (os : List ℕ) (es : List Expression) → All (λ e. is_proper e ≡ true) es → IsFormedKnown (passed_each p cells os es c)
+    pub each-formed : (os : List ℕ) (es : List Expression) → All (λ e. is_proper e ≡ true) es → IsFormedKnown (passed_each sharp p cells os es c)
     each-formed [] es h = none-formed
     each-formed (o ∷ os) [] h = none-formed
-    each-formed (o ∷ os) (e ∷ es) h = known_join-formed (passed_to p cells o e c) (passed_each p cells os es c) (to-formed cells each e (all_first (λ x. is_proper x ≡ true) e es h) c o) (each-formed os es (all_rest (λ x. is_proper x ≡ true) e es h))
+    each-formed (o ∷ os) (e ∷ es) h = known_join-formed (passed_to sharp p cells o e c) (passed_each sharp p cells os es c) (to-formed cells each e (all_first (λ x. is_proper x ≡ true) e es h) c o) (each-formed os es (all_rest (λ x. is_proper x ≡ true) e es h))
 
   module _ (s t : ℕ → Known) (each : AreFormed s) (below : AreBelow s t) (c : ℕ) where
-    each-monotone : (os : List ℕ) (es : List Expression) → All (λ e. is_proper e ≡ true) es → known_le (passed_each p s os es c) (passed_each p t os es c) ≡ true
+    each-monotone : (os : List ℕ) (es : List Expression) → All (λ e. is_proper e ≡ true) es → known_le (passed_each sharp p s os es c) (passed_each sharp p t os es c) ≡ true
     each-monotone [] es h = refl
     each-monotone (o ∷ os) [] h = refl
-    each-monotone (o ∷ os) (e ∷ es) h = known_join-monotone (passed_to p s o e c) (passed_each p s os es c) (passed_to p t o e c) (passed_each p t os es c)
+    each-monotone (o ∷ os) (e ∷ es) h = known_join-monotone (passed_to sharp p s o e c) (passed_each sharp p s os es c) (passed_to sharp p t o e c) (passed_each sharp p t os es c)
         (to-monotone s t each below e (all_first (λ x. is_proper x ≡ true) e es h) c o) (each-monotone os es (all_rest (λ x. is_proper x ≡ true) e es h))
 
-each-within : (p : Lowered) (cells : ℕ → Known) (P : ℕ → Type 0) (c : ℕ) (os : List ℕ) (es : List Expression)
-    → ((i o : ℕ) (e : Expression) → slice_get os i ≡ Some o → slice_get es i ≡ Some e → Within P (passed_to p cells o e c).targets) → Within P (passed_each p cells os es c).targets
-each-within p cells P c [] es h = tt
-each-within p cells P c (o ∷ os) [] h = tt
-each-within p cells P c (o ∷ os) (e ∷ es) h = within-join P (passed_to p cells o e c).targets (passed_each p cells os es c).targets (h 0 o e refl refl) (each-within p cells P c os es (λ i x y k l. h (suc i) x y k l))
+each-within : (sharp : Bool) (p : Lowered) (cells : ℕ → Known) (P : ℕ → Type 0) (c : ℕ) (os : List ℕ) (es : List Expression)
+    → ((i o : ℕ) (e : Expression) → slice_get os i ≡ Some o → slice_get es i ≡ Some e → Within P (passed_to sharp p cells o e c).targets) → Within P (passed_each sharp p cells os es c).targets
+each-within sharp p cells P c [] es h = tt
+each-within sharp p cells P c (o ∷ os) [] h = tt
+each-within sharp p cells P c (o ∷ os) (e ∷ es) h = within-join P (passed_to sharp p cells o e c).targets (passed_each sharp p cells os es c).targets (h 0 o e refl refl) (each-within sharp p cells P c os es (λ i x y k l. h (suc i) x y k l))
 
-each-agrees : (p : Lowered) (s t : ℕ → Known) (c : ℕ) (os : List ℕ) (es : List Expression)
-    → ((i o : ℕ) (e : Expression) → slice_get es i ≡ Some e → passed_to p s o e c ≡ passed_to p t o e c) → passed_each p s os es c ≡ passed_each p t os es c
-each-agrees p s t c [] es h = refl
-each-agrees p s t c (o ∷ os) [] h = refl
-each-agrees p s t c (o ∷ os) (e ∷ es) h =
-    ap (λ v. known_join v (passed_each p s os es c)) (h 0 o e refl) ∙ ap (λ v. known_join (passed_to p t o e c) v) (each-agrees p s t c os es (λ i x y k. h (suc i) x y k))
+each-agrees : (sharp : Bool) (p : Lowered) (s t : ℕ → Known) (c : ℕ) (os : List ℕ) (es : List Expression)
+    → ((i o : ℕ) (e : Expression) → slice_get es i ≡ Some e → passed_to sharp p s o e c ≡ passed_to sharp p t o e c) → passed_each sharp p s os es c ≡ passed_each sharp p t os es c
+each-agrees sharp p s t c [] es h = refl
+each-agrees sharp p s t c (o ∷ os) [] h = refl
+each-agrees sharp p s t c (o ∷ os) (e ∷ es) h =
+    ap (λ v. known_join v (passed_each sharp p s os es c)) (h 0 o e refl) ∙ ap (λ v. known_join (passed_to sharp p t o e c) v) (each-agrees sharp p s t c os es (λ i x y k. h (suc i) x y k))
 
 -- ---- hanging on what is read
 
@@ -129,16 +129,16 @@ module _ (a : Analysed) (s t : Store) (inside : PointWithin (setting_of a).point
   cells x = known_in_regions (scene_of a) x
 
   module _ (e : Expression) (same : (r : ℕ) → has r (argument_reads a e (as_struct e)) ≡ true → cells s r ≡ cells t r) where
-    as-agrees : (of : CType) (q c : ℕ) (x : Option (ℕ × Lvalue)) → as_struct e ≡ x → ((r : ℕ) → has r (argument_reads a e x) ≡ true → cells s r ≡ cells t r) → passed_as a.program (cells s) of q c e x ≡ passed_as a.program (cells t) of q c e x
-    as-agrees of q c None h alike = ap (λ v. cond (is_scalar of) (converted of v) (every_value a.program c)) (value-agrees (terrain_of a.program) (setting_of a).points_to (cells s) (cells t) inside e alike)
+    as-agrees : (of : CType) (q c : ℕ) (x : Option (ℕ × Lvalue)) → as_struct e ≡ x → ((r : ℕ) → has r (argument_reads a e x) ≡ true → cells s r ≡ cells t r) → passed_as a.grid.sharp a.program (cells s) of q c e x ≡ passed_as a.grid.sharp a.program (cells t) of q c e x
+    as-agrees of q c None h alike = ap (λ v. cond (is_scalar of) (converted a.grid.sharp of v) (every_value a.program c)) (value-agrees a.grid.sharp (terrain_of a.program) (setting_of a).points_to (cells s) (cells t) inside e alike)
     as-agrees of q c (Some x) h alike = ap (λ v. cond (is_of (Aggregate x.0) of) v (every_value a.program c))
-        (of-agrees a.program (cells s) (cells t) (setting_of a).points_to inside q c x.1 (λ r m. alike r (struct-found a x.1 r m)) (λ r b m there. alike b (struct-held a x.1 r b m there)))
+        (of-agrees a.program (cells s) (cells t) a.grid.sharp (setting_of a).points_to inside q c x.1 (λ r m. alike r (struct-found a x.1 r m)) (λ r b m there. alike b (struct-held a x.1 r b m there)))
 
-    typed-agrees : (of : Option CType) (q c : ℕ) → passed_typed a.program (cells s) of q c e ≡ passed_typed a.program (cells t) of q c e
+    typed-agrees : (of : Option CType) (q c : ℕ) → passed_typed a.grid.sharp a.program (cells s) of q c e ≡ passed_typed a.grid.sharp a.program (cells t) of q c e
     typed-agrees None q c = refl
     typed-agrees (Some of) q c = as-agrees of q c (as_struct e) refl same
 
-    to-agrees : (o c : ℕ) → passed_to a.program (cells s) o e c ≡ passed_to a.program (cells t) o e c
+    to-agrees : (o c : ℕ) → passed_to a.grid.sharp a.program (cells s) o e c ≡ passed_to a.grid.sharp a.program (cells t) o e c
     to-agrees o c = ap (λ v. cond (formal_has a.program o c) v none) (typed-agrees (type_in (slice_get a.program.objects o)) ((terrain_of a.program).root o) c)
 
 -- ---- the call
@@ -222,20 +222,20 @@ module _ (a : Analysed) (whole : IsAnalysed a) (n : ℕ) (callee : Expression) (
               holds = holds;
             }))
 
-      as-within : (s : Option (ℕ × Lvalue)) → as_struct e ≡ s → Within (Points a c) (passed_as a.program (at_cells top) t q c e s).targets
-      as-within None plain = chosen (λ (v : Known). Within (Points a c) v.targets) (is_scalar t) (converted t (value_of h (at_cells top) e)) (every_value a.program c)
-          (λ scalar. within-more (λ x. has x (regions_of h u (convert t e)) ≡ true) (Points a c) (scalar-closed plain scalar) (value_of h (at_cells top) (convert t e)).targets (value-within h u (at_cells top) top_inside (convert t e)))
+      as-within : (s : Option (ℕ × Lvalue)) → as_struct e ≡ s → Within (Points a c) (passed_as a.grid.sharp a.program (at_cells top) t q c e s).targets
+      as-within None plain = chosen (λ (v : Known). Within (Points a c) v.targets) (is_scalar t) (converted a.grid.sharp t (value_of a.grid.sharp h (at_cells top) e)) (every_value a.program c)
+          (λ scalar. within-more (λ x. has x (regions_of h u (convert t e)) ≡ true) (Points a c) (scalar-closed plain scalar) (value_of a.grid.sharp h (at_cells top) (convert t e)).targets (value-within a.grid.sharp h u (at_cells top) top_inside (convert t e)))
           (λ k. tt)
-      as-within (Some s) is_one = chosen (λ (v : Known). Within (Points a c) v.targets) (is_of (Aggregate s.0) t) (copied_of a.program (at_cells top) q c s.1) (every_value a.program c)
-          (λ same. of-within a.program u (at_cells top) top_inside (Points a c) q c (under s is_one same) s.1 (struct-closed s is_one same))
+      as-within (Some s) is_one = chosen (λ (v : Known). Within (Points a c) v.targets) (is_of (Aggregate s.0) t) (copied_of a.grid.sharp a.program (at_cells top) q c s.1) (every_value a.program c)
+          (λ same. of-within a.program u (at_cells top) top_inside (Points a c) q c (under s is_one same) a.grid.sharp s.1 (struct-closed s is_one same))
           (λ k. tt)
 
-    typed-within : (of : Option CType) → type_in (slice_get a.program.objects o) ≡ of → has_cell a.program of q c ≡ true → Within (Points a c) (passed_typed a.program (at_cells top) of q c e).targets
+    typed-within : (of : Option CType) → type_in (slice_get a.program.objects o) ≡ of → has_cell a.program of q c ≡ true → Within (Points a c) (passed_typed a.grid.sharp a.program (at_cells top) of q c e).targets
     typed-within None typed here = tt
     typed-within (Some t) typed here = as-within t typed here (as_struct e) refl
 
-    to-within : Within (Points a c) (passed_to a.program (at_cells top) o e c).targets
-    to-within = where-within (Points a c) (formal_has a.program o c) (passed_typed a.program (at_cells top) (type_in (slice_get a.program.objects o)) q c e)
+    to-within : Within (Points a c) (passed_to a.grid.sharp a.program (at_cells top) o e c).targets
+    to-within = where-within (Points a c) (formal_has a.program o c) (passed_typed a.grid.sharp a.program (at_cells top) (type_in (slice_get a.program.objects o)) q c e)
         (λ here. typed-within (type_in (slice_get a.program.objects o)) refl here)
 
   read_here : (s t : Store) → AgreeAt (call_uses a n callee args) s t → (i : ℕ) (e : Expression) → slice_get args i ≡ Some e → (r : ℕ) → has r (argument_reads a e (as_struct e)) ≡ true → at_cells s r ≡ at_cells t r
@@ -245,15 +245,15 @@ module _ (a : Analysed) (whole : IsAnalysed a) (n : ℕ) (callee : Expression) (
 
   placed : IsLawfulPlacing (setting_of a) (call_uses a n callee args) (call_defines a n) (λ l. is_summary a.program a.told (cell_of (setting_of a) l)) (λ s l. passed_value a n args s (cell_of (setting_of a) l))
   placed = record {
-    formed = λ s l. joined-formed (λ f. passed_each a.program (at_cells s) (formals_of a.program f) args (cell_of (setting_of a) l)) (row a.told.calls n)
-        (λ k d low. each-formed a.program scene.terrain (at_cells s) (cells-formed (setting_of a) scene.setting s) (cell_of (setting_of a) l) (formals_of a.program (get_or (row a.told.calls n) k d)) args args_proper);
-    rises = λ s t l below under. joined-monotone (λ f. passed_each a.program (at_cells s) (formals_of a.program f) args (cell_of (setting_of a) l)) (λ f. passed_each a.program (at_cells t) (formals_of a.program f) args (cell_of (setting_of a) l)) (row a.told.calls n)
-        (λ k d low. each-monotone a.program scene.terrain (at_cells s) (at_cells t) (cells-formed (setting_of a) scene.setting s) (cells-monotone (setting_of a) scene.setting s t below) (cell_of (setting_of a) l) (formals_of a.program (get_or (row a.told.calls n) k d)) args args_proper);
-    within = λ l hit. joined-within (Points a (cell_of (setting_of a) l)) (λ f. passed_each a.program (at_cells top) (formals_of a.program f) args (cell_of (setting_of a) l)) (row a.told.calls n)
-        (each-member (λ f. Within (Points a (cell_of (setting_of a) l)) (passed_each a.program (at_cells top) (formals_of a.program f) args (cell_of (setting_of a) l)).targets) (row a.told.calls n)
-        (λ f m. each-within a.program (at_cells top) (Points a (cell_of (setting_of a) l)) (cell_of (setting_of a) l) (formals_of a.program f) args (λ i o e formal arg. to-within f (called f m) i o e formal arg (cell_of (setting_of a) l))));
-    agree = λ s t l under under' same. joined-agrees (λ f. passed_each a.program (at_cells s) (formals_of a.program f) args (cell_of (setting_of a) l)) (λ f. passed_each a.program (at_cells t) (formals_of a.program f) args (cell_of (setting_of a) l)) (row a.told.calls n)
-        (λ k d low. each-agrees a.program (at_cells s) (at_cells t) (cell_of (setting_of a) l) (formals_of a.program (get_or (row a.told.calls n) k d)) args
+    formed = λ s l. joined-formed (λ f. passed_each a.grid.sharp a.program (at_cells s) (formals_of a.program f) args (cell_of (setting_of a) l)) (row a.told.calls n)
+        (λ k d low. each-formed a.grid.sharp a.program scene.terrain (at_cells s) (cells-formed (setting_of a) scene.setting s) (cell_of (setting_of a) l) (formals_of a.program (get_or (row a.told.calls n) k d)) args args_proper);
+    rises = λ s t l below under. joined-monotone (λ f. passed_each a.grid.sharp a.program (at_cells s) (formals_of a.program f) args (cell_of (setting_of a) l)) (λ f. passed_each a.grid.sharp a.program (at_cells t) (formals_of a.program f) args (cell_of (setting_of a) l)) (row a.told.calls n)
+        (λ k d low. each-monotone a.grid.sharp a.program scene.terrain (at_cells s) (at_cells t) (cells-formed (setting_of a) scene.setting s) (cells-monotone (setting_of a) scene.setting s t below) (cell_of (setting_of a) l) (formals_of a.program (get_or (row a.told.calls n) k d)) args args_proper);
+    within = λ l hit. joined-within (Points a (cell_of (setting_of a) l)) (λ f. passed_each a.grid.sharp a.program (at_cells top) (formals_of a.program f) args (cell_of (setting_of a) l)) (row a.told.calls n)
+        (each-member (λ f. Within (Points a (cell_of (setting_of a) l)) (passed_each a.grid.sharp a.program (at_cells top) (formals_of a.program f) args (cell_of (setting_of a) l)).targets) (row a.told.calls n)
+        (λ f m. each-within a.grid.sharp a.program (at_cells top) (Points a (cell_of (setting_of a) l)) (cell_of (setting_of a) l) (formals_of a.program f) args (λ i o e formal arg. to-within f (called f m) i o e formal arg (cell_of (setting_of a) l))));
+    agree = λ s t l under under' same. joined-agrees (λ f. passed_each a.grid.sharp a.program (at_cells s) (formals_of a.program f) args (cell_of (setting_of a) l)) (λ f. passed_each a.grid.sharp a.program (at_cells t) (formals_of a.program f) args (cell_of (setting_of a) l)) (row a.told.calls n)
+        (λ k d low. each-agrees a.grid.sharp a.program (at_cells s) (at_cells t) (cell_of (setting_of a) l) (formals_of a.program (get_or (row a.told.calls n) k d)) args
         (λ i o e arg. to-agrees a s t (inside s under) e (read_here s t same i e arg) o (cell_of (setting_of a) l)));
     weak_used = λ l hit weak. or_left (call_defines a n l && is_summary a.program a.told (cell_of (setting_of a) l)) (has (cell_of (setting_of a) l) reads) (both (call_defines a n l) (is_summary a.program a.told (cell_of (setting_of a) l)) hit weak);
   }

@@ -42,20 +42,20 @@ use Rattle.sp_effect_call.proofs.PassedLaws.{to-formed, each-formed}
 
 -- ---- one argument
 
-pub evaluated-struct : (p : Lowered) (cells : ℕ → Known) (e : Expression) (n : ℕ) (l : Lvalue) (v : Known) → Some (n, l) ≡ as_struct e → v ≡ matched (terrain_of p) l (address_of (terrain_of p) cells l)
-    → (let x : Evaluated = record { struct_number = Some n; known = v } in x) ≡ evaluated p cells e
-evaluated-struct p cells e n l v is made = ap (λ (w : Known). let x : Evaluated = record { struct_number = Some n; known = w } in x) made ∙ ap (evaluated_as (terrain_of p) cells e) is
+pub evaluated-struct : (sharp : Bool) (p : Lowered) (cells : ℕ → Known) (e : Expression) (n : ℕ) (l : Lvalue) (v : Known) → Some (n, l) ≡ as_struct e → v ≡ matched (terrain_of p) l (address_of sharp (terrain_of p) cells l)
+    → (let x : Evaluated = record { struct_number = Some n; known = v } in x) ≡ evaluated sharp p cells e
+evaluated-struct sharp p cells e n l v is made = ap (λ (w : Known). let x : Evaluated = record { struct_number = Some n; known = w } in x) made ∙ ap (evaluated_as sharp (terrain_of p) cells e) is
 
-pub evaluated-value : (p : Lowered) (cells : ℕ → Known) (e : Expression) (v : Known) → None ≡ as_struct e → v ≡ value_of (terrain_of p) cells e
-    → (let x : Evaluated = record { struct_number = None; known = v } in x) ≡ evaluated p cells e
-evaluated-value p cells e v is made = ap (λ (w : Known). let x : Evaluated = record { struct_number = None; known = w } in x) made ∙ ap (evaluated_as (terrain_of p) cells e) is
+pub evaluated-value : (sharp : Bool) (p : Lowered) (cells : ℕ → Known) (e : Expression) (v : Known) → None ≡ as_struct e → v ≡ value_of sharp (terrain_of p) cells e
+    → (let x : Evaluated = record { struct_number = None; known = v } in x) ≡ evaluated sharp p cells e
+evaluated-value sharp p cells e v is made = ap (λ (w : Known). let x : Evaluated = record { struct_number = None; known = w } in x) made ∙ ap (evaluated_as sharp (terrain_of p) cells e) is
 
 -- what is given is what is passed
-passed-given : (p : Lowered) (cells : ℕ → Known) (of : Option CType) (q c : ℕ) (e : Expression) → passed_typed p cells of q c e ≡ given_typed p cells of q c (evaluated p cells e)
-passed-given p cells None q c e = refl
-passed-given p cells (Some t) q c e = by (as_struct e)
+passed-given : (sharp : Bool) (p : Lowered) (cells : ℕ → Known) (of : Option CType) (q c : ℕ) (e : Expression) → passed_typed sharp p cells of q c e ≡ given_typed sharp p cells of q c (evaluated sharp p cells e)
+passed-given sharp p cells None q c e = refl
+passed-given sharp p cells (Some t) q c e = by (as_struct e)
   where
-    by : (s : Option (ℕ × Lvalue)) → passed_as p cells t q c e s ≡ given_as p cells t q c (evaluated_as (terrain_of p) cells e s).known (evaluated_as (terrain_of p) cells e s).struct_number
+    by : (s : Option (ℕ × Lvalue)) → passed_as sharp p cells t q c e s ≡ given_as sharp p cells t q c (evaluated_as sharp (terrain_of p) cells e s).known (evaluated_as sharp (terrain_of p) cells e s).struct_number
     by None = refl
     by (Some s) = refl
 
@@ -78,14 +78,14 @@ past-image f xs i past = slice_get_past (map f xs) i (subst (λ n. n ≤ i) (sym
 
 module _ (a : Analysed) (cells : ℕ → Known) (l o : ℕ) (old new : Slot) where
   pub formal-joined : (x : Evaluated) (of : Option CType) (q : ℕ) (ys : List ℕ) → l < count (setting_of a) → of ≡ type_in (slice_get a.program.objects o) → q ≡ (terrain_of a.program).root o
-      → ((c : ℕ) → reaches a.program q c ≡ true → has c ys ≡ true) → new ≡ slot_join old (joins (cell_slot a of (λ r c. stored a.ladder (given_typed a.program cells of r c x)) q l) ys)
+      → ((c : ℕ) → reaches a.program q c ≡ true → has c ys ≡ true) → new ≡ slot_join old (joins (cell_slot a of (λ r c. stored a.grid (given_typed a.grid.sharp a.program cells of r c x)) q l) ys)
       → new ≡ slot_join old (formal_slot a cells l (o, x))
   formal-joined x of q ys low typed rooted all is =
-      is ∙ ap (slot_join old) (cells-joined a of (λ r c. stored a.ladder (given_typed a.program cells of r c x)) q l low ys all)
+      is ∙ ap (slot_join old) (cells-joined a of (λ r c. stored a.grid (given_typed a.grid.sharp a.program cells of r c x)) q l low ys all)
       ∙ ap (λ t. slot_join old (shown t q)) typed ∙ ap (λ r. slot_join old (shown (type_in (slice_get a.program.objects o)) r)) rooted
     where
       shown : Option CType → ℕ → Slot
-      shown t r = cond (has_cell a.program t r (cell_of (setting_of a) l)) (stored a.ladder (given_typed a.program cells t r (cell_of (setting_of a) l) x)) Nothing
+      shown t r = cond (has_cell a.program t r (cell_of (setting_of a) l)) (stored a.grid (given_typed a.grid.sharp a.program cells t r (cell_of (setting_of a) l) x)) Nothing
 
   pub placed-there : (x : Evaluated) (found : Option Evaluated) → found ≡ Some x → new ≡ slot_join old (formal_slot a cells l (o, x)) → new ≡ slot_join old (placed_slot a cells l o found)
   placed-there x found there is = is ∙ ap (λ y. slot_join old (placed_slot a cells l o y)) (sym there)
@@ -134,35 +134,35 @@ module _ (a : Analysed) (is : IsScene (scene_of a)) (s : Store) (l : ℕ) where
   each : AreFormed cells
   each = cells-formed (setting_of a) is.setting s
 
-  to-slot : (o : ℕ) (e : Expression) → stored a.ladder (passed_to a.program cells o e own) ≡ formal_slot a cells l (o, evaluated a.program cells e)
+  to-slot : (o : ℕ) (e : Expression) → stored a.grid (passed_to a.grid.sharp a.program cells o e own) ≡ formal_slot a cells l (o, evaluated a.grid.sharp a.program cells e)
   to-slot o e =
-      stored-where a.ladder (formal_has a.program o own) (passed_typed a.program cells (type_in (slice_get a.program.objects o)) ((terrain_of a.program).root o) own e)
-      ∙ ap (λ v. cond (formal_has a.program o own) (stored a.ladder v) Nothing) (passed-given a.program cells (type_in (slice_get a.program.objects o)) ((terrain_of a.program).root o) own e)
+      stored-where a.grid (formal_has a.program o own) (passed_typed a.grid.sharp a.program cells (type_in (slice_get a.program.objects o)) ((terrain_of a.program).root o) own e)
+      ∙ ap (λ v. cond (formal_has a.program o own) (stored a.grid v) Nothing) (passed-given a.grid.sharp a.program cells (type_in (slice_get a.program.objects o)) ((terrain_of a.program).root o) own e)
 
-  callee-slots : (os : List ℕ) (es : List Expression) → All (λ e. is_proper e ≡ true) es → stored a.ladder (passed_each a.program cells os es own) ≡ joins (formal_slot a cells l) (zip os (map (evaluated a.program cells) es))
+  callee-slots : (os : List ℕ) (es : List Expression) → All (λ e. is_proper e ≡ true) es → stored a.grid (passed_each a.grid.sharp a.program cells os es own) ≡ joins (formal_slot a cells l) (zip os (map (evaluated a.grid.sharp a.program cells) es))
   callee-slots [] es proper = refl
   callee-slots (o ∷ os) [] proper = refl
   callee-slots (o ∷ os) (e ∷ es) proper =
-      stored-join a.ladder is.setting.ladder (passed_to a.program cells o e own) (passed_each a.program cells os es own)
-      (to-formed a.program is.terrain cells each e (all_first (λ x. is_proper x ≡ true) e es proper) own o) (each-formed a.program is.terrain cells each own os es (all_rest (λ x. is_proper x ≡ true) e es proper))
-      ∙ ap (λ x. slot_join x (stored a.ladder (passed_each a.program cells os es own))) (to-slot o e)
-      ∙ ap (slot_join (formal_slot a cells l (o, evaluated a.program cells e))) (callee-slots os es (all_rest (λ x. is_proper x ≡ true) e es proper))
+      stored-join a.grid is.setting.ladder (passed_to a.grid.sharp a.program cells o e own) (passed_each a.grid.sharp a.program cells os es own)
+      (to-formed a.grid.sharp a.program is.terrain cells each e (all_first (λ x. is_proper x ≡ true) e es proper) own o) (each-formed a.grid.sharp a.program is.terrain cells each own os es (all_rest (λ x. is_proper x ≡ true) e es proper))
+      ∙ ap (λ x. slot_join x (stored a.grid (passed_each a.grid.sharp a.program cells os es own))) (to-slot o e)
+      ∙ ap (slot_join (formal_slot a cells l (o, evaluated a.grid.sharp a.program cells e))) (callee-slots os es (all_rest (λ x. is_proper x ≡ true) e es proper))
 
-  call-slots : (call : ℕ) (es : List Expression) → All (λ e. is_proper e ≡ true) es → stored a.ladder (passed_value a call es s own) ≡ joins (callee_slot a cells (map (evaluated a.program cells) es) l) (row a.told.calls call)
+  call-slots : (call : ℕ) (es : List Expression) → All (λ e. is_proper e ≡ true) es → stored a.grid (passed_value a call es s own) ≡ joins (callee_slot a cells (map (evaluated a.grid.sharp a.program cells) es) l) (row a.told.calls call)
   call-slots call es proper =
-      stored-joined a.ladder is.setting.ladder (λ f. passed_each a.program cells (formals_of a.program f) es own) (row a.told.calls call)
-      (λ k d low. each-formed a.program is.terrain cells each own (formals_of a.program (get_or (row a.told.calls call) k d)) es proper)
-      ∙ joins-same (λ f. stored a.ladder (passed_each a.program cells (formals_of a.program f) es own)) (callee_slot a cells (map (evaluated a.program cells) es) l) (λ f. callee-slots (formals_of a.program f) es proper) (row a.told.calls call)
+      stored-joined a.grid is.setting.ladder (λ f. passed_each a.grid.sharp a.program cells (formals_of a.program f) es own) (row a.told.calls call)
+      (λ k d low. each-formed a.grid.sharp a.program is.terrain cells each own (formals_of a.program (get_or (row a.told.calls call) k d)) es proper)
+      ∙ joins-same (λ f. stored a.grid (passed_each a.grid.sharp a.program cells (formals_of a.program f) es own)) (callee_slot a cells (map (evaluated a.grid.sharp a.program cells) es) l) (λ f. callee-slots (formals_of a.program f) es proper) (row a.told.calls call)
 
 pub passed-row : (a : Analysed) → ∥ IsAnalysed a ∥₁ → (call : ℕ) (es : List Expression) (s old : Store) (l : ℕ) (mid new : Slot) (xs : List Evaluated) (fs : List ℕ) → list_all is_proper es ≡ true → call_defines a call l ≡ true
-    → xs ≡ map (evaluated a.program (known_in_regions (scene_of a) s)) es → fs ≡ row a.told.calls call
+    → xs ≡ map (evaluated a.grid.sharp a.program (known_in_regions (scene_of a) s)) es → fs ≡ row a.told.calls call
     → mid ≡ cond (is_summary a.program a.told (cell_of (setting_of a) l)) (old l) Nothing → new ≡ slot_join mid (joins (callee_slot a (known_in_regions (scene_of a) s) xs l) fs)
     → new ≡ applied (calling a call es s) old l
 passed-row a whole call es s old l mid new xs fs proper at made called h g =
     let is = scene_lawful a whole in
     let seen = known_in_regions (scene_of a) s in
-    placed-either a.ladder (call_defines a call) (λ k. is_summary a.program a.told (cell_of (setting_of a) k)) (λ t k. passed_value a call es t (cell_of (setting_of a) k)) s old l new at
+    placed-either a.grid (call_defines a call) (λ k. is_summary a.program a.told (cell_of (setting_of a) k)) (λ t k. passed_value a call es t (cell_of (setting_of a) k)) s old l new at
     (g ∙ ap (λ x. slot_join x (joins (callee_slot a seen xs l) fs)) h
     ∙ ap (λ ys. slot_join (cond (is_summary a.program a.told (cell_of (setting_of a) l)) (old l) Nothing) (joins (callee_slot a seen ys l) fs)) made
-    ∙ ap (λ gs. slot_join (cond (is_summary a.program a.told (cell_of (setting_of a) l)) (old l) Nothing) (joins (callee_slot a seen (map (evaluated a.program seen) es) l) gs)) called
+    ∙ ap (λ gs. slot_join (cond (is_summary a.program a.told (cell_of (setting_of a) l)) (old l) Nothing) (joins (callee_slot a seen (map (evaluated a.grid.sharp a.program seen) es) l) gs)) called
     ∙ ap (slot_join (cond (is_summary a.program a.told (cell_of (setting_of a) l)) (old l) Nothing)) (sym (call-slots a is s l call es (AllPass-from_list_all is_proper es proper))))

@@ -46,7 +46,7 @@ use Rattle.sp_effect_scene.proofs.AllLaws.{put-closed}
 use Rattle.sp_effect_scene.proofs.Closed.{in-all, under-cells}
 use Rattle.sp_effect_entry.specs.Given.{every_in}
 use Rattle.sp_effect_entry.proofs.JoinedLaws.{joined-formed, joined-monotone, joined-within, joined-agrees}
-use Rattle.sp_effect_entry.proofs.GivenLaws.{every_in-formed, of_numbers-formed}
+use Rattle.sp_effect_entry.proofs.GivenLaws.{every_in-formed, of_span-formed}
 use Rattle.sp_effect_scene.specs.Analysed.{element_of}
 use Rattle.sp_effect_call.specs.Copied.{has_cell, cells_in, copied_from}
 use Rattle.sp_effect_call.specs.Copies.{result_defines, result_keeps, result_found}
@@ -62,52 +62,52 @@ use Rattle.sp_ir.specs.Programs.{Lowered}
 
 -- ---- one result
 
-module _ (p : Lowered) (to : Lvalue) (q c : ℕ) where
+module _ (sharp : Bool) (p : Lowered) (to : Lvalue) (q c : ℕ) where
   written-formed : IsFormedKnown (every_written p to c)
-  written-formed = of_numbers-formed (every_in (written_as (lvalue_type to) (element_of p c))) (every_in-formed (written_as (lvalue_type to) (element_of p c)))
+  written-formed = of_span-formed (every_in (written_as (lvalue_type to) (element_of p c))) (every_in-formed (written_as (lvalue_type to) (element_of p c)))
 
   module _ (cells : ℕ → Known) (each : AreFormed cells) where
-    as-formed : (r : ℕ) (t : CType) → IsFormedKnown (result_as p cells to q c r t)
-    as-formed r t = chosen IsFormedKnown (is_scalar (lvalue_type to) && is_scalar t) (converted (lvalue_type to) (cells r)) (cond (same_struct (struct_in (lvalue_type to)) t) (copied_from p cells q c r) (every_written p to c))
-        (λ e. converted-formed (lvalue_type to) (cells r) (each r))
+    as-formed : (r : ℕ) (t : CType) → IsFormedKnown (result_as sharp p cells to q c r t)
+    as-formed r t = chosen IsFormedKnown (is_scalar (lvalue_type to) && is_scalar t) (converted sharp (lvalue_type to) (cells r)) (cond (same_struct (struct_in (lvalue_type to)) t) (copied_from p cells q c r) (every_written p to c))
+        (λ e. converted-formed sharp (lvalue_type to) (cells r) (each r))
         (λ e. chosen IsFormedKnown (same_struct (struct_in (lvalue_type to)) t) (copied_from p cells q c r) (every_written p to c) (λ k. from-formed p cells each q c r) (λ k. written-formed))
 
-    typed-formed : (r : ℕ) (of : Option CType) → IsFormedKnown (result_typed p cells to q c r of)
+    typed-formed : (r : ℕ) (of : Option CType) → IsFormedKnown (result_typed sharp p cells to q c r of)
     typed-formed r None = written-formed
     typed-formed r (Some t) = as-formed r t
 
-    result-formed : (o : Option ℕ) → IsFormedKnown (result_value p cells to q c o)
+    result-formed : (o : Option ℕ) → IsFormedKnown (result_value sharp p cells to q c o)
     result-formed None = written-formed
     result-formed (Some o) = typed-formed ((terrain_of p).root o) (type_in (slice_get p.objects o))
 
   module _ (s t : ℕ → Known) (each : AreFormed s) (below : AreBelow s t) where
-    as-monotone : (r : ℕ) (of : CType) → known_le (result_as p s to q c r of) (result_as p t to q c r of) ≡ true
+    as-monotone : (r : ℕ) (of : CType) → known_le (result_as sharp p s to q c r of) (result_as sharp p t to q c r of) ≡ true
     as-monotone r of = same_choice (is_scalar (lvalue_type to) && is_scalar of)
-        (converted (lvalue_type to) (s r)) (cond (same_struct (struct_in (lvalue_type to)) of) (copied_from p s q c r) (every_written p to c))
-        (converted (lvalue_type to) (t r)) (cond (same_struct (struct_in (lvalue_type to)) of) (copied_from p t q c r) (every_written p to c))
-        (converted-monotone (lvalue_type to) (s r) (t r) (each r) (below r))
+        (converted sharp (lvalue_type to) (s r)) (cond (same_struct (struct_in (lvalue_type to)) of) (copied_from p s q c r) (every_written p to c))
+        (converted sharp (lvalue_type to) (t r)) (cond (same_struct (struct_in (lvalue_type to)) of) (copied_from p t q c r) (every_written p to c))
+        (converted-monotone sharp (lvalue_type to) (s r) (t r) (each r) (below r))
         (same_choice (same_struct (struct_in (lvalue_type to)) of) (copied_from p s q c r) (every_written p to c) (copied_from p t q c r) (every_written p to c) (from-monotone p s t below q c r) (known-refl (every_written p to c)))
 
-    typed-monotone : (r : ℕ) (of : Option CType) → known_le (result_typed p s to q c r of) (result_typed p t to q c r of) ≡ true
+    typed-monotone : (r : ℕ) (of : Option CType) → known_le (result_typed sharp p s to q c r of) (result_typed sharp p t to q c r of) ≡ true
     typed-monotone r None = known-refl (every_written p to c)
     typed-monotone r (Some of) = as-monotone r of
 
-    result-monotone : (o : Option ℕ) → known_le (result_value p s to q c o) (result_value p t to q c o) ≡ true
+    result-monotone : (o : Option ℕ) → known_le (result_value sharp p s to q c o) (result_value sharp p t to q c o) ≡ true
     result-monotone None = known-refl (every_written p to c)
     result-monotone (Some o) = typed-monotone ((terrain_of p).root o) (type_in (slice_get p.objects o))
 
   -- it hangs on the cells of the result
   module _ (s t : ℕ → Known) where
-    as-agrees : (r : ℕ) (of : CType) → s r ≡ t r → ((b : ℕ) → reaches p r b ≡ true → s b ≡ t b) → result_as p s to q c r of ≡ result_as p t to q c r of
+    as-agrees : (r : ℕ) (of : CType) → s r ≡ t r → ((b : ℕ) → reaches p r b ≡ true → s b ≡ t b) → result_as sharp p s to q c r of ≡ result_as sharp p t to q c r of
     as-agrees r of here under =
-        ap (λ v. cond (is_scalar (lvalue_type to) && is_scalar of) (converted (lvalue_type to) v) (cond (same_struct (struct_in (lvalue_type to)) of) (copied_from p s q c r) (every_written p to c))) here
-        ∙ ap (λ v. cond (is_scalar (lvalue_type to) && is_scalar of) (converted (lvalue_type to) (t r)) (cond (same_struct (struct_in (lvalue_type to)) of) v (every_written p to c))) (from-agrees p s t q c r under)
+        ap (λ v. cond (is_scalar (lvalue_type to) && is_scalar of) (converted sharp (lvalue_type to) v) (cond (same_struct (struct_in (lvalue_type to)) of) (copied_from p s q c r) (every_written p to c))) here
+        ∙ ap (λ v. cond (is_scalar (lvalue_type to) && is_scalar of) (converted sharp (lvalue_type to) (t r)) (cond (same_struct (struct_in (lvalue_type to)) of) v (every_written p to c))) (from-agrees p s t q c r under)
 
-    typed-agrees : (r : ℕ) (of : Option CType) → s r ≡ t r → ((b : ℕ) → reaches p r b ≡ true → s b ≡ t b) → result_typed p s to q c r of ≡ result_typed p t to q c r of
+    typed-agrees : (r : ℕ) (of : Option CType) → s r ≡ t r → ((b : ℕ) → reaches p r b ≡ true → s b ≡ t b) → result_typed sharp p s to q c r of ≡ result_typed sharp p t to q c r of
     typed-agrees r None here under = refl
     typed-agrees r (Some of) here under = as-agrees r of here under
 
-    result-agrees : (o : Option ℕ) → ((r : ℕ) → (is_cell_at p.regions r ≡ true → has r (result_cells p o) ≡ true) → s r ≡ t r) → result_value p s to q c o ≡ result_value p t to q c o
+    result-agrees : (o : Option ℕ) → ((r : ℕ) → (is_cell_at p.regions r ≡ true → has r (result_cells p o) ≡ true) → s r ≡ t r) → result_value sharp p s to q c o ≡ result_value sharp p t to q c o
     result-agrees None same = refl
     result-agrees (Some o) same = typed-agrees ((terrain_of p).root o) (type_in (slice_get p.objects o))
         (same ((terrain_of p).root o) (λ cell. in-cells p ((terrain_of p).root o) ((terrain_of p).root o) (reaches-self p ((terrain_of p).root o) cell)))
@@ -220,18 +220,18 @@ module _ (a : Analysed) (whole : IsAnalysed a) (n call : ℕ) (to : Lvalue) (is 
       same-within None of h = absurd (false≢true h)
       same-within (Some k) of h = struct-within k of h
 
-      as-within : Within (Points a c) (result_as a.program (cells top) to q c r t).targets
-      as-within = chosen (λ (v : Known). Within (Points a c) v.targets) (is_scalar (lvalue_type to) && is_scalar t) (converted (lvalue_type to) (cells top r))
+      as-within : Within (Points a c) (result_as a.grid.sharp a.program (cells top) to q c r t).targets
+      as-within = chosen (λ (v : Known). Within (Points a c) v.targets) (is_scalar (lvalue_type to) && is_scalar t) (converted a.grid.sharp (lvalue_type to) (cells top r))
           (cond (same_struct (struct_in (lvalue_type to)) t) (copied_from a.program (cells top) q c r) (every_written a.program to c))
-          (λ e. within-more (Among (cond (keeps_targets (lvalue_type to)) (u r) [])) (Points a c) (scalar-closed e) (converted (lvalue_type to) (cells top r)).targets (converted-within (lvalue_type to) (u r) (cells top r) (top_inside r)))
+          (λ e. within-more (Among (cond (keeps_targets (lvalue_type to)) (u r) [])) (Points a c) (scalar-closed e) (converted a.grid.sharp (lvalue_type to) (cells top r)).targets (converted-within a.grid.sharp (lvalue_type to) (u r) (cells top r) (top_inside r)))
           (λ e. chosen (λ (v : Known). Within (Points a c) v.targets) (same_struct (struct_in (lvalue_type to)) t) (copied_from a.program (cells top) q c r) (every_written a.program to c)
           (λ h. same-within (struct_in (lvalue_type to)) refl h) (λ h. tt))
 
-    typed-within : (o : ℕ) → result_of a.program f ≡ Some o → (of : Option CType) → type_in (slice_get a.program.objects o) ≡ of → Within (Points a c) (result_typed a.program (cells top) to q c (g.root o) of).targets
+    typed-within : (o : ℕ) → result_of a.program f ≡ Some o → (of : Option CType) → type_in (slice_get a.program.objects o) ≡ of → Within (Points a c) (result_typed a.grid.sharp a.program (cells top) to q c (g.root o) of).targets
     typed-within o result None e = tt
     typed-within o result (Some t) e = as-within o t result e
 
-    result-within : (o : Option ℕ) → result_of a.program f ≡ o → Within (Points a c) (result_value a.program (cells top) to q c o).targets
+    result-within : (o : Option ℕ) → result_of a.program f ≡ o → Within (Points a c) (result_value a.grid.sharp a.program (cells top) to q c o).targets
     result-within None e = tt
     result-within (Some o) e = typed-within o e (type_in (slice_get a.program.objects o)) refl
 
@@ -243,16 +243,16 @@ module _ (a : Analysed) (whole : IsAnalysed a) (n call : ℕ) (to : Lvalue) (is 
 
   the_value : IsLeafValue a to (return_uses a call (Some to)) (results_value a call to)
   the_value = record {
-    formed = λ s q c. joined-formed (λ f. result_value a.program (cells s) to q c (result_of a.program f)) (row a.told.calls call)
-        (λ k d low. result-formed a.program to q c (cells s) (cells-formed (setting_of a) scene.setting s) (result_of a.program (get_or (row a.told.calls call) k d)));
-    rises = λ s t q c below. joined-monotone (λ f. result_value a.program (cells s) to q c (result_of a.program f)) (λ f. result_value a.program (cells t) to q c (result_of a.program f)) (row a.told.calls call)
-        (λ k d low. result-monotone a.program to q c (cells s) (cells t) (cells-formed (setting_of a) scene.setting s) (cells-monotone (setting_of a) scene.setting s t below) (result_of a.program (get_or (row a.told.calls call) k d)));
-    within = λ r c m accepts h. joined-within (Points a c) (λ f. result_value a.program (cells top) to (region_under g to r) c (result_of a.program f)) (row a.told.calls call)
-        (each-member (λ f. Within (Points a c) (result_value a.program (cells top) to (region_under g to r) c (result_of a.program f)).targets) (row a.told.calls call)
+    formed = λ s q c. joined-formed (λ f. result_value a.grid.sharp a.program (cells s) to q c (result_of a.program f)) (row a.told.calls call)
+        (λ k d low. result-formed a.grid.sharp a.program to q c (cells s) (cells-formed (setting_of a) scene.setting s) (result_of a.program (get_or (row a.told.calls call) k d)));
+    rises = λ s t q c below. joined-monotone (λ f. result_value a.grid.sharp a.program (cells s) to q c (result_of a.program f)) (λ f. result_value a.grid.sharp a.program (cells t) to q c (result_of a.program f)) (row a.told.calls call)
+        (λ k d low. result-monotone a.grid.sharp a.program to q c (cells s) (cells t) (cells-formed (setting_of a) scene.setting s) (cells-monotone (setting_of a) scene.setting s t below) (result_of a.program (get_or (row a.told.calls call) k d)));
+    within = λ r c m accepts h. joined-within (Points a c) (λ f. result_value a.grid.sharp a.program (cells top) to (region_under g to r) c (result_of a.program f)) (row a.told.calls call)
+        (each-member (λ f. Within (Points a c) (result_value a.grid.sharp a.program (cells top) to (region_under g to r) c (result_of a.program f)).targets) (row a.told.calls call)
         (λ f k. result-within (region_under g to r) c (under-cells g u to r m accepts) h f ((whole.calls.exact call f).0 k) (result_of a.program f) refl));
-    agree = λ s t q c under agree. joined-agrees (λ f. result_value a.program (cells s) to q c (result_of a.program f)) (λ f. result_value a.program (cells t) to q c (result_of a.program f)) (row a.told.calls call)
-        (each-member (λ f. result_value a.program (cells s) to q c (result_of a.program f) ≡ result_value a.program (cells t) to q c (result_of a.program f)) (row a.told.calls call)
-        (λ f k. result-agrees a.program to q c (cells s) (cells t) (result_of a.program f) (result_alike s t agree f k)));
+    agree = λ s t q c under agree. joined-agrees (λ f. result_value a.grid.sharp a.program (cells s) to q c (result_of a.program f)) (λ f. result_value a.grid.sharp a.program (cells t) to q c (result_of a.program f)) (row a.told.calls call)
+        (each-member (λ f. result_value a.grid.sharp a.program (cells s) to q c (result_of a.program f) ≡ result_value a.grid.sharp a.program (cells t) to q c (result_of a.program f)) (row a.told.calls call)
+        (λ f k. result-agrees a.grid.sharp a.program to q c (cells s) (cells t) (result_of a.program f) (result_alike s t agree f k)));
   }
 
   returned_to : IsLawful (setting_of a) (result_defines a (Some to)) (return_uses a call (Some to)) (returning a call (Some to))

@@ -141,12 +141,12 @@ kept-none a to l h = ap not (sym h)
 
 -- what is stored from where the bottom is, is the row
 pub stored-row : (a : Analysed) (to : Lvalue) (value : Store → ℕ → ℕ → Known) (slots : ℕ → ℕ → Slot) (s old : Store) (l : ℕ) (new : Slot) (cells : List ℕ) (xs : List Target) (v : Known)
-    → cells ≡ locations_of a.program → v ≡ bottom_of (terrain_of a.program) (cells_at cells s) to → xs ≡ v.targets → ((q c : ℕ) → slots q c ≡ stored a.ladder (fitted (scene_of a) c (value s q c)))
+    → cells ≡ locations_of a.program → v ≡ bottom_of a.grid.sharp (terrain_of a.program) (cells_at cells s) to → xs ≡ v.targets → ((q c : ℕ) → slots q c ≡ stored a.grid (fitted (scene_of a) c (value s q c)))
     → new ≡ applied (stored_leaves a to slots xs) old l → new ≡ applied (storing_leaves a to value s) old l
 stored-row a to value slots s old l new cells xs v same bottom targets made is =
-    is ∙ ap (λ y. slot_join (kept_if (kept_by (leaf_destination a to) xs l) (old l)) y) (joins-same (λ (x : Target). bottom_slot a to slots l x.region) (λ (x : Target). bottom_slot a to (λ q c. stored a.ladder (fitted (scene_of a) c (value s q c))) l x.region)
+    is ∙ ap (λ y. slot_join (kept_if (kept_by (leaf_destination a to) xs l) (old l)) y) (joins-same (λ (x : Target). bottom_slot a to slots l x.region) (λ (x : Target). bottom_slot a to (λ q c. stored a.grid (fitted (scene_of a) c (value s q c))) l x.region)
     (λ x. ap (λ y. cond ((leaf_destination a to).hits x.region l) y Nothing) (made (region_under (terrain_of a.program) to x.region) (cell_of (setting_of a) l))) xs)
-    ∙ ap (λ ys. applied (stored_leaves a to (λ q c. stored a.ladder (fitted (scene_of a) c (value s q c))) ys) old l) (targets ∙ ap (λ (k : Known). k.targets) (bottom ∙ ap (λ cs. bottom_of (terrain_of a.program) (cells_at cs s) to) same))
+    ∙ ap (λ ys. applied (stored_leaves a to (λ q c. stored a.grid (fitted (scene_of a) c (value s q c))) ys) old l) (targets ∙ ap (λ (k : Known). k.targets) (bottom ∙ ap (λ cs. bottom_of a.grid.sharp (terrain_of a.program) (cells_at cs s) to) same))
 
 -- keeping twice is keeping once
 kept-twice : (b : Bool) (x : Slot) → kept_if b (kept_if b x) ≡ kept_if b x

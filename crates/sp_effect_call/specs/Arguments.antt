@@ -1,5 +1,5 @@
 -- Arguments as the code has them, and the slots that it joins: each argument is evaluated once.
-use Rattle.std.specs.Prelude.{ℕ, cond, List, Option, Some, None, slice_get}
+use Rattle.std.specs.Prelude.{ℕ, Bool, cond, List, Option, Some, None, slice_get}
 use Rattle.std.specs.List.{zip}
 use Rattle.sp_types.specs.Types.{CType}
 use Rattle.sp_ir.specs.Commands.{Expression, Lvalue}
@@ -28,33 +28,33 @@ pub record Evaluated : Type 0 where
   pub struct_number : Option ℕ
   pub known : Known
 
-abbrev pub evaluated_as : Terrain → (ℕ → Known) → Expression → Option (ℕ × Lvalue) → Evaluated
-evaluated_as g cells e None = record { struct_number = None; known = value_of g cells e }
-evaluated_as g cells e (Some s) = record {
+abbrev pub evaluated_as : Bool → Terrain → (ℕ → Known) → Expression → Option (ℕ × Lvalue) → Evaluated
+evaluated_as sharp g cells e None = record { struct_number = None; known = value_of sharp g cells e }
+evaluated_as sharp g cells e (Some s) = record {
   struct_number = Some s.0;
-  known = matched g s.1 (address_of g cells s.1);
+  known = matched g s.1 (address_of sharp g cells s.1);
 }
 
-abbrev pub evaluated : Lowered → (ℕ → Known) → Expression → Evaluated
-evaluated p cells e = evaluated_as (terrain_of p) cells e (as_struct e)
+abbrev pub evaluated : Bool → Lowered → (ℕ → Known) → Expression → Evaluated
+evaluated sharp p cells e = evaluated_as sharp (terrain_of p) cells e (as_struct e)
 
 -- ---- what the cell c of a formal of this type, whose root is q, gets
 
-abbrev pub given_as : Lowered → (ℕ → Known) → CType → ℕ → ℕ → Known → Option ℕ → Known
-given_as p cells t q c v None = cond (is_scalar t) (converted t v) (every_value p c)
-given_as p cells t q c v (Some n) =
+abbrev pub given_as : Bool → Lowered → (ℕ → Known) → CType → ℕ → ℕ → Known → Option ℕ → Known
+given_as sharp p cells t q c v None = cond (is_scalar t) (converted sharp t v) (every_value p c)
+given_as sharp p cells t q c v (Some n) =
     cond (is_of (Aggregate n) t) (copied_at p cells q c v) (every_value p c)
 
-abbrev pub given_typed : Lowered → (ℕ → Known) → Option CType → ℕ → ℕ → Evaluated → Known
-given_typed p cells None q c x = every_value p c
-given_typed p cells (Some t) q c x = given_as p cells t q c x.known x.struct_number
+abbrev pub given_typed : Bool → Lowered → (ℕ → Known) → Option CType → ℕ → ℕ → Evaluated → Known
+given_typed sharp p cells None q c x = every_value p c
+given_typed sharp p cells (Some t) q c x = given_as sharp p cells t q c x.known x.struct_number
 
 -- ---- as slots
 
 -- what a location gets where it is a cell of the formal
 abbrev pub formal_slot : Analysed → (ℕ → Known) → ℕ → ℕ × Evaluated → Slot
 formal_slot a cells l x = cond (formal_has a.program x.0 (cell_of (setting_of a) l))
-    (stored a.ladder (given_typed a.program cells (type_in (slice_get a.program.objects x.0))
+    (stored a.grid (given_typed a.grid.sharp a.program cells (type_in (slice_get a.program.objects x.0))
     ((terrain_of a.program).root x.0) (cell_of (setting_of a) l) x.1)) Nothing
 
 -- from the argument at its place, where there is one

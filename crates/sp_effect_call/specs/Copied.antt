@@ -1,7 +1,7 @@
 -- Copying cell by cell: what goes from the cells of one region to those of another (C90 6.3.16.1).
 use Rattle.std.specs.Prelude.{ℕ, nat_eq, Bool, cond, List, Option, Some, None, filter}
 use Rattle.sp_types.specs.Types.{CType}
-use Rattle.sp_interval.specs.declared.interval.Interval.TheVariants.{Empty}
+use Rattle.sp_numbers.specs.Numbers.{plain}
 use Rattle.sp_ir.specs.Commands.{Lvalue}
 use Rattle.sp_ir.specs.Programs.{Lowered}
 use Rattle.sp_ir.specs.Terrain.{terrain_of}
@@ -27,7 +27,7 @@ has_cell p (Some t) q c = cond (is_scalar t) (nat_eq q c) (reaches p q c)
 -- what the cell c gets from the cell b: all that b holds; of bytes every number, and the targets
 abbrev pub copied_cell : Lowered → (ℕ → Known) → ℕ → ℕ → Known
 copied_cell p cells c b = record {
-  numbers = cond ((terrain_of p).collapsed b) (every_in (element_of p c)) (cells b).numbers;
+  numbers = cond ((terrain_of p).collapsed b) (plain (every_in (element_of p c))) (cells b).numbers;
   targets = (cells b).targets;
 }
 
@@ -49,6 +49,6 @@ copied_at p cells q c v = known_join
     (gathered (λ x. copied_from p cells q c x.region) v.targets)
 
 -- from an lvalue
-abbrev pub copied_of : Lowered → (ℕ → Known) → ℕ → ℕ → Lvalue → Known
-copied_of p cells q c l =
-    copied_at p cells q c (matched (terrain_of p) l (address_of (terrain_of p) cells l))
+abbrev pub copied_of : Bool → Lowered → (ℕ → Known) → ℕ → ℕ → Lvalue → Known
+copied_of sharp p cells q c l =
+    copied_at p cells q c (matched (terrain_of p) l (address_of sharp (terrain_of p) cells l))

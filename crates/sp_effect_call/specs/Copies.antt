@@ -19,7 +19,7 @@ use Rattle.sp_effect_call.specs.Copied.{cells_in, has_cell, copied_of}
 -- a store at a target goes to each cell of the lvalue there
 abbrev pub leaf_destination : Analysed → Lvalue → Destination
 leaf_destination a to = record {
-  targets = λ s. (bottom_of (terrain_of a.program) (known_in_regions (scene_of a) s) to).targets;
+  targets = λ s. (bottom_of a.grid.sharp (terrain_of a.program) (known_in_regions (scene_of a) s) to).targets;
   hits = λ r k. bottom_accepts (terrain_of a.program) to r
       && has_cell a.program (Some (lvalue_type to)) (region_under (terrain_of a.program) to r)
       (cell_of (setting_of a) k);
@@ -30,7 +30,7 @@ leaf_destination a to = record {
 -- what a cell gets hangs on the region that is stored to and on the cell, which holds it as one of its
 -- type
 abbrev pub storing_leaves : Analysed → Lvalue → (Store → ℕ → ℕ → Known) → Store → Row
-storing_leaves a to value = storing a.ladder (leaf_destination a to)
+storing_leaves a to value = storing a.grid (leaf_destination a to)
     (λ s r l. fitted (scene_of a) (cell_of (setting_of a) l)
     (value s (region_under (terrain_of a.program) to r) (cell_of (setting_of a) l)))
 
@@ -43,7 +43,7 @@ keeps_leaves a to l = may_hit (leaf_destination a to) l
 
 abbrev pub copying : Analysed → Lvalue → Lvalue → Store → Row
 copying a to from = storing_leaves a to
-    (λ s q c. copied_of a.program (known_in_regions (scene_of a) s) q c from)
+    (λ s q c. copied_of a.grid.sharp a.program (known_in_regions (scene_of a) s) q c from)
 
 -- the cells that are read of a struct: those under it, and what finds it
 abbrev pub struct_reads : Analysed → Lvalue → List ℕ

@@ -6,6 +6,7 @@ use Rattle.sp_ir.specs.Commands.{Expression, Lvalue, lvalue_type}
 use Rattle.sp_ir.specs.Programs.{Lowered}
 use Rattle.sp_ir.specs.Terrain.{terrain_of}
 use Rattle.sp_ir.specs.Formed.{is_integer, is_pointer}
+use Rattle.sp_numbers.specs.Numbers.{plain}
 use Rattle.sp_value.specs.declared.targets.Target.{Target}
 use Rattle.sp_value.specs.Known.{Known, of_numbers}
 use Rattle.sp_points_rules.specs.Leaves.{leaf_points}
@@ -21,7 +22,7 @@ written_as t of = cond (is_integer t || is_pointer t) (option_map (λ u. t) of) 
 
 -- every number of the type with which a cell of `to` is written
 abbrev pub every_written : Lowered → Lvalue → ℕ → Known
-every_written p to c = of_numbers (every_in (written_as (lvalue_type to) (element_of p c)))
+every_written p to c = of_numbers (plain (every_in (written_as (lvalue_type to) (element_of p c))))
 
 -- Every number; where it is a pointer, the site. Bytes get the site where they are the region q of
 -- the lvalue itself, to which all leaves go, or where a leaf of the type that stands there is a

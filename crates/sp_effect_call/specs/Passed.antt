@@ -31,32 +31,32 @@ use Rattle.sp_effect_call.specs.Copies.{arguments_read}
 
 -- what the cell c of a formal of this type, whose root is q, gets from an argument: converted where
 -- both are scalars, cell by cell where both are one struct, else every number
-abbrev pub passed_as : Lowered → (ℕ → Known) → CType → ℕ → ℕ → Expression → Option (ℕ × Lvalue) → Known
-passed_as p cells t q c e None =
-    cond (is_scalar t) (converted t (value_of (terrain_of p) cells e)) (every_value p c)
-passed_as p cells t q c e (Some s) =
-    cond (is_of (Aggregate s.0) t) (copied_of p cells q c s.1) (every_value p c)
+abbrev pub passed_as : Bool → Lowered → (ℕ → Known) → CType → ℕ → ℕ → Expression → Option (ℕ × Lvalue) → Known
+passed_as sharp p cells t q c e None =
+    cond (is_scalar t) (converted sharp t (value_of sharp (terrain_of p) cells e)) (every_value p c)
+passed_as sharp p cells t q c e (Some s) =
+    cond (is_of (Aggregate s.0) t) (copied_of sharp p cells q c s.1) (every_value p c)
 
-abbrev pub passed_typed : Lowered → (ℕ → Known) → Option CType → ℕ → ℕ → Expression → Known
-passed_typed p cells None q c e = every_value p c
-passed_typed p cells (Some t) q c e = passed_as p cells t q c e (as_struct e)
+abbrev pub passed_typed : Bool → Lowered → (ℕ → Known) → Option CType → ℕ → ℕ → Expression → Known
+passed_typed sharp p cells None q c e = every_value p c
+passed_typed sharp p cells (Some t) q c e = passed_as sharp p cells t q c e (as_struct e)
 
 -- the cells of a formal
 abbrev pub formal_has : Lowered → ℕ → ℕ → Bool
 formal_has p o c = has_cell p (type_in (slice_get p.objects o)) ((terrain_of p).root o) c
 
 -- what it gives to them
-abbrev pub passed_to : Lowered → (ℕ → Known) → ℕ → Expression → ℕ → Known
-passed_to p cells o e c = cond (formal_has p o c)
-    (passed_typed p cells (type_in (slice_get p.objects o)) ((terrain_of p).root o) c e) none
+abbrev pub passed_to : Bool → Lowered → (ℕ → Known) → ℕ → Expression → ℕ → Known
+passed_to sharp p cells o e c = cond (formal_has p o c)
+    (passed_typed sharp p cells (type_in (slice_get p.objects o)) ((terrain_of p).root o) c e) none
 
 -- ---- all arguments, to one function and to all
 
-abbrev pub passed_each : Lowered → (ℕ → Known) → List ℕ → List Expression → ℕ → Known
-passed_each p cells [] es c = none
-passed_each p cells (o ∷ os) [] c = none
-passed_each p cells (o ∷ os) (e ∷ es) c =
-    known_join (passed_to p cells o e c) (passed_each p cells os es c)
+abbrev pub passed_each : Bool → Lowered → (ℕ → Known) → List ℕ → List Expression → ℕ → Known
+passed_each sharp p cells [] es c = none
+passed_each sharp p cells (o ∷ os) [] c = none
+passed_each sharp p cells (o ∷ os) (e ∷ es) c =
+    known_join (passed_to sharp p cells o e c) (passed_each sharp p cells os es c)
 
 -- the formals of a function
 abbrev pub formals_of : Lowered → ℕ → List ℕ
@@ -64,7 +64,7 @@ formals_of p f = formals_in (slice_get p.functions f)
 
 abbrev pub passed_value : Analysed → ℕ → List Expression → Store → ℕ → Known
 passed_value a call args s c = joined
-    (λ f. passed_each a.program (known_in_regions (scene_of a) s) (formals_of a.program f) args c)
+    (λ f. passed_each a.grid.sharp a.program (known_in_regions (scene_of a) s) (formals_of a.program f) args c)
     (row a.told.calls call)
 
 -- ---- the row
@@ -77,7 +77,7 @@ call_defines a call l = list_any
 
 -- summaries join
 abbrev pub calling : Analysed → ℕ → List Expression → Store → Row
-calling a call args = placing a.ladder (call_defines a call)
+calling a call args = placing a.grid (call_defines a call)
     (λ l. is_summary a.program a.told (cell_of (setting_of a) l))
     (λ s l. passed_value a call args s (cell_of (setting_of a) l))
 

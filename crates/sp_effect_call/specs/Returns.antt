@@ -29,26 +29,26 @@ same_struct (Some n) t = is_of (Aggregate n) t
 
 -- what the cell c under q gets from a result of a type, whose root is r: converted where both are
 -- scalars, cell by cell where both are one struct, else every number
-abbrev pub result_as : Lowered → (ℕ → Known) → Lvalue → ℕ → ℕ → ℕ → CType → Known
-result_as p cells to q c r t =
-    cond (is_scalar (lvalue_type to) && is_scalar t) (converted (lvalue_type to) (cells r))
+abbrev pub result_as : Bool → Lowered → (ℕ → Known) → Lvalue → ℕ → ℕ → ℕ → CType → Known
+result_as sharp p cells to q c r t =
+    cond (is_scalar (lvalue_type to) && is_scalar t) (converted sharp (lvalue_type to) (cells r))
     (cond (same_struct (struct_in (lvalue_type to)) t) (copied_from p cells q c r)
     (every_written p to c))
 
-abbrev pub result_typed : Lowered → (ℕ → Known) → Lvalue → ℕ → ℕ → ℕ → Option CType → Known
-result_typed p cells to q c r None = every_written p to c
-result_typed p cells to q c r (Some t) = result_as p cells to q c r t
+abbrev pub result_typed : Bool → Lowered → (ℕ → Known) → Lvalue → ℕ → ℕ → ℕ → Option CType → Known
+result_typed sharp p cells to q c r None = every_written p to c
+result_typed sharp p cells to q c r (Some t) = result_as sharp p cells to q c r t
 
 -- of a function without a result every number
-abbrev pub result_value : Lowered → (ℕ → Known) → Lvalue → ℕ → ℕ → Option ℕ → Known
-result_value p cells to q c None = every_written p to c
-result_value p cells to q c (Some o) =
-    result_typed p cells to q c ((terrain_of p).root o) (type_in (slice_get p.objects o))
+abbrev pub result_value : Bool → Lowered → (ℕ → Known) → Lvalue → ℕ → ℕ → Option ℕ → Known
+result_value sharp p cells to q c None = every_written p to c
+result_value sharp p cells to q c (Some o) =
+    result_typed sharp p cells to q c ((terrain_of p).root o) (type_in (slice_get p.objects o))
 
 -- what the functions of a call give
 abbrev pub results_value : Analysed → ℕ → Lvalue → Store → ℕ → ℕ → Known
 results_value a call to s q c = joined
-    (λ f. result_value a.program (known_in_regions (scene_of a) s) to q c (result_of a.program f))
+    (λ f. result_value a.grid.sharp a.program (known_in_regions (scene_of a) s) to q c (result_of a.program f))
     (row a.told.calls call)
 
 abbrev pub returning : Analysed → ℕ → Option Lvalue → Store → Row

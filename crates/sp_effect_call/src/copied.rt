@@ -36,7 +36,7 @@ pub fn held_at<V: View>(
             let held = held.copy(alloc)?;
             Ok(held)
         }
-        Some(Slot::Nothing) | None => Ok(Value::of_numbers(alloc, Interval::Empty)),
+        Some(Slot::Nothing) | None => Ok(Value::none(alloc)),
     }
 }
 
@@ -55,7 +55,7 @@ fn copied_cell<V: View>(
     let held = held_at(alloc, analysis, view, from)?;
     if analysis.lowered.is_collapsed(from) {
         let every = every_value(alloc, &analysis.lowered, cell);
-        let bytes = held.with_numbers(alloc, every.numbers)?;
+        let bytes = held.with_numbers(alloc, every.numbers())?;
         Ok(bytes)
     } else {
         Ok(held)
@@ -91,7 +91,7 @@ impl<V: View> Tells for FromCells<'_, V> {
             let value = copied_cell(alloc, self.analysis, self.view, self.cell, number)?;
             Ok(value)
         } else {
-            Ok(Value::of_numbers(alloc, Interval::Empty))
+            Ok(Value::none(alloc))
         }
     }
 }
@@ -144,7 +144,7 @@ pub fn copied_from<V: View>(
             let value = copied_cell(alloc, analysis, view, cell, other)?;
             Ok(value)
         }
-        None => Ok(Value::of_numbers(alloc, Interval::Empty)),
+        None => Ok(Value::none(alloc)),
     }
 }
 
@@ -197,7 +197,7 @@ pub(crate) fn copied_at<V: View>(
         cell,
     };
     let copied = gather(alloc, address, &each)?;
-    match address.numbers {
+    match address.span {
         Interval::Empty => Ok(copied),
         Interval::Of { .. } => {
             let every = every_value(alloc, &analysis.lowered, cell);
@@ -217,12 +217,13 @@ pub(crate) fn read_from<V: View>(
     requires { is_proper_lvalue (lvalue_of from.now) ≡ true }
     ensures { IfOk result (λ value. known_of value ≡
         matched (terrain_of (lowered_of analysis.now.lowered)) (lvalue_of from.now)
-        (address_of (terrain_of (lowered_of analysis.now.lowered))
+        (address_of analysis.now.grid.sharp (terrain_of (lowered_of analysis.now.lowered))
         (known_in_regions (scene_of (analysed_of analysis.now)) (V.store view.now))
         (lvalue_of from.now))) }
 {
     let lowered = &analysis.lowered;
-    let address = address_of(alloc, lowered, &analysis.locations, from, view)?;
+    let sharp = analysis.grid.sharp;
+    let address = address_of(alloc, lowered, &analysis.locations, sharp, from, view)?;
     let address = matched(alloc, lowered, from, address)?;
     Ok(address)
 }

@@ -37,7 +37,7 @@ impl<V: View> Gives for FromStruct<'_, V> {
     ghost use Rattle.sp_effect_scene.specs.View.{analysed_of};
     ghost use Rattle.sp_effect_call.specs.Copied.{copied_at};
 
-    ghost slots = { λ s q c. stored s.analysis.now.ladder
+    ghost slots = { λ s q c. stored s.analysis.now.grid
         (fitted (scene_of (analysed_of s.analysis.now)) c
         (copied_at (lowered_of s.analysis.now.lowered)
         (known_in_regions (scene_of (analysed_of s.analysis.now)) (V.store s.view.now)) q c
@@ -46,7 +46,7 @@ impl<V: View> Gives for FromStruct<'_, V> {
     fn slot(&self, alloc: Global, region: u32, cell: u32) -> Result<Slot, AllocError> {
         let copied = copied_at(alloc, self.analysis, self.view, region, cell, self.from)?;
         let value = self.analysis.fitted(alloc, cell, copied)?;
-        let slot = value.stored(alloc, &self.analysis.ladder)?;
+        let slot = value.stored(alloc, &self.analysis.grid)?;
         Ok(slot)
     }
 }
@@ -73,7 +73,15 @@ pub fn copy<V: View>(
         applied (copying (analysed_of analysis.now) (lvalue_of to.now) (lvalue_of from.now)
         (V.store view.now)) (store_of places.now row.old) l) }
 {
-    let bottom = bottom_of(alloc, &analysis.lowered, &analysis.locations, to, view)?;
+    let sharp = analysis.grid.sharp;
+    let bottom = bottom_of(
+        alloc,
+        &analysis.lowered,
+        &analysis.locations,
+        sharp,
+        to,
+        view,
+    )?;
     let source = read_from(alloc, analysis, view, from)?;
     let gives = FromStruct {
         analysis,

@@ -4,7 +4,6 @@ ghost use Rattle.sp_value.specs.Known.{Known};
 ghost use Rattle.sp_value.specs.Slots.{known_of};
 ghost use Rattle.sp_effect_entry.specs.Joined.{joined};
 
-use sp_interval::Interval;
 use sp_value::Value;
 use std::alloc::{AllocError, Global};
 
@@ -25,7 +24,7 @@ pub(crate) fn join_told<T: Tells>(
 ) -> Result<Value, AllocError>
     ensures { IfOk result (λ value. known_of value ≡ joined (T.told each.now) numbers.now) }
 {
-    let mut sum = Value::of_numbers(alloc, Interval::Empty);
+    let mut sum = Value::none(alloc);
     for number in numbers {
         let value = each.tell(alloc, *number)?;
         sum = sum.joined(alloc, &value)?;

@@ -61,7 +61,7 @@ pub(crate) fn every_written(alloc: Global, lowered: &Lowered, to: &Lvalue, cell:
     ensures { known_of result ≡ every_written (lowered_of lowered.now) (lvalue_of to.now) cell }
 {
     let element = element_at(lowered, cell);
-    Value::of_numbers(alloc, every_in(written_as(to.of(), element)))
+    Value::of_span(alloc, every_in(written_as(to.of(), element)))
 }
 
 // ---- from outside
@@ -111,7 +111,7 @@ impl Gives for FromOutside<'_> {
     ghost use Rattle.sp_effect_scene.specs.View.{analysed_of};
     ghost use Rattle.sp_effect_call.specs.Outside.{foreign_leaf};
 
-    ghost slots = { λ s q c. stored s.analysis.now.ladder
+    ghost slots = { λ s q c. stored s.analysis.now.grid
         (fitted (scene_of (analysed_of s.analysis.now)) c
         (foreign_leaf (analysed_of s.analysis.now).program (lvalue_of s.to.now) s.site.now.targets q
         c)) };
@@ -119,7 +119,7 @@ impl Gives for FromOutside<'_> {
     fn slot(&self, alloc: Global, region: u32, cell: u32) -> Result<Slot, AllocError> {
         let foreign = foreign_as(alloc, self.analysis, self.to.of(), region, cell, self.site)?;
         let value = self.analysis.fitted(alloc, cell, foreign)?;
-        let slot = value.stored(alloc, &self.analysis.ladder)?;
+        let slot = value.stored(alloc, &self.analysis.grid)?;
         Ok(slot)
     }
 }
@@ -144,7 +144,15 @@ fn come_to<V: View>(
         applied (from_outside (analysed_of analysis.now) (Some (lvalue_of to.now)) site
         (V.store view.now)) (store_of places.now row.old) l) }
 {
-    let bottom = bottom_of(alloc, &analysis.lowered, &analysis.locations, to, view)?;
+    let sharp = analysis.grid.sharp;
+    let bottom = bottom_of(
+        alloc,
+        &analysis.lowered,
+        &analysis.locations,
+        sharp,
+        to,
+        view,
+    )?;
     let site = site_value(alloc, &analysis.lowered, site)?;
     let gives = FromOutside {
         analysis,

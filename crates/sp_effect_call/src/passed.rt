@@ -51,11 +51,19 @@ fn value_in<V: View>(
 ) -> Result<Value, AllocError>
     requires { is_proper (expression_of expr.now) ≡ true }
     ensures { IfOk result (λ value. known_of value ≡
-        value_of (terrain_of (lowered_of analysis.now.lowered))
+        value_of analysis.now.grid.sharp (terrain_of (lowered_of analysis.now.lowered))
         (known_in_regions (scene_of (analysed_of analysis.now)) (V.store view.now))
         (expression_of expr.now)) }
 {
-    let value = evaluate(alloc, &analysis.lowered, &analysis.locations, expr, view)?;
+    let sharp = analysis.grid.sharp;
+    let value = evaluate(
+        alloc,
+        &analysis.lowered,
+        &analysis.locations,
+        sharp,
+        expr,
+        view,
+    )?;
     Ok(value)
 }
 
@@ -68,7 +76,7 @@ fn evaluated<V: View>(
 ) -> Result<Argument, AllocError>
     requires { is_proper (expression_of expr.now) ≡ true }
     ensures { IfOk result (λ argument. evaluated_of argument ≡
-        evaluated (lowered_of analysis.now.lowered)
+        evaluated analysis.now.grid.sharp (lowered_of analysis.now.lowered)
         (known_in_regions (scene_of (analysed_of analysis.now)) (V.store view.now))
         (expression_of expr.now)) }
 {
@@ -99,7 +107,7 @@ fn all_evaluated<V: View>(
 ) -> Result<Vec<Argument>, AllocError>
     requires { list_all is_proper (map expression_of args.now) ≡ true }
     ensures { IfOk result (λ arguments. map evaluated_of arguments.items ≡
-        map (evaluated (lowered_of analysis.now.lowered)
+        map (evaluated analysis.now.grid.sharp (lowered_of analysis.now.lowered)
         (known_in_regions (scene_of (analysed_of analysis.now)) (V.store view.now)))
         (map expression_of args.now)) }
 {
@@ -124,7 +132,7 @@ fn given_typed<V: View>(
     argument: &Argument,
 ) -> Result<Value, AllocError>
     ensures { IfOk result (λ value. known_of value ≡
-        given_typed (lowered_of analysis.now.lowered)
+        given_typed analysis.now.grid.sharp (lowered_of analysis.now.lowered)
         (known_in_regions (scene_of (analysed_of analysis.now)) (V.store view.now))
         (option_map (λ t. type_of t.now) of.entry) root cell (evaluated_of argument.now)) }
 {
@@ -142,7 +150,7 @@ fn given_typed<V: View>(
         }
         None => {
             if is_scalar(of) {
-                let value = converted(alloc, of, &argument.value)?;
+                let value = converted(alloc, analysis.grid.sharp, of, &argument.value)?;
                 Ok(value)
             } else {
                 Ok(every_value(alloc, &analysis.lowered, cell))
@@ -171,15 +179,15 @@ impl<V: View> Gives for FromArgument<'_, V> {
     ghost use Rattle.sp_effect_call.specs.Arguments.{given_typed};
     ghost use Rattle.sp_effect_call.specs.ArgumentView.{evaluated_of};
 
-    ghost slots = { λ s q c. stored s.analysis.now.ladder
-        (given_typed (lowered_of s.analysis.now.lowered)
+    ghost slots = { λ s q c. stored s.analysis.now.grid
+        (given_typed s.analysis.now.grid.sharp (lowered_of s.analysis.now.lowered)
         (known_in_regions (scene_of (analysed_of s.analysis.now)) (V.store s.view.now))
         (option_map (λ t. type_of t.now) s.of) q c (evaluated_of s.argument.now)) };
 
     fn slot(&self, alloc: Global, region: u32, cell: u32) -> Result<Slot, AllocError> {
         let (of, argument) = (self.of, self.argument);
         let value = given_typed(alloc, self.analysis, self.view, of, region, cell, argument)?;
-        let slot = value.stored(alloc, &self.analysis.ladder)?;
+        let slot = value.stored(alloc, &self.analysis.grid)?;
         Ok(slot)
     }
 }

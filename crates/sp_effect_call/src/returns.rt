@@ -56,13 +56,14 @@ fn result_as<V: View>(
     root: u32,
     of: &CType,
 ) -> Result<Value, AllocError>
-    ensures { IfOk result (λ value. known_of value ≡ result_as (lowered_of analysis.now.lowered)
+    ensures { IfOk result (λ value. known_of value ≡ result_as analysis.now.grid.sharp
+        (lowered_of analysis.now.lowered)
         (known_in_regions (scene_of (analysed_of analysis.now)) (V.store view.now))
         (lvalue_of to.now) region cell root (type_of of.now)) }
 {
     if is_scalar(to.of()) && is_scalar(of) {
         let held = held_at(alloc, analysis, view, root)?;
-        let value = converted(alloc, to.of(), &held)?;
+        let value = converted(alloc, analysis.grid.sharp, to.of(), &held)?;
         Ok(value)
     } else if same_struct(to, of) {
         let value = copied_from(alloc, analysis, view, region, cell, root)?;
@@ -82,7 +83,8 @@ fn result_value<V: View>(
     cell: u32,
     object: Option<u32>,
 ) -> Result<Value, AllocError>
-    ensures { IfOk result (λ value. known_of value ≡ result_value (lowered_of analysis.now.lowered)
+    ensures { IfOk result (λ value. known_of value ≡ result_value analysis.now.grid.sharp
+        (lowered_of analysis.now.lowered)
         (known_in_regions (scene_of (analysed_of analysis.now)) (V.store view.now))
         (lvalue_of to.now) region cell object) }
 {
@@ -119,7 +121,7 @@ impl<V: View> Tells for OfFunctions<'_, V> {
     ghost use Rattle.sp_effect_scene.specs.View.{analysed_of};
     ghost use Rattle.sp_effect_call.specs.Returns.{result_value};
 
-    ghost told = { λ s f. result_value (lowered_of s.analysis.now.lowered)
+    ghost told = { λ s f. result_value s.analysis.now.grid.sharp (lowered_of s.analysis.now.lowered)
         (known_in_regions (scene_of (analysed_of s.analysis.now)) (V.store s.view.now))
         (lvalue_of s.to.now) s.region s.cell
         (result_of (lowered_of s.analysis.now.lowered) f) };
@@ -159,7 +161,7 @@ impl<V: View> Gives for FromFunctions<'_, V> {
     ghost use Rattle.sp_effect_scene.specs.View.{analysed_of};
     ghost use Rattle.sp_effect_call.specs.Returns.{results_value};
 
-    ghost slots = { λ s q c. stored s.analysis.now.ladder
+    ghost slots = { λ s q c. stored s.analysis.now.grid
         (fitted (scene_of (analysed_of s.analysis.now)) c (results_value
         (analysed_of s.analysis.now) s.call (lvalue_of s.to.now) (V.store s.view.now) q c)) };
 
@@ -174,7 +176,7 @@ impl<V: View> Gives for FromFunctions<'_, V> {
         };
         let given = join_told(alloc, functions, &each)?;
         let value = self.analysis.fitted(alloc, cell, given)?;
-        let slot = value.stored(alloc, &self.analysis.ladder)?;
+        let slot = value.stored(alloc, &self.analysis.grid)?;
         Ok(slot)
     }
 }
@@ -199,7 +201,15 @@ fn give_to<V: View>(
         applied (returning (analysed_of analysis.now) call (Some (lvalue_of to.now))
         (V.store view.now)) (store_of places.now row.old) l) }
 {
-    let bottom = bottom_of(alloc, &analysis.lowered, &analysis.locations, to, view)?;
+    let sharp = analysis.grid.sharp;
+    let bottom = bottom_of(
+        alloc,
+        &analysis.lowered,
+        &analysis.locations,
+        sharp,
+        to,
+        view,
+    )?;
     let gives = FromFunctions {
         analysis,
         view,

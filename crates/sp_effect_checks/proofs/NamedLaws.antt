@@ -73,8 +73,8 @@ pub unchecked : (c : Scene) (written : ℕ → Bool) (row : Store → Row) (s : 
 unchecked c written row s = refl
 
 pub checked-applied : (c : Scene) (written : ℕ → Bool) (xs : List Access) (row : Store → Row) (s : Store) (l : ℕ) → applied (checked c written xs row s) s l
-    ≡ cond (cut_names c xs l && not (written l)) (stored c.setting.ladder (cut_by_all c (known_in_regions c s) xs l (known_in (applied (row s) s l)))) (applied (row s) s l)
-checked-applied c written xs row s l = by (cut_names c xs l && not (written l)) ((row s).keeps l) (s l) ((row s).puts l) (stored c.setting.ladder (cut_by_all c (known_in_regions c s) xs l (known_in (applied (row s) s l))))
+    ≡ cond (cut_names c xs l && not (written l)) (stored c.setting.grid (cut_by_all c (known_in_regions c s) xs l (known_in (applied (row s) s l)))) (applied (row s) s l)
+checked-applied c written xs row s l = by (cut_names c xs l && not (written l)) ((row s).keeps l) (s l) ((row s).puts l) (stored c.setting.grid (cut_by_all c (known_in_regions c s) xs l (known_in (applied (row s) s l))))
   where
     by : (b k : Bool) (old put cut : Slot) → slot_join (kept_if (not b && k) old) (cond b cut put) ≡ cond b cut (slot_join (kept_if k old) put)
     by true k old put cut = refl

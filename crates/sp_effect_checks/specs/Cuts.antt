@@ -6,6 +6,9 @@ use Rattle.sp_types.specs.Types.{CType}
 use Rattle.sp_interval.specs.declared.interval.Interval.{Interval}
 use Rattle.sp_interval.specs.declared.interval.Interval.TheVariants.{Empty, Of}
 use Rattle.sp_interval.specs.Interval.{whole, between, met, difference_of}
+use Rattle.sp_numbers.specs.declared.numbers.Numbers.{Numbers}
+use Rattle.sp_numbers.specs.Numbers.{plain}
+use Rattle.sp_numbers.specs.Conditions.{met_numbers}
 use Rattle.sp_ir.specs.Commands.{Expression, number, address, decay, read, convert, unary, binary, compare, move, distance}
 use Rattle.sp_ir.specs.Terrain.{Terrain}
 use Rattle.sp_ir.specs.Denoted.{uses_of}
@@ -27,7 +30,7 @@ use Rattle.sp_effect_checks.specs.Accesses.{Access}
 abbrev pub cutting : Setting → (ℕ → Bool) → (Store → ℕ → Known → Known) → (Store → Row) → Store → Row
 cutting a cuts value row s = record {
   keeps = λ l. not (cuts l) && (row s).keeps l;
-  puts = λ l. cond (cuts l) (stored a.ladder (value s l (known_in (applied (row s) s l)))) ((row s).puts l);
+  puts = λ l. cond (cuts l) (stored a.grid (value s l (known_in (applied (row s) s l)))) ((row s).puts l);
 }
 
 -- ---- how far an access may reach
@@ -66,7 +69,7 @@ cut_target g t back size by x = cond (g.accepts x.region t)
 -- a number is no target; a step by nothing leads nowhere
 abbrev pub cut_pointer : Terrain → CType → Bool → ℕ → Known → Known → Known
 cut_pointer g t back size by own = cond (has_numbers by)
-    (gathered (cut_target g t back size by.numbers) own.targets) none
+    (gathered (cut_target g t back size by.numbers.span) own.targets) none
 
 -- ---- the cell of the step
 
@@ -74,16 +77,23 @@ cut_pointer g t back size by own = cond (has_numbers by)
 abbrev pub way : Bool → Interval → Interval → Interval
 way back from to = cond back (difference_of from to) (difference_of to from)
 
--- the steps of a size that lead there: all where they are no whole elements
+-- The steps of a size that lead there: all where they are no whole elements. From a punned target all
+-- are given too. No access goes on there, so that this is sound and cuts less than it might.
 abbrev pub steps_from : Terrain → CType → Bool → ℕ → Target → Interval
 steps_from g t back size x = cond (g.accepts x.region t && is_whole g size x.region)
     (outward (size / g.element_size x.region) (way back x.offset (reach_in g t x))) whole
 
--- from a pointer that is nothing no step leads anywhere, nor from one that is a number
-abbrev pub cut_step : Terrain → CType → Bool → ℕ → Known → Known → Known
-cut_step g t back size from own = cond (is_none from) none
+-- those from any of the targets
+abbrev pub steps_from_any : Terrain → CType → Bool → ℕ → List Target → Numbers
+steps_from_any g t back size xs =
+    (gathered (λ x. of_numbers (plain (steps_from g t back size x))) xs).numbers
+
+-- From a pointer that is nothing no step leads anywhere, nor from one that is a number. Of the step's
+-- cell the numbers are cut, and its targets stay: of an integer that was a pointer no step is known.
+abbrev pub cut_step : Bool → Terrain → CType → Bool → ℕ → Known → Known → Known
+cut_step sharp g t back size from own = cond (is_none from) none
     (record {
-      numbers = met own.numbers (gathered (λ x. of_numbers (steps_from g t back size x)) from.targets).numbers;
+      numbers = met_numbers sharp own.numbers (steps_from_any g t back size from.targets);
       targets = own.targets;
     })
 
@@ -108,15 +118,16 @@ cut_by c cells t (number z k) l own = own
 cut_by c cells t (address p) l own = own
 cut_by c cells t (decay p) l own = own
 cut_by c cells t (read p) l own = cond (reads_cell c (read p) l)
-    (cut_pointer c.terrain t false 0 (of_numbers (exactly (pos 0))) own) own
+    (cut_pointer c.terrain t false 0 (of_numbers (plain (exactly (pos 0)))) own) own
 cut_by c cells t (convert u e) l own = own
 cut_by c cells t (unary s k e) l own = own
 cut_by c cells t (binary op k e f at) l own = own
 cut_by c cells t (compare op e f) l own = own
 cut_by c cells t (move e f back size) l own = cond (reads_cell c e l)
-    (cut_pointer c.terrain t back size (value_of c.terrain cells f) own)
+    (cut_pointer c.terrain t back size (value_of c.setting.grid.sharp c.terrain cells f) own)
     (cond (reads_cell c f l)
-    (cut_step c.terrain t back size (value_of c.terrain cells e) own) own)
+    (cut_step c.setting.grid.sharp c.terrain t back size
+    (value_of c.setting.grid.sharp c.terrain cells e) own) own)
 cut_by c cells t (distance e f size) l own = own
 
 -- whether an access may cut a location

@@ -2,6 +2,7 @@
 use Rattle.std.specs.Prelude.{◌≡◌, ◌||◌, ◌&&◌, ℕ, Bool, true, cond, not, List, []}
 use Rattle.std.specs.List.{list_all}
 use Rattle.sp_lattice.specs.System.{has}
+use Rattle.sp_numbers.specs.Numbers.{is_settled}
 use Rattle.sp_value.specs.Known.{Known, known_le}
 use Rattle.sp_value.specs.FormedLaws.{IsFormedKnown}
 use Rattle.sp_eval.specs.Evaluation.{is_proper}
@@ -14,11 +15,13 @@ use Rattle.sp_effect_assign.specs.Scene.{Scene, IsScene, known_in_regions}
 use Rattle.sp_effect_checks.specs.Accesses.{Access}
 use Rattle.sp_effect_checks.specs.Cuts.{cutting, cut_by_all, cut_names, accessed_reads, checked}
 
--- what a cut owes: it makes formed values, no greater than what it is given; lesser stores and lesser
--- values give a lesser one; and it hangs on the uses
+-- What a cut owes: it makes formed values; no greater than what it is given, where that has the normal
+-- form of the mode, as all that is stored; lesser stores and lesser values give a lesser one; and it
+-- hangs on the uses.
 pub record IsLawfulCut (a : Setting) (uses : ℕ → Bool) (value : Store → ℕ → Known → Known) : Type 0 where
   pub formed : (s : Store) (l : ℕ) (v : Known) → IsFormedKnown v → IsFormedKnown (value s l v)
-  pub within : (s : Store) (l : ℕ) (v : Known) → IsFormedKnown v → known_le (value s l v) v ≡ true
+  pub within : (s : Store) (l : ℕ) (v : Known) → IsFormedKnown v
+      → is_settled a.grid.sharp v.numbers ≡ true → known_le (value s l v) v ≡ true
   pub monotone : (s t : Store) (l : ℕ) (v w : Known) → BelowStore a s t → UnderCeiling a t
       → IsFormedKnown v → known_le v w ≡ true → known_le (value s l v) (value t l w) ≡ true
   pub agree : (s t : Store) (l : ℕ) (v : Known) → UnderCeiling a s → UnderCeiling a t
@@ -45,6 +48,6 @@ pub record CheckLaws : Type 0 where
   pub checked_applied : (c : Scene) (written : ℕ → Bool) (xs : List Access) (row : Store → Row)
       (s : Store) (l : ℕ) → applied (checked c written xs row s) s l
       ≡ cond (cut_names c xs l && not (written l))
-      (stored c.setting.ladder
+      (stored c.setting.grid
       (cut_by_all c (known_in_regions c s) xs l (known_in (applied (row s) s l))))
       (applied (row s) s l)

@@ -4,15 +4,17 @@ ghost use Rattle.sp_types.specs.View.{type_of};
 ghost use Rattle.sp_interval.specs.Interval.{IsFormed, whole};
 ghost use Rattle.sp_ir.specs.Programs.{lowered_of};
 ghost use Rattle.sp_ir.specs.Terrain.{terrain_of};
-ghost use Rattle.sp_value.specs.Known.{of_numbers, gathered, are_formed, is_ordered_within, is_proper_within, every_offset, every_size};
+ghost use Rattle.sp_numbers.specs.Numbers.{no_numbers, plain};
+ghost use Rattle.sp_value.specs.Known.{of_numbers, are_formed, is_ordered_within, is_proper_within, every_offset, every_size};
 ghost use Rattle.sp_value.specs.Parts.{known_of_part, is_formed_part};
 ghost use Rattle.sp_value.specs.Slots.{known_of};
-ghost use Rattle.sp_effect_checks.specs.Cuts.{need, reach_in, is_whole, placed_at, cut_pointer, steps_from, cut_step};
+ghost use Rattle.sp_effect_checks.specs.Cuts.{need, reach_in, is_whole, placed_at, cut_pointer, steps_from, steps_from_any, cut_step};
 
-use crate::steps::{met, outward, shifted, times};
+use crate::steps::{among, met, outward, shifted, times};
 use sp_interval::Interval;
 use sp_ir::Lowered;
 use sp_lattice::Lattice;
+use sp_numbers::Numbers;
 use sp_types::CType;
 use sp_value::{AtTarget, Part, Target, Value, gather};
 use std::alloc::{AllocError, Global};
@@ -22,6 +24,13 @@ const LOWEST: i128 = -(1 << 63);
 
 const HIGHEST: i128 = (1 << 64) - 1;
 
+// No number.
+fn nothing() -> Numbers
+    ensures { result ≡ no_numbers }
+{
+    Numbers::of(false, Interval::Empty)
+}
+
 // The target at other offsets; without an offset it goes.
 fn placed_at(target: Target, offset: Interval) -> Part
     requires offset { is_ordered_within every_offset offset ≡ true }
@@ -30,7 +39,7 @@ fn placed_at(target: Target, offset: Interval) -> Part
     ensures formed { is_formed_part result ≡ true }
 {
     match offset {
-        Interval::Empty => Part::Numbers(Interval::Empty),
+        Interval::Empty => Part::Numbers(nothing()),
         Interval::Of { .. } => Part::One(Target {
             region: target.region,
             offset,
@@ -113,9 +122,9 @@ impl Step<'_> {
     fn steps(&self, targets: &[Target]) -> Interval
         requires some { 0 < self.now.size }
         requires formed { are_formed targets.now ≡ true }
-        ensures { result ≡ (gathered (λ x. of_numbers (steps_from
+        ensures { plain result ≡ steps_from_any
             (terrain_of (lowered_of self.now.lowered.now)) (type_of self.now.of.now)
-            self.now.back self.now.size x)) targets.now).numbers }
+            self.now.back self.now.size targets.now }
     {
         let mut steps = Interval::Empty;
         for target in targets {
@@ -135,10 +144,10 @@ impl Step<'_> {
         requires formed { is_ordered_within whole by ≡ true }
         ensures { IfOk result (λ left. known_of left ≡ cut_pointer
             (terrain_of (lowered_of self.now.lowered.now)) (type_of self.now.of.now)
-            self.now.back self.now.size (of_numbers by) (known_of own.now)) }
+            self.now.back self.now.size (of_numbers (plain by)) (known_of own.now)) }
     {
         if by.leq(&Interval::Empty) {
-            Ok(Value::of_numbers(alloc, Interval::Empty))
+            Ok(Value::of_numbers(alloc, nothing()))
         } else {
             let cutting = Cutting { step: self, by };
             gather(alloc, own, &cutting)
@@ -149,19 +158,20 @@ impl Step<'_> {
     pub(crate) fn cut_step(
         &self,
         alloc: Global,
+        sharp: bool,
         from: &Value,
         own: &Value,
     ) -> Result<Value, AllocError>
         requires some { 0 < self.now.size }
-        ensures { IfOk result (λ left. known_of left ≡ cut_step
+        ensures { IfOk result (λ left. known_of left ≡ cut_step sharp
             (terrain_of (lowered_of self.now.lowered.now)) (type_of self.now.of.now)
             self.now.back self.now.size (known_of from.now) (known_of own.now)) }
     {
         if from.is_none() {
-            Ok(Value::of_numbers(alloc, Interval::Empty))
+            Ok(Value::of_numbers(alloc, nothing()))
         } else {
             let steps = self.steps(from.targets.as_slice());
-            own.with_numbers(alloc, met(own.numbers, steps))
+            own.with_numbers(alloc, among(sharp, own.numbers(), steps))
         }
     }
 }
@@ -189,7 +199,7 @@ impl AtTarget for Cutting<'_> {
         let step = self.step;
         let element = element_size(step.lowered, target.region);
         if !step.lowered.accepts(target.region, step.of) {
-            Ok(Part::Numbers(Interval::Empty))
+            Ok(Part::Numbers(nothing()))
         } else if step.size % element == 0 {
             let by = times(self.by, step.size / element);
             let from = shifted(!step.back, step.reach(target), by);

@@ -1,10 +1,13 @@
 //! Steps on exact intervals, whose bounds may lie past those of all that is stored.
 ghost use Rattle.std.specs.Prelude.{◌≡◌, ◌≤◌, ◌<◌, ◌^◌};
 ghost use Rattle.sp_interval.specs.Interval.{IsFormed, met};
+ghost use Rattle.sp_numbers.specs.Numbers.{plain, IsFormedNumbers};
+ghost use Rattle.sp_numbers.specs.Conditions.{met_numbers};
 ghost use Rattle.sp_eval.specs.Wide.{IsWide, IsWider};
 ghost use Rattle.sp_eval.specs.Numbers.{times_size, shifted, outward};
 
 use sp_interval::Interval;
+use sp_numbers::Numbers;
 
 /// Each number times a size in bytes.
 pub(crate) fn times(numbers: Interval, size: u64) -> Interval
@@ -85,4 +88,14 @@ pub(crate) fn met(left: Interval, right: Interval) -> Interval
         ) => Interval::between(lo.max(least), hi.min(most)),
         _ => Interval::Empty,
     }
+}
+
+/// The numbers that lie among those of an exact interval.
+pub(crate) fn among(sharp: bool, numbers: Numbers, exact: Interval) -> Numbers
+    requires { IsFormedNumbers numbers }
+    ensures value { result ≡ met_numbers sharp numbers (plain exact) }
+    ensures formed { IsFormedNumbers result }
+{
+    let within = Numbers::of(false, met(numbers.span, exact));
+    numbers.meet(within, sharp)
 }

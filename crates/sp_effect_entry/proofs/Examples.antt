@@ -16,6 +16,7 @@ use Rattle.sp_ir.specs.Commands.{Leaf, number, address, direct}
 use Rattle.sp_ir.specs.Regions.{Region}
 use Rattle.sp_ir.specs.Programs.{Lowered, Object}
 use Rattle.sp_value.specs.declared.slots.Slot.TheVariants.{Nothing}
+use Rattle.sp_numbers.specs.Numbers.{plain}
 use Rattle.sp_value.specs.Known.{Known, of_numbers, of_target, every_size}
 use Rattle.sp_value.specs.Slots.{known_in, slot_of}
 use Rattle.sp_eval.specs.Numbers.{exactly}
@@ -75,7 +76,7 @@ abbrev points : List ℤ
 points = neg_ℤ (pos 9223372036854775808) ∷ neg_ℤ (pos 2147483648) ∷ pos 0 ∷ pos 1 ∷ pos 4 ∷ pos 5 ∷ pos 7 ∷ pos 255 ∷ pos 2147483647 ∷ pos 9223372036854775807 ∷ pos 18446744073709551615 ∷ []
 
 abbrev analysed_with : Bool → Analysed
-analysed_with recursive = record { program = program; told = told_with recursive; ladder = points }
+analysed_with recursive = record { program = program; told = told_with recursive; grid = record { ladder = points; sharp = false } }
 
 abbrev analysed : Analysed
 analysed = analysed_with false
@@ -103,7 +104,7 @@ static_no_summary = refl
 -- ---- the start
 
 abbrev seven : Store
-seven l = slot_of (of_numbers (exactly (pos 7)))
+seven l = slot_of (of_numbers (plain (exactly (pos 7))))
 
 abbrev nowhere : Store
 nowhere l = Nothing
@@ -111,27 +112,27 @@ nowhere l = Nothing
 abbrev started : ℕ → Known
 started l = known_in (applied (starting analysed nowhere) seven l)
 
-start_g : started 0 ≡ of_numbers (exactly (pos 7))
+start_g : started 0 ≡ of_numbers (plain (exactly (pos 7)))
 start_g = refl
 
 start_p : started 1 ≡ of_target (record { region = 0; offset = exactly (pos 0); size = exactly (pos 1) })
 start_p = refl
 
 -- the join of 1, of 5, and of 0 for the third element; what it held is lost
-start_a : started 2 ≡ of_numbers (Of (pos 0) (pos 5))
+start_a : started 2 ≡ of_numbers (plain (Of (pos 0) (pos 5)))
 start_a = refl
 
-start_x : started 3 ≡ of_numbers (Of (pos 0) (pos 255))
+start_x : started 3 ≡ of_numbers (plain (Of (pos 0) (pos 255)))
 start_x = refl
 
-start_argc : started 4 ≡ of_numbers (Of (neg_ℤ (pos 2147483648)) (pos 2147483647))
+start_argc : started 4 ≡ of_numbers (plain (Of (neg_ℤ (pos 2147483648)) (pos 2147483647)))
 start_argc = refl
 
 start_argv : started 5 ≡ of_target (record { region = 12; offset = exactly (pos 0); size = every_size })
 start_argv = refl
 
 -- local cells stay
-start_i : started 6 ≡ of_numbers (exactly (pos 7))
+start_i : started 6 ≡ of_numbers (plain (exactly (pos 7)))
 start_i = refl
 
 -- ---- the entry
@@ -139,20 +140,20 @@ start_i = refl
 abbrev entered : Bool → ℕ → Known
 entered recursive l = known_in (applied (entering (analysed_with recursive) 0 nowhere) seven l)
 
-entry_i : entered false 6 ≡ of_numbers (Of (neg_ℤ (pos 2147483648)) (pos 2147483647))
+entry_i : entered false 6 ≡ of_numbers (plain (Of (neg_ℤ (pos 2147483648)) (pos 2147483647)))
 entry_i = refl
 
-entry_result : entered false 8 ≡ of_numbers (Of (neg_ℤ (pos 2147483648)) (pos 2147483647))
+entry_result : entered false 8 ≡ of_numbers (plain (Of (neg_ℤ (pos 2147483648)) (pos 2147483647)))
 entry_result = refl
 
 -- formals and summaries stay
-entry_argc : entered false 4 ≡ of_numbers (exactly (pos 7))
+entry_argc : entered false 4 ≡ of_numbers (plain (exactly (pos 7)))
 entry_argc = refl
 
-entry_b : entered false 7 ≡ of_numbers (exactly (pos 7))
+entry_b : entered false 7 ≡ of_numbers (plain (exactly (pos 7)))
 entry_b = refl
 
-entry_recursive : entered true 6 ≡ of_numbers (exactly (pos 7))
+entry_recursive : entered true 6 ≡ of_numbers (plain (exactly (pos 7)))
 entry_recursive = refl
 
 -- another function's entry leaves them
@@ -164,12 +165,12 @@ entry_other = refl
 abbrev initialised : Bool → ℕ → Known
 initialised recursive l = known_in (applied (initialising (analysed_with recursive) 8 (leaf 0 10 4 ∷ []) (10 ∷ []) nowhere) seven l)
 
-init_b : initialised false 7 ≡ of_numbers (Of (pos 0) (pos 4))
+init_b : initialised false 7 ≡ of_numbers (plain (Of (pos 0) (pos 4)))
 init_b = refl
 
 -- in a recursive function it joins
-init_recursive : initialised true 7 ≡ of_numbers (Of (pos 0) (pos 7))
+init_recursive : initialised true 7 ≡ of_numbers (plain (Of (pos 0) (pos 7)))
 init_recursive = refl
 
-init_i : initialised false 6 ≡ of_numbers (exactly (pos 7))
+init_i : initialised false 6 ≡ of_numbers (plain (exactly (pos 7)))
 init_i = refl

@@ -51,7 +51,7 @@ module _ (c : Scene) (is : IsScene c) where
 
   module _ (leaves : List Leaf) (proper : AreProper leaves) where
     pub leaf_value-formed : (s : Store) → All (λ leaf. IsFormedKnown (leaf_value c s leaf)) leaves
-    leaf_value-formed s k d low = value-formed c.terrain is.terrain (known_in_regions c s) (cells-formed c.setting is.setting s) (get_or leaves k d).value (proper k d low)
+    leaf_value-formed s k d low = value-formed c.setting.grid.sharp c.terrain is.terrain (known_in_regions c s) (cells-formed c.setting is.setting s) (get_or leaves k d).value (proper k d low)
 
     pub leaves-formed : (s : Store) (l : ℕ) → IsFormedKnown (leaves_at c s leaves l)
     leaves-formed s l = joined-formed (λ leaf. goes_to c.setting leaf.cell (leaf_value c s leaf) l) leaves
@@ -60,7 +60,7 @@ module _ (c : Scene) (is : IsScene c) where
     leaves-monotone : (s t : Store) (l : ℕ) → BelowStore c.setting s t → known_le (leaves_at c s leaves l) (leaves_at c t leaves l) ≡ true
     leaves-monotone s t l below = joined-monotone (λ leaf. goes_to c.setting leaf.cell (leaf_value c s leaf) l) (λ leaf. goes_to c.setting leaf.cell (leaf_value c t leaf) l) leaves
         (λ k d low. where-monotone (nat_eq (get_or leaves k d).cell (cell_of c.setting l)) (leaf_value c s (get_or leaves k d)) (leaf_value c t (get_or leaves k d))
-        (value-monotone c.terrain is.terrain (known_in_regions c s) (known_in_regions c t) (cells-formed c.setting is.setting s) (cells-monotone c.setting is.setting s t below) (get_or leaves k d).value (proper k d low)))
+        (value-monotone c.setting.grid.sharp c.terrain is.terrain (known_in_regions c s) (known_in_regions c t) (cells-formed c.setting is.setting s) (cells-monotone c.setting is.setting s t below) (get_or leaves k d).value (proper k d low)))
 
   -- each leaf's cell may point to each region of its value
   abbrev pub AreClosed : List Leaf → Type 0
@@ -73,13 +73,13 @@ module _ (c : Scene) (is : IsScene c) where
       (λ h. within-more (λ q. has q (regions_of c.terrain c.setting.points_to leaf.value) ≡ true) (Points l)
       (λ q m. subst (λ r. has q (c.setting.points_to r) ≡ true) (eqb-true leaf.cell (cell_of c.setting l) h) (closed i leaf e q m))
       (leaf_value c (ceiling c.setting) leaf).targets
-      (value-within c.terrain c.setting.points_to (known_in_regions c (ceiling c.setting)) (cells-within c.setting is.setting (ceiling c.setting) at-ceiling) leaf.value))))
+      (value-within c.setting.grid.sharp c.terrain c.setting.points_to (known_in_regions c (ceiling c.setting)) (cells-within c.setting is.setting (ceiling c.setting) at-ceiling) leaf.value))))
 
   leaves-agree : (leaves : List Leaf) (s t : Store) (l : ℕ) → UnderCeiling c.setting s → ((r : ℕ) → has r (leaf_reads c leaves) ≡ true → known_in_regions c s r ≡ known_in_regions c t r) → leaves_at c s leaves l ≡ leaves_at c t leaves l
   leaves-agree leaves s t l under same = joined-agrees (λ leaf. goes_to c.setting leaf.cell (leaf_value c s leaf) l) (λ leaf. goes_to c.setting leaf.cell (leaf_value c t leaf) l) leaves
       (all_from (λ leaf. goes_to c.setting leaf.cell (leaf_value c s leaf) l ≡ goes_to c.setting leaf.cell (leaf_value c t leaf) l) leaves
       (λ i leaf e. ap (λ v. goes_to c.setting leaf.cell v l)
-      (value-agrees c.terrain c.setting.points_to (known_in_regions c s) (known_in_regions c t) (cells-within c.setting is.setting s under) leaf.value
+      (value-agrees c.setting.grid.sharp c.terrain c.setting.points_to (known_in_regions c s) (known_in_regions c t) (cells-within c.setting is.setting s under) leaf.value
       (λ q m. same q (among-each (λ (x : Leaf). uses_of c.terrain c.setting.points_to x.value) leaves i leaf q e m)))))
 
   -- ---- both

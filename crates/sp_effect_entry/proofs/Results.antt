@@ -79,23 +79,23 @@ pub joined-twice : (old mid new x y : Slot) → mid ≡ slot_join old x → new 
 joined-twice old mid new x y h g = g ∙ ap (λ s. slot_join s y) h ∙ join-assoc old x y
 
 module _ (a : Analysed) (whole : ∥ IsAnalysed a ∥₁) (s old : Store) (k : ℕ) (new : Slot) where
-  pub entered-row : (f : ℕ) → entry_defines a f k ≡ true → new ≡ stored a.ladder (every_value a.program (cell_of (setting_of a) k)) → new ≡ applied (entering a f s) old k
-  entered-row f at is = placed-strong a.ladder (entry_defines a f) (λ l. false) (λ t l. every_value a.program (cell_of (setting_of a) l)) s old k new at refl is
+  pub entered-row : (f : ℕ) → entry_defines a f k ≡ true → new ≡ stored a.grid (every_value a.program (cell_of (setting_of a) k)) → new ≡ applied (entering a f s) old k
+  entered-row f at is = placed-strong a.grid (entry_defines a f) (λ l. false) (λ t l. every_value a.program (cell_of (setting_of a) l)) s old k new at refl is
 
-  pub started-row : (mid : Slot) → start_defines a k ≡ true → mid ≡ stored a.ladder (outside_at a.program (cell_of (setting_of a) k)) → new ≡ slot_join mid (start_slots a s a.program.objects k) → new ≡ applied (starting a s) old k
+  pub started-row : (mid : Slot) → start_defines a k ≡ true → mid ≡ stored a.grid (outside_at a.program (cell_of (setting_of a) k)) → new ≡ slot_join mid (start_slots a s a.program.objects k) → new ≡ applied (starting a s) old k
   started-row mid at h g =
       let is = scene_lawful a whole in
       let proper = whole-proper a whole in
-      placed-strong a.ladder (start_defines a) (λ l. false) (λ t l. known_join (outside_at a.program (cell_of (setting_of a) l)) (starts_at a t l)) s old k new at refl
+      placed-strong a.grid (start_defines a) (λ l. false) (λ t l. known_join (outside_at a.program (cell_of (setting_of a) l)) (starts_at a t l)) s old k new at refl
       (g ∙ ap (λ x. slot_join x (start_slots a s a.program.objects k)) h
-      ∙ ap (λ y. slot_join (stored a.ladder (outside_at a.program (cell_of (setting_of a) k))) y) (sym (start_slots-are a is s k proper))
-      ∙ sym (stored-join a.ladder is.setting.ladder (outside_at a.program (cell_of (setting_of a) k)) (starts_at a s k) (outside-formed a is (cell_of (setting_of a) k))
+      ∙ ap (λ y. slot_join (stored a.grid (outside_at a.program (cell_of (setting_of a) k))) y) (sym (start_slots-are a is s k proper))
+      ∙ sym (stored-join a.grid is.setting.ladder (outside_at a.program (cell_of (setting_of a) k)) (starts_at a s k) (outside-formed a is (cell_of (setting_of a) k))
       (starts-formed a is (λ i o e. all_at (λ x. AreProper x.start) a.program.objects proper i o e) s k)))
 
   pub initialised-row : (o : ℕ) (leaves : List Leaf) (zeros : List ℕ) (mid : Slot) → AreProper leaves → init_defines a o k ≡ true → mid ≡ cond (is_shared a o) (old k) Nothing → new ≡ slot_join mid (initial_slots a s leaves zeros k)
       → new ≡ applied (initialising a o leaves zeros s) old k
   initialised-row o leaves zeros mid proper at h g =
       let is = scene_lawful a whole in
-      placed-either a.ladder (init_defines a o) (λ l. is_shared a o) (λ t l. initial_at (scene_of a) t leaves zeros l) s old k new at
+      placed-either a.grid (init_defines a o) (λ l. is_shared a o) (λ t l. initial_at (scene_of a) t leaves zeros l) s old k new at
       (g ∙ ap (λ x. slot_join x (initial_slots a s leaves zeros k)) h
       ∙ ap (λ y. slot_join (cond (is_shared a o) (old k) Nothing) y) (sym (initial_slots-are a is s k leaves zeros proper)))

@@ -23,9 +23,9 @@ use Rattle.sp_effect_entry.proofs.Lists.{all_from}
 use Rattle.sp_effect_entry.proofs.StartLaws.{starts-proper}
 
 module _ (a : Analysed) where
-  pub worth-seen : (cells : List ℕ) (s : Store) (e : Expression) (v : Known) (slot : Slot) → cells ≡ locations_of a.program → v ≡ value_of (terrain_of a.program) (cells_at cells s) e → slot ≡ stored a.ladder v
-      → slot ≡ stored a.ladder (value_of (scene_of a).terrain (known_in_regions (scene_of a) s) e)
-  worth-seen cells s e v slot same is made = made ∙ ap (stored a.ladder) (is ∙ ap (λ cs. value_of (terrain_of a.program) (cells_at cs s) e) same)
+  pub worth-seen : (cells : List ℕ) (s : Store) (e : Expression) (v : Known) (slot : Slot) → cells ≡ locations_of a.program → v ≡ value_of a.grid.sharp (terrain_of a.program) (cells_at cells s) e → slot ≡ stored a.grid v
+      → slot ≡ stored a.grid (value_of a.grid.sharp (scene_of a).terrain (known_in_regions (scene_of a) s) e)
+  worth-seen cells s e v slot same is made = made ∙ ap (stored a.grid) (is ∙ ap (λ cs. value_of a.grid.sharp (terrain_of a.program) (cells_at cs s) e) same)
 
   -- joined at the location of a cell
   pub joined-there : (cell location l : ℕ) (slot old new : Slot) → nat_eq cell (cell_of (setting_of a) l) ≡ nat_eq l location → new ≡ slot_join old (only_at location slot l)

@@ -34,7 +34,7 @@ use Rattle.sp_effect_entry.specs.Starts.{is_outside, has_kind, formals_in, main_
 use Rattle.sp_effect_entry.specs.Laws.{AreProper}
 use Rattle.sp_effect_entry.proofs.Lists.{all_from, among-each, member-at}
 use Rattle.sp_effect_entry.proofs.JoinedLaws.{joined-formed, joined-monotone, joined-within, joined-agrees}
-use Rattle.sp_effect_entry.proofs.GivenLaws.{of_numbers-formed, every_in-formed, foreign-formed, where-formed, where-within}
+use Rattle.sp_effect_entry.proofs.GivenLaws.{of_span-formed, every_in-formed, foreign-formed, where-formed, where-within}
 use Rattle.sp_effect_entry.proofs.InitialLaws.{AreClosed, initial-formed, initial-monotone, initial-within, initial-agrees}
 
 -- the start values of a formed program are proper
@@ -61,7 +61,7 @@ module _ (a : Analysed) (is : IsScene (scene_of a)) where
 
   entry-placed : (f : ℕ) → IsLawfulPlacing (setting_of a) (λ l. false) (entry_defines a f) (λ l. false) (λ s l. every_value a.program (cell_of (setting_of a) l))
   entry-placed f = record {
-    formed = λ s l. of_numbers-formed (every_in (element_of a.program (cell_of (setting_of a) l))) (every_in-formed (element_of a.program (cell_of (setting_of a) l)));
+    formed = λ s l. of_span-formed (every_in (element_of a.program (cell_of (setting_of a) l))) (every_in-formed (element_of a.program (cell_of (setting_of a) l)));
     rises = λ s t l below under. known-refl (every_value a.program (cell_of (setting_of a) l));
     within = λ l h. tt;
     agree = λ s t l under under' same. refl;
@@ -76,7 +76,7 @@ module _ (a : Analysed) (is : IsScene (scene_of a)) where
   pub outside-formed : (r : ℕ) → IsFormedKnown (outside_at a.program r)
   outside-formed r = known_join-formed (cond (has_kind is_outside a.program r) (every_value a.program r) none)
       (cond (is_main_formal a.program r) (foreign_value (leaf_points a.program r) (element_of a.program r) (site_targets (terrain_of a.program) (start_site a.program))) none)
-      (where-formed (has_kind is_outside a.program r) (every_value a.program r) (of_numbers-formed (every_in (element_of a.program r)) (every_in-formed (element_of a.program r))))
+      (where-formed (has_kind is_outside a.program r) (every_value a.program r) (of_span-formed (every_in (element_of a.program r)) (every_in-formed (element_of a.program r))))
       (where-formed (is_main_formal a.program r) (foreign_value (leaf_points a.program r) (element_of a.program r) (site_targets (terrain_of a.program) (start_site a.program))) (foreign-formed (leaf_points a.program r) (element_of a.program r) (terrain_of a.program) (start_site a.program)))
 
   -- ---- start values

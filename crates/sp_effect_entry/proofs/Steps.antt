@@ -1,7 +1,8 @@
 -- Slots joined to a row one after another, and what they make together.
-use Rattle.std.proofs.Common.{◌≡◌, ◌≢◌, ◌⊎◌, inl, inr, ℕ, zero, suc, ◌+◌, ◌<◌, ◌≤◌, Bool, true, false, cond, not, ◌&&◌, List, [], ◌∷◌, length, get_or, take, map, refl, sym, ap, ◌∙◌, arith, ℤ}
+use Rattle.std.proofs.Common.{◌≡◌, ◌≢◌, ◌⊎◌, inl, inr, ℕ, zero, suc, ◌+◌, ◌<◌, ◌≤◌, Bool, true, false, cond, not, ◌&&◌, List, [], ◌∷◌, length, get_or, take, map, refl, sym, ap, ◌∙◌, arith}
 use Rattle.std.proofs.lemmas.Bool.{false≢true}
 use Rattle.sp_lattice.specs.System.{has}
+use Rattle.sp_numbers.specs.declared.grid.Grid.{Grid}
 use Rattle.sp_value.specs.declared.slots.Slot.{Slot}
 use Rattle.sp_value.specs.declared.slots.Slot.TheVariants.{Nothing}
 use Rattle.sp_value.specs.Known.{Known}
@@ -83,21 +84,21 @@ object_slot a s l o = initial_slots a s o.start o.zero l
 
 -- ---- rows that are placed
 
-module _ (points : List ℤ) (at weak : ℕ → Bool) (value : Store → ℕ → Known) (s old : Store) (l : ℕ) (new : Slot) where
+module _ (grid : Grid) (at weak : ℕ → Bool) (value : Store → ℕ → Known) (s old : Store) (l : ℕ) (new : Slot) where
   -- at a place that isn't weak the value replaces
-  pub placed-strong : at l ≡ true → weak l ≡ false → new ≡ stored points (value s l) → new ≡ applied (placing points at weak value s) old l
+  pub placed-strong : at l ≡ true → weak l ≡ false → new ≡ stored grid (value s l) → new ≡ applied (placing grid at weak value s) old l
   placed-strong h g is = is ∙ sym (by (at l) (weak l) h g)
     where
-      by : (b w : Bool) → b ≡ true → w ≡ false → slot_join (kept_if (not (b && not w)) (old l)) (cond b (stored points (value s l)) Nothing) ≡ stored points (value s l)
+      by : (b w : Bool) → b ≡ true → w ≡ false → slot_join (kept_if (not (b && not w)) (old l)) (cond b (stored grid (value s l)) Nothing) ≡ stored grid (value s l)
       by true false e f = refl
       by true true e f = absurd (false≢true (sym f))
       by false w e f = absurd (false≢true e)
 
   -- where some may be weak: what was there, if it is, and the value
-  pub placed-either : at l ≡ true → new ≡ slot_join (cond (weak l) (old l) Nothing) (stored points (value s l)) → new ≡ applied (placing points at weak value s) old l
+  pub placed-either : at l ≡ true → new ≡ slot_join (cond (weak l) (old l) Nothing) (stored grid (value s l)) → new ≡ applied (placing grid at weak value s) old l
   placed-either h is = is ∙ sym (by (at l) (weak l) h)
     where
-      by : (b w : Bool) → b ≡ true → slot_join (kept_if (not (b && not w)) (old l)) (cond b (stored points (value s l)) Nothing) ≡ slot_join (cond w (old l) Nothing) (stored points (value s l))
+      by : (b w : Bool) → b ≡ true → slot_join (kept_if (not (b && not w)) (old l)) (cond b (stored grid (value s l)) Nothing) ≡ slot_join (cond w (old l) Nothing) (stored grid (value s l))
       by true true e = refl
       by true false e = refl
       by false w e = absurd (false≢true e)

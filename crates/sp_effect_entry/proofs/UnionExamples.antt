@@ -5,8 +5,8 @@ use Rattle.std.proofs.Common.{◌≡◌, ℕ, true, List, [], ◌∷◌, Option,
 use Rattle.sp_types.specs.declared.ctype.IntKind.TheVariants.{Char, Int}
 use Rattle.sp_types.specs.Types.{CType, integer, structure, Struct}
 use Rattle.sp_types.specs.Types as ctype
-use Rattle.sp_interval.specs.declared.interval.Interval.TheVariants.{Empty}
 use Rattle.sp_interval.specs.Interval.{whole}
+use Rattle.sp_numbers.specs.Numbers.{plain, no_numbers}
 use Rattle.sp_ir.specs.declared.program.ObjectKind.{ObjectKind}
 use Rattle.sp_ir.specs.declared.program.ObjectKind.TheVariants.{Formal, Result, Function, Foreign}
 use Rattle.sp_ir.specs.Regions.{Region}
@@ -46,11 +46,11 @@ program = record {
 abbrev site : List Target
 site = record { region = 5; offset = exactly (pos 0); size = every_size } ∷ []
 
-passed_x : passed_at program 0 ≡ record { numbers = whole; targets = [] }
+passed_x : passed_at program 0 ≡ record { numbers = plain whole; targets = [] }
 passed_x = refl
 
-passed_y : passed_at program 1 ≡ record { numbers = whole; targets = site }
+passed_y : passed_at program 1 ≡ record { numbers = plain whole; targets = site }
 passed_y = refl
 
-passed_z : passed_at program 2 ≡ record { numbers = Empty; targets = site }
+passed_z : passed_at program 2 ≡ record { numbers = no_numbers; targets = site }
 passed_z = refl

@@ -5,6 +5,7 @@ use Rattle.sp_ir.specs.declared.program.ObjectKind.{ObjectKind}
 use Rattle.sp_ir.specs.declared.program.ObjectKind.TheVariants.{Auto, Temp, Result}
 use Rattle.sp_ir.specs.Regions.{Region}
 use Rattle.sp_ir.specs.Programs.{Lowered, Object}
+use Rattle.sp_numbers.specs.Numbers.{plain}
 use Rattle.sp_value.specs.Known.{Known, of_numbers}
 use Rattle.sp_effect_rows.specs.Rows.{Store, Row}
 use Rattle.sp_effect_rows.specs.Setting.{cell_of}
@@ -34,8 +35,8 @@ entry_defines a f l = fresh_at a.program f (slice_get a.program.regions (cell_of
 
 -- every number of a region's type
 abbrev pub every_value : Lowered → ℕ → Known
-every_value p r = of_numbers (every_in (element_of p r))
+every_value p r = of_numbers (plain (every_in (element_of p r)))
 
 abbrev pub entering : Analysed → ℕ → Store → Row
-entering a f = placing a.ladder (entry_defines a f) (λ l. false)
+entering a f = placing a.grid (entry_defines a f) (λ l. false)
     (λ s l. every_value a.program (cell_of (setting_of a) l))

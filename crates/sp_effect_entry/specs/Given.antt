@@ -4,6 +4,7 @@ use Rattle.sp_types.specs.Types.{CType, integer}
 use Rattle.sp_interval.specs.declared.interval.Interval.{Interval}
 use Rattle.sp_interval.specs.declared.interval.Interval.TheVariants.{Empty}
 use Rattle.sp_interval.specs.Interval.{whole}
+use Rattle.sp_numbers.specs.Numbers.{plain}
 use Rattle.sp_ir.specs.Terrain.{Terrain}
 use Rattle.sp_value.specs.declared.targets.Target.{Target}
 use Rattle.sp_value.specs.Known.{Known, none, of_numbers, every_size}
@@ -17,7 +18,7 @@ abbrev pub goes_to : Setting → ℕ → Known → ℕ → Known
 goes_to a cell v l = cond (nat_eq cell (cell_of a l)) v none
 
 abbrev pub zero_value : Known
-zero_value = of_numbers (exactly (pos 0))
+zero_value = of_numbers (plain (exactly (pos 0)))
 
 -- every number that an element of this type may hold; bytes may hold every one that is stored
 abbrev pub every_in : Option CType → Interval
@@ -44,6 +45,6 @@ foreign_numbers (Some t) = Empty
 -- or is bytes that hold one
 abbrev pub foreign_value : Bool → Option CType → List Target → Known
 foreign_value bytes of site = record {
-  numbers = foreign_numbers of;
+  numbers = plain (foreign_numbers of);
   targets = cond (pointer_element bytes of) site [];
 }

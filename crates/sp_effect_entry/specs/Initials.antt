@@ -17,7 +17,7 @@ use Rattle.sp_effect_entry.specs.Given.{goes_to, zero_value}
 -- ---- leaves
 
 abbrev pub leaf_value : Scene → Store → Leaf → Known
-leaf_value c s leaf = value_of c.terrain (known_in_regions c s) leaf.value
+leaf_value c s leaf = value_of c.setting.grid.sharp c.terrain (known_in_regions c s) leaf.value
 
 -- the values of the leaves that have the cell of a location
 abbrev pub leaves_at : Scene → Store → List Leaf → ℕ → Known
@@ -51,7 +51,7 @@ is_shared a o = is_recursive a.told (owner_in (slice_get a.program.objects o))
 
 -- each cell of the object is replaced, or joined where the function is recursive
 abbrev pub initialising : Analysed → ℕ → List Leaf → List ℕ → Store → Row
-initialising a o leaves zeros = placing a.ladder (init_defines a o) (λ l. is_shared a o)
+initialising a o leaves zeros = placing a.grid (init_defines a o) (λ l. is_shared a o)
     (λ s l. initial_at (scene_of a) s leaves zeros l)
 
 -- what the values read is used, and what is joined

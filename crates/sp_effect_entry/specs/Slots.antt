@@ -19,7 +19,7 @@ slot_at a slot l cell = cond (nat_eq cell (cell_of (setting_of a) l)) slot Nothi
 
 -- what is stored of a value, at the location of a cell
 abbrev pub slot_to : Analysed → ℕ → Known → ℕ → Slot
-slot_to a cell v l = slot_at a (stored a.ladder v) l cell
+slot_to a cell v l = slot_at a (stored a.grid v) l cell
 
 abbrev pub leaf_slots : Analysed → Store → List Leaf → ℕ → Slot
 leaf_slots a s leaves l = joins (λ leaf. slot_to a leaf.cell (leaf_value (scene_of a) s leaf) l) leaves

@@ -91,7 +91,7 @@ abbrev pub outside_at : Lowered → ℕ → Known
 outside_at p r = known_join (elsewhere_at p r) (passed_at p r)
 
 abbrev pub starting : Analysed → Store → Row
-starting a = placing a.ladder (start_defines a) (λ l. false)
+starting a = placing a.grid (start_defines a) (λ l. false)
     (λ s l. known_join (outside_at a.program (cell_of (setting_of a) l)) (starts_at a s l))
 
 -- it uses what its start values read

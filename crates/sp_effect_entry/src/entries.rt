@@ -19,12 +19,12 @@ use std::alloc::{AllocError, Global};
 /// Every number of a location's type, as it is stored.
 fn every_slot(alloc: Global, analysis: &Analysis, location: u32) -> Result<Slot, AllocError>
     requires { location < count (setting_of (analysed_of analysis.now)) }
-    ensures { IfOk result (λ slot. slot ≡ stored analysis.now.ladder
+    ensures { IfOk result (λ slot. slot ≡ stored analysis.now.grid
         (every_value (analysed_of analysis.now).program
         (cell_of (setting_of (analysed_of analysis.now)) location))) }
 {
     let value = every_value(alloc, &analysis.lowered, analysis.region(location));
-    let slot = value.stored(alloc, &analysis.ladder)?;
+    let slot = value.stored(alloc, &analysis.grid)?;
     Ok(slot)
 }
 

@@ -2,7 +2,7 @@
 ghost use Rattle.std.specs.Prelude.{◌≡◌, true, option_map, Some, None, IfOk};
 ghost use Rattle.sp_types.specs.View.{type_of};
 ghost use Rattle.sp_interval.specs.Interval.{whole};
-ghost use Rattle.sp_interval.specs.declared.interval.Interval.TheVariants.{Empty};
+ghost use Rattle.sp_numbers.specs.Numbers.{no_numbers};
 ghost use Rattle.sp_ir.specs.Programs.{lowered_of};
 ghost use Rattle.sp_ir.specs.Terrain.{terrain_of};
 ghost use Rattle.sp_value.specs.Known.{is_ordered_within};
@@ -32,7 +32,7 @@ const MAX_SIZE: i128 = (1 << 63) - 1;
 pub fn zero_value(alloc: Global) -> Value
     ensures { known_of result ≡ zero_value }
 {
-    Value::of_numbers(alloc, Interval::Of { lo: 0, hi: 0 })
+    Value::of_span(alloc, Interval::Of { lo: 0, hi: 0 })
 }
 
 /// Every number that an element of this type may hold.
@@ -51,15 +51,15 @@ pub fn every_value(alloc: Global, lowered: &Lowered, region: u32) -> Value
     ensures { known_of result ≡ every_value (lowered_of lowered.now) region }
 {
     match lowered.regions.get(region) {
-        Some(found) => Value::of_numbers(alloc, every_in(found.element.as_ref())),
-        None => Value::of_numbers(alloc, WHOLE),
+        Some(found) => Value::of_span(alloc, every_in(found.element.as_ref())),
+        None => Value::of_span(alloc, WHOLE),
     }
 }
 
 /// Where a site begins, of any size; nothing without one.
 pub fn site_value(alloc: Global, lowered: &Lowered, site: Option<u32>) -> Result<Value, AllocError>
     ensures { IfOk result (λ value. known_of value ≡ record {
-      numbers = Empty;
+      numbers = no_numbers;
       targets = site_targets (terrain_of (lowered_of lowered.now)) site;
     }) }
 {
@@ -75,7 +75,7 @@ pub fn site_value(alloc: Global, lowered: &Lowered, site: Option<u32>) -> Result
                 },
             },
         ),
-        None => Ok(Value::of_numbers(alloc, Interval::Empty)),
+        None => Ok(Value::none(alloc)),
     }
 }
 
@@ -85,10 +85,10 @@ pub fn foreign_type(alloc: Global, of: &CType, site: &Value) -> Result<Value, Al
         foreign_value true (Some (type_of of.now)) site.now.targets) }
 {
     match of {
-        CType::Int(_) => Ok(Value::of_numbers(alloc, every_number(of))),
-        CType::Pointer(_) => site.with_numbers(alloc, Interval::Empty),
+        CType::Int(_) => Ok(Value::of_span(alloc, every_number(of))),
+        CType::Pointer(_) => site.with_span(alloc, Interval::Empty),
         CType::Void | CType::Float(_) | CType::Array(_) | CType::Struct(_) | CType::Function(_) =>
-            Ok(Value::of_numbers(alloc, Interval::Empty)),
+            Ok(Value::none(alloc)),
     }
 }
 
@@ -98,9 +98,9 @@ pub fn foreign_bytes(alloc: Global, holds: bool, site: &Value) -> Result<Value, 
         foreign_value holds None site.now.targets) }
 {
     if holds {
-        site.with_numbers(alloc, WHOLE)
+        site.with_span(alloc, WHOLE)
     } else {
-        Ok(Value::of_numbers(alloc, WHOLE))
+        Ok(Value::of_span(alloc, WHOLE))
     }
 }
 

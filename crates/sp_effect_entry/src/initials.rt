@@ -100,7 +100,7 @@ fn join_zeros(
         slot_join (store_of places.now row.old l)
         (zero_slots (analysed_of analysis.now) cells.now l)) }
 {
-    let slot = zero_value(alloc).stored(alloc, &analysis.ladder)?;
+    let slot = zero_value(alloc).stored(alloc, &analysis.grid)?;
     join_each(alloc, analysis, cells, &slot, row, places)?;
     Ok(())
 }

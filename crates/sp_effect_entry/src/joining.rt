@@ -29,13 +29,20 @@ pub(crate) fn worth<V: View>(
     value: &Expr,
 ) -> Result<Slot, AllocError>
     requires { is_proper (expression_of value.now) ≡ true }
-    ensures { IfOk result (λ slot. slot ≡ stored analysis.now.ladder
-        (value_of (scene_of (analysed_of analysis.now)).terrain
+    ensures { IfOk result (λ slot. slot ≡ stored analysis.now.grid
+        (value_of analysis.now.grid.sharp (scene_of (analysed_of analysis.now)).terrain
         (known_in_regions (scene_of (analysed_of analysis.now)) (V.store view.now))
         (expression_of value.now))) }
 {
-    let value = evaluate(alloc, &analysis.lowered, &analysis.locations, value, view)?;
-    let slot = value.stored(alloc, &analysis.ladder)?;
+    let value = evaluate(
+        alloc,
+        &analysis.lowered,
+        &analysis.locations,
+        analysis.grid.sharp,
+        value,
+        view,
+    )?;
+    let slot = value.stored(alloc, &analysis.grid)?;
     Ok(slot)
 }
 

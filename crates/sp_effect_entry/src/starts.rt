@@ -2,7 +2,6 @@
 ghost use Rattle.std.specs.Prelude.{◌≡◌, ◌<◌, ◌^◌, ℕ, true, cond, length, map, IfOk, OnOk};
 ghost use Rattle.std.specs.List.Sorted.{IsStrictlyIncreasing};
 ghost use Rattle.sp_lattice.specs.System.{has, AllBelow};
-ghost use Rattle.sp_interval.specs.declared.interval.Interval.TheVariants.{Empty};
 ghost use Rattle.sp_ir.specs.Programs.{lowered_of, object_of};
 ghost use Rattle.sp_ir.specs.Terrain.{terrain_of};
 ghost use Rattle.sp_value.specs.Known.{none};
@@ -24,7 +23,6 @@ use crate::initials::join_initial;
 use sp_base_sets::NumberSet;
 use sp_effect_rows::put_at;
 use sp_effect_scene::Analysis;
-use sp_interval::Interval;
 use sp_ir::{Lowered, Object, ObjectKind};
 use sp_points_rules::{object_at, reaches};
 use sp_value::{Slot, Value, View};
@@ -94,7 +92,7 @@ fn elsewhere_at(alloc: Global, lowered: &Lowered, region: u32) -> Value
     if is_elsewhere(lowered, region) {
         every_value(alloc, lowered, region)
     } else {
-        Value::of_numbers(alloc, Interval::Empty)
+        Value::none(alloc)
     }
 }
 
@@ -127,7 +125,7 @@ fn passed_at(
     if is_main_formal(lowered, formals, region) {
         foreign_value(alloc, lowered, region, analysis.leaf_points(region), site)
     } else {
-        Ok(Value::of_numbers(alloc, Interval::Empty))
+        Ok(Value::none(alloc))
     }
 }
 
@@ -145,7 +143,7 @@ fn outside_slot(
         (terrain_of (analysed_of analysis.now).program)
         (start_site (analysed_of analysis.now).program) }
     requires low { location < count (setting_of (analysed_of analysis.now)) }
-    ensures { IfOk result (λ slot. slot ≡ stored analysis.now.ladder
+    ensures { IfOk result (λ slot. slot ≡ stored analysis.now.grid
         (outside_at (analysed_of analysis.now).program
         (cell_of (setting_of (analysed_of analysis.now)) location))) }
 {
@@ -153,7 +151,7 @@ fn outside_slot(
     let elsewhere = elsewhere_at(alloc, &analysis.lowered, region);
     let passed = passed_at(alloc, analysis, formals, site, region)?;
     let both = elsewhere.joined(alloc, &passed)?;
-    let slot = both.stored(alloc, &analysis.ladder)?;
+    let slot = both.stored(alloc, &analysis.grid)?;
     Ok(slot)
 }
 
@@ -175,7 +173,7 @@ fn put_outside(
     requires low { AllBelow (count (setting_of (analysed_of analysis.now))) places.now }
     requires long { length row.old ≡ length places.now }
     ensures { OnOk result ((l : ℕ) → has l places.now ≡ true → store_of places.now row.new l ≡
-        stored analysis.now.ladder (outside_at (analysed_of analysis.now).program
+        stored analysis.now.grid (outside_at (analysed_of analysis.now).program
         (cell_of (setting_of (analysed_of analysis.now)) l))) }
 {
     for place in places {
@@ -228,7 +226,7 @@ fn put_all_outside(
     requires low { AllBelow (count (setting_of (analysed_of analysis.now))) places.now }
     requires long { length row.old ≡ length places.now }
     ensures { OnOk result ((l : ℕ) → has l places.now ≡ true → store_of places.now row.new l ≡
-        stored analysis.now.ladder (outside_at (analysed_of analysis.now).program
+        stored analysis.now.grid (outside_at (analysed_of analysis.now).program
         (cell_of (setting_of (analysed_of analysis.now)) l))) }
 {
     let lowered = &analysis.lowered;

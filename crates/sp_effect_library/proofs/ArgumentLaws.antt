@@ -91,8 +91,8 @@ scalar-alone (distance e f size) h = refl
 
 pub argument-within : (a : Analysed) → IsScene (scene_of a) → (s : Store) → UnderCeiling (setting_of a) s → (args : List Expression) (k : ℕ)
     → Within (Among (regions_in (terrain_of a.program) (setting_of a).points_to (slice_get args k))) (argument_in a args k s).targets
-argument-within a is s under args k = argument-regions (terrain_of a.program) (setting_of a).points_to (value_of (terrain_of a.program) (known_in_regions (scene_of a) s)) args k
-    (λ e. value-within (terrain_of a.program) (setting_of a).points_to (known_in_regions (scene_of a) s) (cells-within (setting_of a) is.setting s under) e)
+argument-within a is s under args k = argument-regions (terrain_of a.program) (setting_of a).points_to (value_of a.grid.sharp (terrain_of a.program) (known_in_regions (scene_of a) s)) args k
+    (λ e. value-within a.grid.sharp (terrain_of a.program) (setting_of a).points_to (known_in_regions (scene_of a) s) (cells-within (setting_of a) is.setting s under) e)
 
 -- ---- of a call
 
@@ -119,11 +119,11 @@ module _ (a : Analysed) (whole : IsAnalysed a) (n : ℕ) (which : Routine) (to :
   proper-at k e at = expression-proper (table_of a.program) formed.0 e (scalar-at k e at).0
 
   pub values-formed : (s : Store) (k : ℕ) → IsFormedKnown (argument_in a args k s)
-  values-formed s k = argument-is IsFormedKnown (value_of g (cells s)) args k none-formed (λ i e at. value-formed g scene.terrain (cells s) (cells-formed (setting_of a) scene.setting s) e (proper-at i e at))
+  values-formed s k = argument-is IsFormedKnown (value_of a.grid.sharp g (cells s)) args k none-formed (λ i e at. value-formed a.grid.sharp g scene.terrain (cells s) (cells-formed (setting_of a) scene.setting s) e (proper-at i e at))
 
   pub values-rise : (s t : Store) → BelowStore (setting_of a) s t → (k : ℕ) → known_le (argument_in a args k s) (argument_in a args k t) ≡ true
-  values-rise s t below k = argument-both (λ v w. known_le v w ≡ true) (value_of g (cells s)) (value_of g (cells t)) args k refl
-      (λ i e at. value-monotone g scene.terrain (cells s) (cells t) (cells-formed (setting_of a) scene.setting s) (cells-monotone (setting_of a) scene.setting s t below) e (proper-at i e at))
+  values-rise s t below k = argument-both (λ v w. known_le v w ≡ true) (value_of a.grid.sharp g (cells s)) (value_of a.grid.sharp g (cells t)) args k refl
+      (λ i e at. value-monotone a.grid.sharp g scene.terrain (cells s) (cells t) (cells-formed (setting_of a) scene.setting s) (cells-monotone (setting_of a) scene.setting s t below) e (proper-at i e at))
 
   pub values-within : (s : Store) → UnderCeiling (setting_of a) s → (k : ℕ) → Within (Among (regions_in g u (slice_get args k))) (argument_in a args k s).targets
   values-within s under k = argument-within a scene s under args k
@@ -132,7 +132,7 @@ module _ (a : Analysed) (whole : IsAnalysed a) (n : ℕ) (which : Routine) (to :
   read-there : (k : ℕ) (e : Expression) → slice_get args k ≡ Some e → (r : ℕ) → has r (uses_of g u e) ≡ true → has r (arguments_read a args) ≡ true
   read-there k e at r m = among-each (λ x. argument_reads a x (as_struct x)) args k e r at (ap (λ o. has r (argument_reads a e o)) (scalar-alone e (scalar-at k e at).1) ∙ m)
 
-  pub values-agree : (reads : List ℕ) (s t : Store) → UnderCeiling (setting_of a) s → AgreeAt (λ l. has (cell_of (setting_of a) l) reads) s t → ((r : ℕ) → has r (arguments_read a args) ≡ true → has r reads ≡ true) → values_of a.program (cells s) args ≡ values_of a.program (cells t) args
-  values-agree reads s t under agree covers = maps-alike (value_of g (cells s)) (value_of g (cells t)) args
-      (λ i e at. value-agrees g u (cells s) (cells t) (cells-within (setting_of a) scene.setting s under) e
+  pub values-agree : (reads : List ℕ) (s t : Store) → UnderCeiling (setting_of a) s → AgreeAt (λ l. has (cell_of (setting_of a) l) reads) s t → ((r : ℕ) → has r (arguments_read a args) ≡ true → has r reads ≡ true) → values_of a.grid.sharp a.program (cells s) args ≡ values_of a.grid.sharp a.program (cells t) args
+  values-agree reads s t under agree covers = maps-alike (value_of a.grid.sharp g (cells s)) (value_of a.grid.sharp g (cells t)) args
+      (λ i e at. value-agrees a.grid.sharp g u (cells s) (cells t) (cells-within (setting_of a) scene.setting s under) e
       (λ r m. cells-agree (setting_of a) scene.setting s t reads agree r (covers r (read-there i e at r m))))

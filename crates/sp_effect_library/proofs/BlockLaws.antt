@@ -9,6 +9,8 @@ use Rattle.sp_interval.specs.declared.interval.Interval.TheVariants.{Empty, Of}
 use Rattle.sp_interval.specs.Interval.{interval_le, IsFormed}
 use Rattle.sp_interval.specs.Inclusion.{bounds_from_le, le_from_bounds, interval_le-trans}
 use Rattle.sp_interval.proofs.Floors.{quotient-le}
+use Rattle.sp_numbers.specs.Numbers.{may_be_zero}
+use Rattle.sp_numbers.proofs.AllLaws.{numbers_laws}
 use Rattle.sp_ir.specs.Terrain.{Terrain, IsTerrain, terrain_of}
 use Rattle.sp_ir.specs.Programs.{Lowered}
 use Rattle.sp_ir.specs.TerrainLaws.{terrain_lawful}
@@ -20,7 +22,6 @@ use Rattle.sp_value.specs.KnownLaws.{numbers_le, the_targets_le, known_join-mono
 use Rattle.sp_value.specs.FormedLaws.{IsFormedKnown, none-formed, known_join-formed, gathered-formed, Within, within-join, within-gathered, formed_cons, ascend_cons}
 use Rattle.sp_eval.proofs.Among.{chosen}
 use Rattle.sp_effect_entry.proofs.GivenLaws.{where-formed, where-within}
-use Rattle.sp_effect_alarms.specs.Alarms.{holds_zero}
 use Rattle.sp_effect_library.specs.Blocks.{whole_elements, elements_in, as_size, block, block_at, site_block, resized, reallocated}
 
 -- ---- sizes
@@ -100,18 +101,9 @@ module _ (p : Lowered) where
   is = terrain_lawful p
 
   pub reallocated-formed : (v : Known) (bytes : Interval) (site : Option ℕ) → IsFormedKnown v → IsFormedKnown (reallocated p v bytes site)
-  reallocated-formed v bytes site h = known_join-formed (gathered (λ x. resized p bytes x.region) v.targets) (cond (holds_zero v.numbers) (site_block g bytes site) none)
+  reallocated-formed v bytes site h = known_join-formed (gathered (λ x. resized p bytes x.region) v.targets) (cond (may_be_zero v.numbers) (site_block g bytes site) none)
       (gathered-formed (λ x. resized p bytes x.region) (λ x k. where-formed (is_heap_root p x.region) (block_at g bytes x.region) (block-formed g is bytes x.region)) v.targets h.targets)
-      (where-formed (holds_zero v.numbers) (site_block g bytes site) (site-formed g is bytes site))
-
-  zero-rises : (i j : Interval) → interval_le i j ≡ true → holds_zero i ≡ true → holds_zero j ≡ true
-  zero-rises Empty j h k = absurd (false≢true k)
-  zero-rises (Of a b) Empty h k = absurd (false≢true h)
-  zero-rises (Of a b) (Of c d) h k =
-      let s = bounds_from_le a b c d h in
-      let low = le_from_int_le a (pos 0) (first (int_le a (pos 0)) (int_le (pos 0) b) k) in
-      let high = le_from_int_le (pos 0) b (second (int_le a (pos 0)) (int_le (pos 0) b) k) in
-      both (int_le c (pos 0)) (int_le (pos 0) d) (int_le_true c (pos 0) (omega (arith, ints, low, s.0))) (int_le_true (pos 0) d (omega (arith, ints, high, s.1)))
+      (where-formed (may_be_zero v.numbers) (site_block g bytes site) (site-formed g is bytes site))
 
   where-rises : (b c : Bool) (v w : Known) → (b ≡ true → c ≡ true) → known_le v w ≡ true → known_le (cond b v none) (cond c w none) ≡ true
   where-rises true c v w rise h = subst (λ k. known_le v (cond k w none) ≡ true) (sym (rise refl)) h
@@ -119,15 +111,15 @@ module _ (p : Lowered) where
 
   pub reallocated-monotone : (v w : Known) (i j : Interval) (site : Option ℕ) → known_le v w ≡ true → IsFormed i → interval_le i j ≡ true → known_le (reallocated p v i site) (reallocated p w j site) ≡ true
   reallocated-monotone v w i j site h formed k = known_join-monotone
-      (gathered (λ x. resized p i x.region) v.targets) (cond (holds_zero v.numbers) (site_block g i site) none)
-      (gathered (λ x. resized p j x.region) w.targets) (cond (holds_zero w.numbers) (site_block g j site) none)
+      (gathered (λ x. resized p i x.region) v.targets) (cond (may_be_zero v.numbers) (site_block g i site) none)
+      (gathered (λ x. resized p j x.region) w.targets) (cond (may_be_zero w.numbers) (site_block g j site) none)
       (gathered-monotone (λ x. resized p i x.region) (λ x. resized p j x.region)
       (λ x y same less. subst (λ n. known_le (resized p i x.region) (resized p j n) ≡ true) same
       (where-rises (is_heap_root p x.region) (is_heap_root p x.region) (block_at g i x.region) (block_at g j x.region) (λ e. e) (block-monotone g is i j x.region formed k)))
       v.targets w.targets (the_targets_le v w h))
-      (where-rises (holds_zero v.numbers) (holds_zero w.numbers) (site_block g i site) (site_block g j site) (zero-rises v.numbers w.numbers (numbers_le v w h)) (site-monotone g is i j site formed k))
+      (where-rises (may_be_zero v.numbers) (may_be_zero w.numbers) (site_block g i site) (site_block g j site) (numbers_laws.zero_rises v.numbers w.numbers (numbers_le v w h)) (site-monotone g is i j site formed k))
 
   pub reallocated-within : (S P : ℕ → Type 0) (v : Known) (bytes : Interval) (site : Option ℕ) → Within S v.targets → ((r : ℕ) → S r → is_heap_root p r ≡ true → P r) → ((n : ℕ) → site ≡ Some n → P (g.root n)) → Within P (reallocated p v bytes site).targets
-  reallocated-within S P v bytes site h keeps new = within-join P (gathered (λ x. resized p bytes x.region) v.targets).targets (cond (holds_zero v.numbers) (site_block g bytes site) none).targets
+  reallocated-within S P v bytes site h keeps new = within-join P (gathered (λ x. resized p bytes x.region) v.targets).targets (cond (may_be_zero v.numbers) (site_block g bytes site) none).targets
       (within-gathered S P (λ x. resized p bytes x.region) (λ x m. where-within P (is_heap_root p x.region) (block_at g bytes x.region) (λ e. block-within g P bytes x.region (keeps x.region m e))) v.targets h)
-      (where-within P (holds_zero v.numbers) (site_block g bytes site) (λ e. site-within g P bytes site new))
+      (where-within P (may_be_zero v.numbers) (site_block g bytes site) (λ e. site-within g P bytes site new))

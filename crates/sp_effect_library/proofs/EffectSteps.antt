@@ -82,21 +82,21 @@ module _ (a : Analysed) (is : IsScene (scene_of a)) (args : List Expression) (si
   abbrev value : ℕ → ℕ → Known
   value q c = fitted (scene_of a) c (written_value a.program (known_in_regions (scene_of a) s) w (argument_in a args 1 s) q c)
 
-  pub written-row : (slots : ℕ → ℕ → Slot) (old : Store) (l : ℕ) (new : Slot) (xs : List Target) → xs ≡ aims_at (terrain_of a.program) w (argument_in a args 0 s) site → ((q c : ℕ) → slots q c ≡ stored a.ladder (value q c))
+  pub written-row : (slots : ℕ → ℕ → Slot) (old : Store) (l : ℕ) (new : Slot) (xs : List Target) → xs ≡ aims_at (terrain_of a.program) w (argument_in a args 0 s) site → ((q c : ℕ) → slots q c ≡ stored a.grid (value q c))
       → new ≡ slot_join (old l) (joins (λ x. landed_slot a w slots l x.region) xs) → new ≡ applied (writing a args site w s) old l
   written-row slots old l new xs targets made joined =
       joined ∙ ap (slot_join (old l)) (joins-same (λ (x : Target). landed_slot a w slots l x.region)
-      (λ (x : Target). cond (may_come a.program (setting_of a).points_to w args && lands a.program w x.region (cell_of (setting_of a) l)) (stored a.ladder (value x.region (cell_of (setting_of a) l))) Nothing) (λ x. one x.region) xs)
-      ∙ ap (λ ys. slot_join (old l) (joins (λ (x : Target). cond (may_come a.program (setting_of a).points_to w args && lands a.program w x.region (cell_of (setting_of a) l)) (stored a.ladder (value x.region (cell_of (setting_of a) l))) Nothing) ys)) targets
+      (λ (x : Target). cond (may_come a.program (setting_of a).points_to w args && lands a.program w x.region (cell_of (setting_of a) l)) (stored a.grid (value x.region (cell_of (setting_of a) l))) Nothing) (λ x. one x.region) xs)
+      ∙ ap (λ ys. slot_join (old l) (joins (λ (x : Target). cond (may_come a.program (setting_of a).points_to w args && lands a.program w x.region (cell_of (setting_of a) l)) (stored a.grid (value x.region (cell_of (setting_of a) l))) Nothing) ys)) targets
     where
-      nothing : (r : ℕ) → may_come a.program (setting_of a).points_to w args ≡ false → stored a.ladder (value r (cell_of (setting_of a) l)) ≡ Nothing
-      nothing r e = ap (λ (v : Known). stored a.ladder (fitted (scene_of a) (cell_of (setting_of a) l) v))
+      nothing : (r : ℕ) → may_come a.program (setting_of a).points_to w args ≡ false → stored a.grid (value r (cell_of (setting_of a) l)) ≡ Nothing
+      nothing r e = ap (λ (v : Known). stored a.grid (fitted (scene_of a) (cell_of (setting_of a) l) v))
           (unwritten a.program (known_in_regions (scene_of a) s) (setting_of a).points_to args w (argument_in a args 1 s) r (cell_of (setting_of a) l) e (argument-within a is s under args 1))
-          ∙ ap (stored a.ladder) (fitted-none (scene_of a) (cell_of (setting_of a) l))
+          ∙ ap (stored a.grid) (fitted-none (scene_of a) (cell_of (setting_of a) l))
 
-      one : (r : ℕ) → landed_slot a w slots l r ≡ cond (may_come a.program (setting_of a).points_to w args && lands a.program w r (cell_of (setting_of a) l)) (stored a.ladder (value r (cell_of (setting_of a) l))) Nothing
+      one : (r : ℕ) → landed_slot a w slots l r ≡ cond (may_come a.program (setting_of a).points_to w args && lands a.program w r (cell_of (setting_of a) l)) (stored a.grid (value r (cell_of (setting_of a) l))) Nothing
       one r = ap (λ x. cond (lands a.program w r (cell_of (setting_of a) l)) x Nothing) (made r (cell_of (setting_of a) l))
-          ∙ come (may_come a.program (setting_of a).points_to w args) (lands a.program w r (cell_of (setting_of a) l)) (stored a.ladder (value r (cell_of (setting_of a) l))) (nothing r)
+          ∙ come (may_come a.program (setting_of a).points_to w args) (lands a.program w r (cell_of (setting_of a) l)) (stored a.grid (value r (cell_of (setting_of a) l))) (nothing r)
 
 -- ---- what is given
 
@@ -123,7 +123,7 @@ other-hit false hit e h = absurd (false≢true e)
 
 module _ (a : Analysed) (is : IsScene (scene_of a)) (to : Lvalue) (s : Store) (under : UnderCeiling (setting_of a) s) where
   pub given-among : (slots : ℕ → ℕ → Slot) (cells : List ℕ) (v : Known) (xs : List Target) (hit places : List ℕ) (old : Store) (l : ℕ) (new : Slot)
-      → cells ≡ locations_of a.program → v ≡ bottom_of (terrain_of a.program) (cells_at cells s) to → xs ≡ v.targets → has l hit ≡ (has l places && may_hit (leaf_destination a to) l) → has l places ≡ true
+      → cells ≡ locations_of a.program → v ≡ bottom_of a.grid.sharp (terrain_of a.program) (cells_at cells s) to → xs ≡ v.targets → has l hit ≡ (has l places && may_hit (leaf_destination a to) l) → has l places ≡ true
       → new ≡ slot_join (cond (has l hit) (kept_if (kept_by (leaf_destination a to) xs l) (old l)) (old l)) (joins (λ x. bottom_slot a to slots l x.region) xs)
       → new ≡ applied (stored_leaves a to slots xs) old l
   given-among slots cells v xs hit places old l new same bottom targets hits there joined =
@@ -132,7 +132,7 @@ module _ (a : Analysed) (is : IsScene (scene_of a)) (to : Lvalue) (s : Store) (u
     where
       inside : Within (λ r. has r (bottom_regions (terrain_of a.program) (setting_of a).points_to to) ≡ true) xs
       inside = subst (Within (λ r. has r (bottom_regions (terrain_of a.program) (setting_of a).points_to to) ≡ true))
-          (sym (targets ∙ ap (λ (k : Known). k.targets) (bottom ∙ ap (λ cs. bottom_of (terrain_of a.program) (cells_at cs s) to) same)))
+          (sym (targets ∙ ap (λ (k : Known). k.targets) (bottom ∙ ap (λ cs. bottom_of a.grid.sharp (terrain_of a.program) (cells_at cs s) to) same)))
           (bottom-within (scene_of a) is s under to)
 
 -- ---- one row behind the other

@@ -10,6 +10,7 @@ use Rattle.sp_interval.specs.declared.interval.Interval.TheVariants.{Empty, Of}
 use Rattle.sp_interval.specs.Interval.{interval_le, hull, IsFormed}
 use Rattle.sp_interval.specs.Inclusion.{bounds_from_le, le_from_bounds}
 use Rattle.sp_interval.proofs.AllLaws.{interval_laws}
+use Rattle.sp_numbers.specs.Numbers.{plain}
 use Rattle.sp_ir.specs.declared.command.Routine.{Routine}
 use Rattle.sp_ir.specs.declared.command.Routine.TheVariants.{Malloc, Calloc, Realloc, Free, Exit, Abort, Memset, Memcpy, Memmove, Strlen, Strcpy, Strncpy, Strcat}
 use Rattle.sp_ir.specs.Programs.{Lowered}
@@ -24,11 +25,12 @@ use Rattle.sp_value.specs.Known.{Known, known_le, of_numbers, gathered, every_of
 use Rattle.sp_value.specs.Targets.{targets_le, extent_le}
 use Rattle.sp_value.specs.TargetLaws.{offset_le, size_le}
 use Rattle.sp_value.specs.Tests.{second}
-use Rattle.sp_value.specs.KnownLaws.{numbers_le, the_targets_le, known_made, gathered-monotone}
+use Rattle.sp_value.specs.KnownLaws.{the_targets_le, known_made, gathered-monotone}
 use Rattle.sp_value.specs.FormedLaws.{IsFormedKnown, formed_head, formed_tail, Within}
 use Rattle.sp_eval.specs.Numbers.{pointer_range}
 use Rattle.sp_eval.proofs.FormLaws.{numbers_of, pointer_is}
-use Rattle.sp_effect_entry.proofs.GivenLaws.{of_numbers-formed}
+use Rattle.sp_eval.proofs.MonotoneLaws.{plain-le}
+use Rattle.sp_effect_entry.proofs.GivenLaws.{of_span-formed, spans_le}
 use Rattle.sp_effect_alarms.specs.Library.{character, room, text_length}
 use Rattle.sp_effect_library.specs.Given.{lengths, bytes_of, number_of, given_as, given_value}
 use Rattle.sp_effect_library.proofs.BlockLaws.{site-formed, site-monotone, site-within, reallocated-formed, reallocated-monotone, reallocated-within}
@@ -82,9 +84,9 @@ lengths-monotone (Of a b) (Of c d) h = let s = bounds_from_le a b c d h in
 
 -- a text's length as what is gathered from its targets
 abbrev room_at : Terrain → Target → Known
-room_at g x = of_numbers (cond (g.accepts x.region character) (room x.offset x.size) Empty)
+room_at g x = of_numbers (plain (cond (g.accepts x.region character) (room x.offset x.size) Empty))
 
-text-gathered : (g : Terrain) (xs : List Target) → text_length g xs ≡ (gathered (room_at g) xs).numbers
+text-gathered : (g : Terrain) (xs : List Target) → text_length g xs ≡ (gathered (room_at g) xs).numbers.span
 text-gathered g [] = refl
 text-gathered g (x ∷ xs) = ap (hull (cond (g.accepts x.region character) (room x.offset x.size) Empty)) (text-gathered g xs)
 
@@ -99,8 +101,9 @@ room-monotone (Of a b) (Of c d) (Of e f) (Of m n) h k =
     le_from_bounds (pos 1) (int_max (d -ℤ a) (pos 1)) (pos 1) (int_max (n -ℤ e) (pos 1)) (omega (arith, ints)) (omega (arith, ints, clamps, s.0, t.1))
 
 room_at-monotone : (g : Terrain) (x y : Target) → x.region ≡ y.region → extent_le x y ≡ true → known_le (room_at g x) (room_at g y) ≡ true
-room_at-monotone g x y same less = subst (λ n. known_le (room_at g x) (of_numbers (cond (g.accepts n character) (room y.offset y.size) Empty)) ≡ true) same
-    (known_made (room_at g x) (of_numbers (cond (g.accepts x.region character) (room y.offset y.size) Empty)) (by (g.accepts x.region character)) refl)
+room_at-monotone g x y same less = subst (λ n. known_le (room_at g x) (of_numbers (plain (cond (g.accepts n character) (room y.offset y.size) Empty))) ≡ true) same
+    (known_made (room_at g x) (of_numbers (plain (cond (g.accepts x.region character) (room y.offset y.size) Empty)))
+    (plain-le (cond (g.accepts x.region character) (room x.offset x.size) Empty) (cond (g.accepts x.region character) (room y.offset y.size) Empty) (by (g.accepts x.region character))) refl)
   where
     by : (b : Bool) → interval_le (cond b (room x.offset x.size) Empty) (cond b (room y.offset y.size) Empty) ≡ true
     by true = room-monotone x.offset x.size y.offset y.size (offset_le x y less) (size_le x y less)
@@ -108,17 +111,17 @@ room_at-monotone g x y same less = subst (λ n. known_le (room_at g x) (of_numbe
 
 text-monotone : (g : Terrain) (xs ys : List Target) → targets_le xs ys ≡ true → interval_le (text_length g xs) (text_length g ys) ≡ true
 text-monotone g xs ys h =
-    ap (λ i. interval_le i (text_length g ys)) (text-gathered g xs) ∙ ap (interval_le (gathered (room_at g) xs).numbers) (text-gathered g ys)
-    ∙ numbers_le (gathered (room_at g) xs) (gathered (room_at g) ys) (gathered-monotone (room_at g) (room_at g) (room_at-monotone g) xs ys h)
+    ap (λ i. interval_le i (text_length g ys)) (text-gathered g xs) ∙ ap (interval_le (gathered (room_at g) xs).numbers.span) (text-gathered g ys)
+    ∙ spans_le (gathered (room_at g) xs) (gathered (room_at g) ys) (gathered-monotone (room_at g) (room_at g) (room_at-monotone g) xs ys h)
 
 -- ---- results
 
 module _ (p : Lowered) (v w : Known) (fv : IsFormedKnown v) (fw : IsFormedKnown w) where
   bytes-formed : (which : Routine) → IsFormed (bytes_of v w which)
-  bytes-formed Malloc = numbers_of v fv
-  bytes-formed Calloc = (interval_laws.with_range pointer_range pointer_is).multiplied_laws.formed v.numbers w.numbers
-      (numbers_of v fv) (numbers_of w fw)
-  bytes-formed Realloc = numbers_of w fw
+  bytes-formed Malloc = (numbers_of v fv).span
+  bytes-formed Calloc = (interval_laws.with_range pointer_range pointer_is).multiplied_laws.formed v.numbers.span w.numbers.span
+      (numbers_of v fv).span (numbers_of w fw).span
+  bytes-formed Realloc = (numbers_of w fw).span
   bytes-formed Free = tt
   bytes-formed Exit = tt
   bytes-formed Abort = tt
@@ -149,24 +152,24 @@ module _ (p : Lowered) (v w : Known) (fv : IsFormedKnown v) (fw : IsFormedKnown 
   as-formed Allocated which site = site-formed (terrain_of p) (terrain_lawful p) (bytes_of v w which) site
   as-formed Reallocated which site = reallocated-formed p v (bytes_of v w which) site fv
   as-formed Argument which site = fv
-  as-formed NoPointer which site = of_numbers-formed (number_of p v which) (number-formed which)
+  as-formed NoPointer which site = of_span-formed (number_of p v which) (number-formed which)
 
   pub given-formed : (which : Routine) (site : Option ℕ) → IsFormedKnown (given_value p v w which site)
   given-formed which site = as-formed (given_by which) which site
 
   -- rising
   module _ (v' w' : Known) (first_le : known_le v v' ≡ true) (second_le : known_le w w' ≡ true) where
-    v_le : interval_le v.numbers v'.numbers ≡ true
-    v_le = numbers_le v v' first_le
+    v_le : interval_le v.numbers.span v'.numbers.span ≡ true
+    v_le = spans_le v v' first_le
 
-    w_le : interval_le w.numbers w'.numbers ≡ true
-    w_le = numbers_le w w' second_le
+    w_le : interval_le w.numbers.span w'.numbers.span ≡ true
+    w_le = spans_le w w' second_le
 
     bytes-monotone : (which : Routine) → interval_le (bytes_of v w which) (bytes_of v' w' which) ≡ true
     bytes-monotone Malloc = v_le
     bytes-monotone Calloc = (interval_laws.with_range pointer_range pointer_is).multiplied_laws.monotone
-        v.numbers w.numbers v'.numbers w'.numbers
-        (numbers_of v fv) (numbers_of w fw) v_le w_le
+        v.numbers.span w.numbers.span v'.numbers.span w'.numbers.span
+        (numbers_of v fv).span (numbers_of w fw).span v_le w_le
     bytes-monotone Realloc = w_le
     bytes-monotone Free = refl
     bytes-monotone Exit = refl
@@ -199,7 +202,8 @@ module _ (p : Lowered) (v w : Known) (fv : IsFormedKnown v) (fw : IsFormedKnown 
     as-monotone Allocated which site = site-monotone (terrain_of p) (terrain_lawful p) (bytes_of v w which) (bytes_of v' w' which) site (bytes-formed which) (bytes-monotone which)
     as-monotone Reallocated which site = reallocated-monotone p v v' (bytes_of v w which) (bytes_of v' w' which) site first_le (bytes-formed which) (bytes-monotone which)
     as-monotone Argument which site = first_le
-    as-monotone NoPointer which site = known_made (of_numbers (number_of p v which)) (of_numbers (number_of p v' which)) (number-monotone which) refl
+    as-monotone NoPointer which site = known_made (of_numbers (plain (number_of p v which))) (of_numbers (plain (number_of p v' which)))
+        (plain-le (number_of p v which) (number_of p v' which) (number-monotone which)) refl
 
     pub given-monotone : (which : Routine) (site : Option ℕ) → known_le (given_value p v w which site) (given_value p v' w' which site) ≡ true
     given-monotone which site = as-monotone (given_by which) which site

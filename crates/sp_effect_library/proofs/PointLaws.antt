@@ -90,9 +90,9 @@ module _ (p : Lowered) (u : PointsTo) where
   gives-site to site n c is m = subst (λ o. Site p u to o c (g.root n)) (sym is) (in-all p u (cells_source to) c m, in-all p u (region (g.root n)) (g.root n) refl)
 
 -- a conversion keeps targets, or has none
-converted-points : (P : ℕ → Type 0) (t : CType) (v : Known) → (keeps_targets t ≡ true → Within P v.targets) → Within P (converted t v).targets
+converted-points : (sharp : Bool) (P : ℕ → Type 0) (t : CType) (v : Known) → (keeps_targets t ≡ true → Within P v.targets) → Within P (converted sharp t v).targets
 unfolding converted
-converted-points P t v h = by (keeps_targets t) h
+converted-points sharp P t v h = by (keeps_targets t) h
   where
     by : (b : Bool) → (b ≡ true → Within P v.targets) → Within P (cond b v.targets [])
     by true k = k refl
@@ -186,6 +186,6 @@ module _ (a : Analysed) (whole : IsAnalysed a) (n : ℕ) (which : Routine) (to :
     }
 
   pub given-within : (q c : ℕ) → has q (cells_of (terrain_of a.program) w to) ≡ true → has_cell a.program (Some (lvalue_type to)) q c ≡ true
-      → Within (Points a c) (converted (lvalue_type to) (given_value a.program (argument_in a args 0 (ceiling (setting_of a))) (argument_in a args 1 (ceiling (setting_of a))) which site)).targets
-  given-within q c there here = converted-points (Points a c) (lvalue_type to) (given_value a.program (argument_in a args 0 (ceiling (setting_of a))) (argument_in a args 1 (ceiling (setting_of a))) which site)
+      → Within (Points a c) (converted a.grid.sharp (lvalue_type to) (given_value a.program (argument_in a args 0 (ceiling (setting_of a))) (argument_in a args 1 (ceiling (setting_of a))) which site)).targets
+  given-within q c there here = converted-points a.grid.sharp (Points a c) (lvalue_type to) (given_value a.program (argument_in a args 0 (ceiling (setting_of a))) (argument_in a args 1 (ceiling (setting_of a))) which site)
       (λ keeps. as-within a.program (argument_in a args 0 (ceiling (setting_of a))) (argument_in a args 1 (ceiling (setting_of a))) S (Points a c) (given_by which) which site (arg-within a whole n which (Some to) args site is 0) (given-points q c there here keeps (given_by which) refl))

@@ -201,15 +201,15 @@ module _ (a : Analysed) (whole : IsAnalysed a) (n : ℕ) (which : Routine) (to :
   given-at : (s : Store) → IsFormedKnown (given s)
   given-at s = given-formed a.program (argument_in a args 0 s) (argument_in a args 1 s) (values-formed a whole n which (Some to) args site is s 0) (values-formed a whole n which (Some to) args site is s 1) which site
 
-  the_result : IsLeafValue a to (library_uses a args site which (Some to)) (λ s q c. converted (lvalue_type to) (given s))
+  the_result : IsLeafValue a to (library_uses a args site which (Some to)) (λ s q c. converted a.grid.sharp (lvalue_type to) (given s))
   the_result = record {
-    formed = λ s q c. converted-formed (lvalue_type to) (given s) (given-at s);
-    rises = λ s t q c below. converted-monotone (lvalue_type to) (given s) (given t) (given-at s)
+    formed = λ s q c. converted-formed a.grid.sharp (lvalue_type to) (given s) (given-at s);
+    rises = λ s t q c below. converted-monotone a.grid.sharp (lvalue_type to) (given s) (given t) (given-at s)
         (given-monotone a.program (argument_in a args 0 s) (argument_in a args 1 s) (values-formed a whole n which (Some to) args site is s 0) (values-formed a whole n which (Some to) args site is s 1)
         (argument_in a args 0 t) (argument_in a args 1 t) (values-rise a whole n which (Some to) args site is s t below 0) (values-rise a whole n which (Some to) args site is s t below 1) which site);
     within = λ r c m accepts h. given-within a whole n which to args site is (region_under (terrain_of a.program) to r) c (under-cells (terrain_of a.program) (setting_of a).points_to to r m accepts) h;
-    agree = λ s t q c under agree. ap (λ v. converted (lvalue_type to) (given_value a.program v (argument_in a args 1 s) which site)) (args-agree a whole n which (Some to) args site is s t 0 under agree)
-        ∙ ap (λ w. converted (lvalue_type to) (given_value a.program (argument_in a args 0 t) w which site)) (args-agree a whole n which (Some to) args site is s t 1 under agree);
+    agree = λ s t q c under agree. ap (λ v. converted a.grid.sharp (lvalue_type to) (given_value a.program v (argument_in a args 1 s) which site)) (args-agree a whole n which (Some to) args site is s t 0 under agree)
+        ∙ ap (λ w. converted a.grid.sharp (lvalue_type to) (given_value a.program (argument_in a args 0 t) w which site)) (args-agree a whole n which (Some to) args site is s t 1 under agree);
   }
 
   finds : (l : ℕ) → has (cell_of (setting_of a) l) (result_found a (Some to)) ≡ true → library_uses a args site which (Some to) l ≡ true
@@ -224,10 +224,10 @@ module _ (a : Analysed) (whole : IsAnalysed a) (n : ℕ) (which : Routine) (to :
   proper = lvalue-proper (table_of a.program) (formed a whole n which (Some to) args site is).0 to (to-formed a whole n which to args site is)
 
   given-lawful : IsLawful (setting_of a) (result_defines a (Some to)) (library_uses a args site which (Some to)) (giving a args site which (Some to))
-  given-lawful = leaves-lawful a (scene-is a whole) to proper (library_uses a args site which (Some to)) finds kept (λ s q c. converted (lvalue_type to) (given s)) the_result
+  given-lawful = leaves-lawful a (scene-is a whole) to proper (library_uses a args site which (Some to)) finds kept (λ s q c. converted a.grid.sharp (lvalue_type to) (given s)) the_result
 
   given-plain : IsPlain (setting_of a) (giving a args site which (Some to))
-  given-plain = leaves-plain a (scene-is a whole) to proper (library_uses a args site which (Some to)) finds kept (λ s q c. converted (lvalue_type to) (given s)) the_result
+  given-plain = leaves-plain a (scene-is a whole) to proper (library_uses a args site which (Some to)) finds kept (λ s q c. converted a.grid.sharp (lvalue_type to) (given s)) the_result
 
 module _ (a : Analysed) (whole : IsAnalysed a) (n : ℕ) (which : Routine) (args : List Expression) (site : Option ℕ) where
   result-lawful : (to : Option Lvalue) → command_at a.program n ≡ library which to args site → IsLawful (setting_of a) (result_defines a to) (library_uses a args site which to) (giving a args site which to)

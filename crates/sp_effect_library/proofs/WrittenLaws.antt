@@ -6,24 +6,25 @@ use Rattle.sp_lattice.specs.System.{has}
 use Rattle.sp_types.specs.declared.ctype.IntKind.{IntKind}
 use Rattle.sp_types.specs.declared.ctype.IntKind.TheVariants.{Char, SChar, UChar, Short, UShort, Int, UInt, Long, ULong}
 use Rattle.sp_types.specs.Types.{CType, void, integer, floating, pointer, array, structure, function}
-use Rattle.sp_interval.specs.Interval.{interval_le, whole}
-use Rattle.sp_interval.specs.Inclusion.{interval_le-refl}
+use Rattle.sp_interval.specs.Interval.{interval_le}
+use Rattle.sp_numbers.specs.Numbers.{plain}
+use Rattle.sp_numbers.specs.Order.{le-refl}
 use Rattle.sp_ir.specs.Programs.{Lowered}
 use Rattle.sp_ir.specs.Terrain.{Terrain, terrain_of}
 use Rattle.sp_ir.specs.Denoted.{PointsTo}
 use Rattle.sp_points_rules.specs.Paths.{reaches, pairs, is_text}
-use Rattle.sp_value.specs.Known.{Known, none, known_le, known_join, is_none, is_ordered_within}
+use Rattle.sp_value.specs.Known.{Known, none, known_le, known_join, is_none, is_formed_numbers}
 use Rattle.sp_value.specs.KnownLaws.{numbers_le, the_targets_le, known_made, known-refl, known-trans, known_join-monotone, gathered-monotone}
-use Rattle.sp_value.specs.FormedLaws.{IsFormedKnown, none-formed, known_join-formed, gathered-formed, Within, within-join, within-more, within-gathered, gathered-agrees, test_from_formed}
+use Rattle.sp_value.specs.FormedLaws.{IsFormedKnown, none-formed, known_join-formed, gathered-formed, Within, within-join, within-more, within-gathered, gathered-agrees}
 use Rattle.sp_eval.specs.Laws.{AreFormed, AreBelow, PointWithin}
 use Rattle.sp_eval.specs.Numbers.{exactly, every_number}
 use Rattle.sp_eval.proofs.Among.{chosen}
 use Rattle.sp_eval.proofs.FormLaws.{every_number-formed}
-use Rattle.sp_eval.proofs.MonotoneLaws.{same_choice, same_numbers}
+use Rattle.sp_eval.proofs.MonotoneLaws.{same_choice, same_kept, plain-le}
 use Rattle.sp_effect_scene.specs.Analysed.{element_of}
 use Rattle.sp_effect_entry.specs.Given.{zero_value, every_in}
 use Rattle.sp_effect_entry.specs.Entries.{every_value}
-use Rattle.sp_effect_entry.proofs.GivenLaws.{of_numbers-formed, zero-formed, every_in-formed, where-formed, where-monotone, where-within}
+use Rattle.sp_effect_entry.proofs.GivenLaws.{of_span-formed, zero-formed, every_in-formed, where-formed, where-monotone, where-within}
 use Rattle.sp_effect_call.specs.Copied.{copied_from}
 use Rattle.sp_effect_call.proofs.CopiedLaws.{from-formed, from-monotone, Closes, from-within, from-agrees}
 use Rattle.sp_effect_alarms.specs.Library.{character}
@@ -36,7 +37,7 @@ module _ (p : Lowered) where
   g = terrain_of p
 
   every-formed : (c : ℕ) → IsFormedKnown (every_value p c)
-  every-formed c = of_numbers-formed (every_in (element_of p c)) (every_in-formed (element_of p c))
+  every-formed c = of_span-formed (every_in (element_of p c)) (every_in-formed (element_of p c))
 
   -- ---- memset
 
@@ -62,7 +63,7 @@ module _ (p : Lowered) where
   zero-among (Some (function s)) = refl
 
   zero-every : (c : ℕ) → known_le zero_value (every_value p c) ≡ true
-  zero-every c = known_made zero_value (every_value p c) (zero-among (element_of p c)) refl
+  zero-every c = known_made zero_value (every_value p c) (plain-le (exactly (pos 0)) (every_in (element_of p c)) (zero-among (element_of p c))) refl
 
   filled-formed : (v : Known) (c : ℕ) → IsFormedKnown (filled p v c)
   filled-formed v c = chosen IsFormedKnown (is_none v) none (cond (known_le v zero_value) zero_value (every_value p c)) (λ e. none-formed)
@@ -100,7 +101,7 @@ module _ (p : Lowered) where
 
     read-formed : (r : ℕ) → IsFormedKnown (given_character g cells r)
     read-formed r = record {
-      numbers = chosen (λ i. is_ordered_within whole i ≡ true) (g.collapsed r) (every_number character) (cells r).numbers (λ e. test_from_formed (every_number character) (every_number-formed character)) (λ e. (each r).numbers);
+      numbers = chosen (λ n. is_formed_numbers n ≡ true) (g.collapsed r) (plain (every_number character)) (cells r).numbers (λ e. (of_span-formed (every_number character) (every_number-formed character)).numbers) (λ e. (each r).numbers);
       targets = (each r).targets;
       ascending = (each r).ascending;
     }
@@ -137,7 +138,7 @@ module _ (p : Lowered) where
     character-monotone : (r : ℕ) → known_le (character_at p s r) (character_at p t r) ≡ true
     character-monotone r = where-monotone (is_text p r) (given_character g s r) (given_character g t r)
         (known_made (given_character g s r) (given_character g t r)
-        (same_numbers (g.collapsed r) (every_number character) (s r).numbers (every_number character) (t r).numbers (λ e. interval_le-refl (every_number character)) (numbers_le (s r) (t r) (below r)))
+        (same_kept (g.collapsed r) (plain (every_number character)) (s r).numbers (plain (every_number character)) (t r).numbers (le-refl (plain (every_number character))) (numbers_le (s r) (t r) (below r)))
         (the_targets_le (s r) (t r) (below r)))
 
     characters-monotone : (v w : Known) → known_le v w ≡ true → known_le (characters_of p s v) (characters_of p t w) ≡ true

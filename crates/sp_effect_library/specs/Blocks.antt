@@ -4,12 +4,12 @@ use Rattle.std.specs.Int.{int_min, int_div_euclid}
 use Rattle.sp_interval.specs.declared.interval.Interval.{Interval}
 use Rattle.sp_interval.specs.declared.interval.Interval.TheVariants.{Empty, Of}
 use Rattle.sp_interval.specs.Interval.{interval_le}
+use Rattle.sp_numbers.specs.Numbers.{may_be_zero}
 use Rattle.sp_ir.specs.Programs.{Lowered}
 use Rattle.sp_ir.specs.Terrain.{Terrain, terrain_of}
 use Rattle.sp_value.specs.declared.targets.Target.{Target}
 use Rattle.sp_value.specs.Known.{Known, none, known_join, of_target, gathered, every_size, is_proper_within}
 use Rattle.sp_eval.specs.Numbers.{exactly}
-use Rattle.sp_effect_alarms.specs.Alarms.{holds_zero}
 use Rattle.sp_points_rules.specs.Paths.{is_heap_root}
 
 -- ---- sizes
@@ -54,4 +54,4 @@ resized p bytes r = cond (is_heap_root p r) (block_at (terrain_of p) bytes r) no
 -- that of each target, and a new one where the pointer may be null
 abbrev pub reallocated : Lowered → Known → Interval → Option ℕ → Known
 reallocated p v bytes site = known_join (gathered (λ x. resized p bytes x.region) v.targets)
-    (cond (holds_zero v.numbers) (site_block (terrain_of p) bytes site) none)
+    (cond (may_be_zero v.numbers) (site_block (terrain_of p) bytes site) none)

@@ -20,7 +20,7 @@ use Rattle.sp_effect_library.specs.Written.{written_by, lands, aims_at, aim_regi
 
 -- the value of an argument
 abbrev pub argument_in : Analysed → List Expression → ℕ → Store → Known
-argument_in a args k s = argument (values_of a.program (known_in_regions (scene_of a) s) args) k
+argument_in a args k s = argument (values_of a.grid.sharp a.program (known_in_regions (scene_of a) s) args) k
 
 -- ---- what is read
 
@@ -38,7 +38,7 @@ module _ (a : Analysed) (args : List Expression) where
 -- ---- what is given: it goes to a scalar, converted to its type
 
 abbrev pub given_row : Analysed → Lvalue → Known → Store → Row
-given_row a to v s = storing_leaves a to (λ t q c. converted (lvalue_type to) v) s
+given_row a to v s = storing_leaves a to (λ t q c. converted a.grid.sharp (lvalue_type to) v) s
 
 module _ (a : Analysed) (args : List Expression) (site : Option ℕ) where
   -- ---- what is written
@@ -59,7 +59,7 @@ module _ (a : Analysed) (args : List Expression) (site : Option ℕ) where
       (cell_of (setting_of a) k))
 
   abbrev pub writing : Written → Store → Row
-  writing w s = joining a.ladder (written_to w) (written_cell w) s
+  writing w s = joining a.grid (written_to w) (written_cell w) s
 
   -- ---- what is given
 

@@ -3,6 +3,7 @@ use Rattle.std.specs.Prelude.{ℕ, Option, pos, ◌-ℤ◌}
 use Rattle.sp_interval.specs.declared.interval.Interval.{Interval}
 use Rattle.sp_interval.specs.declared.interval.Interval.TheVariants.{Empty, Of}
 use Rattle.sp_interval.specs.Interval.{multiplied}
+use Rattle.sp_numbers.specs.Numbers.{plain}
 use Rattle.sp_ir.specs.declared.command.Routine.{Routine}
 use Rattle.sp_ir.specs.declared.command.Routine.TheVariants.{Malloc, Calloc, Realloc, Free, Exit, Abort, Memset, Memcpy, Memmove, Strlen, Strcpy, Strncpy, Strcat}
 use Rattle.sp_ir.specs.Programs.{Lowered}
@@ -25,9 +26,9 @@ lengths (Of least most) = Of (pos 0) (most -ℤ pos 1)
 module _ (v w : Known) where
   -- how many bytes a routine allocates: calloc multiplies as unsigned long
   abbrev pub bytes_of : Routine → Interval
-  bytes_of Malloc = v.numbers
-  bytes_of Calloc = multiplied pointer_range v.numbers w.numbers
-  bytes_of Realloc = w.numbers
+  bytes_of Malloc = v.numbers.span
+  bytes_of Calloc = multiplied pointer_range v.numbers.span w.numbers.span
+  bytes_of Realloc = w.numbers.span
   bytes_of Free = Empty
   bytes_of Exit = Empty
   bytes_of Abort = Empty
@@ -61,7 +62,7 @@ module _ (p : Lowered) (v w : Known) where
   given_as Allocated which site = site_block (terrain_of p) (bytes_of v w which) site
   given_as Reallocated which site = reallocated p v (bytes_of v w which) site
   given_as Argument which site = v
-  given_as NoPointer which site = of_numbers (number_of p v which)
+  given_as NoPointer which site = of_numbers (plain (number_of p v which))
 
   abbrev pub given_value : Routine → Option ℕ → Known
   given_value which site = given_as (given_by which) which site

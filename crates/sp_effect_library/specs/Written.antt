@@ -2,7 +2,7 @@
 -- since less may be written than all.
 use Rattle.std.specs.Prelude.{ℕ, nat_eq, Bool, true, false, ◌&&◌, ◌||◌, cond, List, [], ◌∷◌, filter, flat_map, Option, Some, None, slice_get}
 use Rattle.std.specs.List.{list_any}
-use Rattle.sp_interval.specs.declared.interval.Interval.TheVariants.{Empty}
+use Rattle.sp_numbers.specs.Numbers.{plain, no_numbers}
 use Rattle.sp_ir.specs.declared.command.Routine.{Routine}
 use Rattle.sp_ir.specs.declared.command.Routine.TheVariants.{Malloc, Calloc, Realloc, Free, Exit, Abort, Memset, Memcpy, Memmove, Strlen, Strcpy, Strncpy, Strcat}
 use Rattle.sp_ir.specs.Commands.{Expression}
@@ -93,7 +93,7 @@ abbrev pub filled : Lowered → Known → ℕ → Known
 filled p v c = cond (is_none v) none (cond (known_le v zero_value) zero_value (every_value p c))
 
 abbrev pub pointers_of : Known → Known
-pointers_of v = record { numbers = Empty; targets = v.targets }
+pointers_of v = record { numbers = no_numbers; targets = v.targets }
 
 -- What the cell c under the region q gets from the region s, cell by cell. Bytes on either side take
 -- every number; from what doesn't pair it gets every number, and no target.
@@ -111,7 +111,7 @@ moved p cells v q c = gathered (λ x. moved_from p cells q c x.region) v.targets
 -- of one type are copied as they are.
 abbrev pub given_character : Terrain → (ℕ → Known) → ℕ → Known
 given_character g cells r = record {
-  numbers = cond (g.collapsed r) (every_number character) (cells r).numbers;
+  numbers = cond (g.collapsed r) (plain (every_number character)) (cells r).numbers;
   targets = (cells r).targets;
 }
 

@@ -4,7 +4,6 @@ ghost use Rattle.sp_ir.specs.Programs.{lowered_of};
 ghost use Rattle.sp_ir.specs.Terrain.{terrain_of};
 ghost use Rattle.sp_value.specs.Known.{is_proper_within, every_size};
 ghost use Rattle.sp_value.specs.Slots.{known_of};
-ghost use Rattle.sp_effect_alarms.specs.Alarms.{holds_zero};
 ghost use Rattle.sp_effect_library.specs.Blocks.{whole_elements, elements_in, as_size, block_at, site_block, reallocated};
 
 use sp_interval::Interval;
@@ -76,7 +75,7 @@ fn block_at(
         block_at (terrain_of (lowered_of lowered.now)) bytes region) }
 {
     match bytes {
-        Interval::Empty => Ok(Value::of_numbers(alloc, Interval::Empty)),
+        Interval::Empty => Ok(Value::none(alloc)),
         Interval::Of { .. } => {
             let elements = elements_in(element_size(lowered, region), bytes);
             Value::of_target(
@@ -103,7 +102,7 @@ pub(crate) fn site_block(
 {
     match site {
         Some(number) => block_at(alloc, lowered, bytes, lowered.root_of(number)),
-        None => Ok(Value::of_numbers(alloc, Interval::Empty)),
+        None => Ok(Value::none(alloc)),
     }
 }
 
@@ -127,18 +126,8 @@ impl AtTarget for Resized<'_> {
             let block = block_at(alloc, self.lowered, self.bytes, target.region)?;
             Ok(Part::All(block))
         } else {
-            Ok(Part::Numbers(Interval::Empty))
+            Ok(Part::All(Value::none(alloc)))
         }
-    }
-}
-
-/// Whether 0 is a member.
-fn holds_zero(numbers: Interval) -> bool
-    ensures { result ≡ holds_zero numbers }
-{
-    match numbers {
-        Interval::Empty => false,
-        Interval::Of { lo, hi } => lo <= 0 && 0 <= hi,
     }
 }
 
@@ -155,10 +144,10 @@ pub(crate) fn reallocated(
 {
     let each = Resized { lowered, bytes };
     let kept = gather(alloc, pointer, &each)?;
-    let new = if holds_zero(pointer.numbers) {
+    let new = if pointer.numbers().may_be_zero() {
         site_block(alloc, lowered, bytes, site)?
     } else {
-        Value::of_numbers(alloc, Interval::Empty)
+        Value::none(alloc)
     };
     kept.joined(alloc, &new)
 }

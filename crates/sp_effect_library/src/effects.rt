@@ -63,7 +63,7 @@ impl<V: View> Gives for FromRoutine<'_, V> {
     ghost use Rattle.sp_effect_scene.specs.View.{analysed_of};
     ghost use Rattle.sp_effect_library.specs.Written.{written_value};
 
-    ghost slots = { λ s q c. stored s.analysis.now.ladder
+    ghost slots = { λ s q c. stored s.analysis.now.grid
         (fitted (scene_of (analysed_of s.analysis.now)) c
         (written_value (lowered_of s.analysis.now.lowered)
         (known_in_regions (scene_of (analysed_of s.analysis.now)) (V.store s.view.now)) s.written
@@ -73,7 +73,7 @@ impl<V: View> Gives for FromRoutine<'_, V> {
         let (analysis, view, written, from) = (self.analysis, self.view, self.written, self.from);
         let put = written_value(alloc, analysis, view, written, from, region, cell)?;
         let value = analysis.fitted(alloc, cell, put)?;
-        let slot = value.stored(alloc, &analysis.ladder)?;
+        let slot = value.stored(alloc, &analysis.grid)?;
         Ok(slot)
     }
 }
@@ -94,7 +94,7 @@ fn aim(
         Written::Filled | Written::Copied | Written::CopiedText | Written::PaddedText => first.copy(
             alloc,
         ),
-        Written::Unwritten => Ok(Value::of_numbers(alloc, Interval::Empty)),
+        Written::Unwritten => Ok(Value::none(alloc)),
     }
 }
 
@@ -150,13 +150,13 @@ impl Gives for Same<'_> {
     ghost use Rattle.sp_effect_scene.specs.Analysed.{scene_of};
     ghost use Rattle.sp_effect_scene.specs.View.{analysed_of};
 
-    ghost slots = { λ s q c. stored s.analysis.now.ladder
+    ghost slots = { λ s q c. stored s.analysis.now.grid
         (fitted (scene_of (analysed_of s.analysis.now)) c (known_of s.value.now)) };
 
     fn slot(&self, alloc: Global, _region: u32, cell: u32) -> Result<Slot, AllocError> {
         let copy = self.value.copy(alloc)?;
         let value = self.analysis.fitted(alloc, cell, copy)?;
-        let slot = value.stored(alloc, &self.analysis.ladder)?;
+        let slot = value.stored(alloc, &self.analysis.grid)?;
         Ok(slot)
     }
 }
@@ -182,8 +182,16 @@ fn give_to<V: View>(
         applied (given_row (analysed_of analysis.now) (lvalue_of to.now) (known_of given.now)
         (V.store view.now)) (store_of places.now row.old) l) }
 {
-    let bottom = bottom_of(alloc, &analysis.lowered, &analysis.locations, to, view)?;
-    let value = converted(alloc, to.of(), given)?;
+    let sharp = analysis.grid.sharp;
+    let bottom = bottom_of(
+        alloc,
+        &analysis.lowered,
+        &analysis.locations,
+        sharp,
+        to,
+        view,
+    )?;
+    let value = converted(alloc, sharp, to.of(), given)?;
     let gives = Same {
         analysis,
         value: &value,
@@ -268,7 +276,8 @@ pub fn call_routine<V: View>(
         (V.store view.now)) (store_of places.now row.old) l) }
 {
     let (lowered, locations) = (&analysis.lowered, &analysis.locations);
-    let arguments = arguments_of(alloc, lowered, locations, view, call.args)?;
+    let sharp = analysis.grid.sharp;
+    let arguments = arguments_of(alloc, lowered, locations, sharp, view, call.args)?;
     write(alloc, analysis, view, call, &arguments, row, places)?;
     give(alloc, analysis, view, call, &arguments, row, places)?;
     Ok(())

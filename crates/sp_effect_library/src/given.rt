@@ -18,9 +18,9 @@ fn bytes_of(which: Routine, first: &Value, second: &Value) -> Interval
     ensures { result ≡ bytes_of (known_of first.now) (known_of second.now) which }
 {
     match which {
-        Routine::Malloc => first.numbers,
-        Routine::Calloc => first.numbers.mul(second.numbers, Range::unsigned(64)),
-        Routine::Realloc => second.numbers,
+        Routine::Malloc => first.span,
+        Routine::Calloc => first.span.mul(second.span, Range::unsigned(64)),
+        Routine::Realloc => second.span,
         Routine::Free
         | Routine::Exit
         | Routine::Abort
@@ -81,6 +81,6 @@ pub(crate) fn given_value(
             site,
         ),
         Given::Argument => first.copy(alloc),
-        Given::NoPointer => Ok(Value::of_numbers(alloc, number_of(lowered, which, first))),
+        Given::NoPointer => Ok(Value::of_span(alloc, number_of(lowered, which, first))),
     }
 }

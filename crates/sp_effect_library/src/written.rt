@@ -65,10 +65,8 @@ fn filled(alloc: Global, lowered: &Lowered, character: &Value, cell: u32) -> Val
         filled (lowered_of lowered.now) (known_of character.now) cell }
 {
     if character.is_none() {
-        Value::of_numbers(alloc, Interval::Empty)
-    } else if character.numbers.leq(&Interval::Of { lo: 0, hi: 0 })
-        && character.targets.is_empty()
-    {
+        Value::none(alloc)
+    } else if character.span.leq(&Interval::Of { lo: 0, hi: 0 }) && character.targets.is_empty() {
         zero_value(alloc)
     } else {
         every_value(alloc, lowered, cell)
@@ -87,7 +85,7 @@ fn as_bytes(
     ensures { IfOk result (λ value. known_of value ≡ known_join
         (every_value (lowered_of lowered.now) cell) (pointers_of (known_of copied.now))) }
 {
-    let pointers = copied.with_numbers(alloc, Interval::Empty)?;
+    let pointers = copied.with_span(alloc, Interval::Empty)?;
     every_value(alloc, lowered, cell).joined(alloc, &pointers)
 }
 
@@ -158,11 +156,11 @@ fn character_at<V: View>(
         (known_in_regions (scene_of (analysed_of analysis.now)) (V.store view.now)) region) }
 {
     if !is_text(&analysis.lowered, region) {
-        return Ok(Value::of_numbers(alloc, Interval::Empty));
+        return Ok(Value::none(alloc));
     }
     let held = held_at(alloc, analysis, view, region)?;
     if analysis.lowered.is_collapsed(region) {
-        held.with_numbers(alloc, every_number(&character()))
+        held.with_span(alloc, every_number(&character()))
     } else {
         Ok(held)
     }
@@ -242,6 +240,6 @@ pub(crate) fn written_value<V: View>(
             let text = characters_of(alloc, analysis, view, from)?;
             zero_value(alloc).joined(alloc, &text)
         }
-        Written::Unwritten => Ok(Value::of_numbers(alloc, Interval::Empty)),
+        Written::Unwritten => Ok(Value::none(alloc)),
     }
 }

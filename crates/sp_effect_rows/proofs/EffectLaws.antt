@@ -32,10 +32,10 @@ module _ (a : Setting) (is : IsSetting a) (defines uses : ℕ → Bool) (row : S
   effect-capped : (l : ℕ) → l < count a → slot_le (applied (row (ceiling a)) (ceiling a) l) (ceiling a l) ≡ true
   effect-capped l low = slot-least (kept_if ((row (ceiling a)).keeps l) (ceiling a l)) ((row (ceiling a)).puts l) (ceiling a l) (kept-within ((row (ceiling a)).keeps l) (ceiling a l) (ceiling a l) (slot-refl (ceiling a l))) (lawful.capped l low)
 
-  effect-held : (s : Store) → HeldStore a s → UnderCeiling a s → (l : ℕ) → l < count a → IsHeldSlot a.ladder (applied (row s) s l)
-  effect-held s h below l low = slot_join-held a.ladder is.ladder (kept_if ((row s).keeps l) (s l)) ((row s).puts l) (by ((row s).keeps l)) (lawful.puts_held s l low h below)
+  effect-held : (s : Store) → HeldStore a s → UnderCeiling a s → (l : ℕ) → l < count a → IsHeldSlot a.grid (applied (row s) s l)
+  effect-held s h below l low = slot_join-held a.grid is.ladder (kept_if ((row s).keeps l) (s l)) ((row s).puts l) (by ((row s).keeps l)) (lawful.puts_held s l low h below)
     where
-      by : (b : Bool) → IsHeldSlot a.ladder (kept_if b (s l))
+      by : (b : Bool) → IsHeldSlot a.grid (kept_if b (s l))
       by true = h l low
       by false = tt
 

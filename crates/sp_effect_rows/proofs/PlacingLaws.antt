@@ -22,16 +22,16 @@ module _ (a : Setting) (is : IsSetting a) (uses at weak : ℕ → Bool) (value :
   kept_weak true false d k = absurd (false≢true k)
   kept_weak false c d k = absurd (false≢true d)
 
-  pub placing-lawful : IsLawful a at uses (placing a.ladder at weak value)
+  pub placing-lawful : IsLawful a at uses (placing a.grid at weak value)
   placing-lawful = record {
     keeps_rise = λ s t l low h below under k. k;
-    puts_rise = λ s t l low h below under. inl (choice-monotone (at l) (stored a.ladder (value s l)) (stored a.ladder (value t l)) (stored-monotone a.ladder is.ladder (value s l) (value t l) (fine.formed s l) (fine.formed t l) (fine.rises s t l below under)));
-    capped = λ l low. chosen (λ x. slot_le x (ceiling a l) ≡ true) (at l) (stored a.ladder (value (ceiling a) l)) Nothing (λ e. stored-under a is (value (ceiling a) l) l (fine.formed (ceiling a) l) (fine.within l e)) (λ e. refl);
-    puts_held = λ s l low h below. chosen (IsHeldSlot a.ladder) (at l) (stored a.ladder (value s l)) Nothing (λ e. stored-held a.ladder is.ladder (value s l) (fine.formed s l)) (λ e. tt);
+    puts_rise = λ s t l low h below under. inl (choice-monotone (at l) (stored a.grid (value s l)) (stored a.grid (value t l)) (stored-monotone a.grid is.ladder (value s l) (value t l) (fine.formed s l) (fine.formed t l) (fine.rises s t l below under)));
+    capped = λ l low. chosen (λ x. slot_le x (ceiling a l) ≡ true) (at l) (stored a.grid (value (ceiling a) l)) Nothing (λ e. stored-under a is (value (ceiling a) l) l (fine.formed (ceiling a) l) (fine.within l e)) (λ e. refl);
+    puts_held = λ s l low h below. chosen (IsHeldSlot a.grid) (at l) (stored a.grid (value s l)) Nothing (λ e. stored-held a.grid is.ladder (value s l) (fine.formed s l)) (λ e. tt);
     keeps_others = λ s l low below other. ap (λ b. not (b && not (weak l))) other;
-    puts_nowhere_else = λ s l low below other. ap (λ b. cond b (stored a.ladder (value s l)) Nothing) other;
+    puts_nowhere_else = λ s l low below other. ap (λ b. cond b (stored a.grid (value s l)) Nothing) other;
     keeps_agree = λ s t l low below below' same defined. refl;
-    puts_agree = λ s t l low below below' same defined. ap (λ v. cond (at l) (stored a.ladder v) Nothing) (fine.agree s t l below below' same);
+    puts_agree = λ s t l low below below' same defined. ap (λ v. cond (at l) (stored a.grid v) Nothing) (fine.agree s t l below below' same);
     kept_is_used = λ s l low below defined kept. fine.weak_used l defined (kept_weak (at l) (weak l) defined kept);
   }
 
@@ -52,7 +52,7 @@ untouched-lawful a uses = record {
 
 module _ (a : Setting) (is : IsSetting a) (da db uses : ℕ → Bool) (p q : Store → Row)
     (lp : IsLawful a da uses p) (lq : IsLawful a db uses q) (pp : IsPlain a p) (pq : IsPlain a q) where
-  kept-held : (x : Bool) (u : Slot) → IsHeldSlot a.ladder u → IsHeldSlot a.ladder (kept_if x u)
+  kept-held : (x : Bool) (u : Slot) → IsHeldSlot a.grid u → IsHeldSlot a.grid (kept_if x u)
   kept-held true u h = h
   kept-held false u h = tt
 
@@ -92,7 +92,7 @@ module _ (a : Setting) (is : IsSetting a) (da db uses : ℕ → Bool) (p q : Sto
     puts_rise = λ s t l low h below under. inl (slot_join-monotone (kept_if ((q s).keeps l) ((p s).puts l)) ((q s).puts l) (kept_if ((q t).keeps l) ((p t).puts l)) ((q t).puts l)
         (kept-monotone ((q s).keeps l) ((q t).keeps l) ((p s).puts l) ((p t).puts l) (lq.keeps_rise s t l low h below under) (pp s t l low below under)) (pq s t l low below under));
     capped = λ l low. slot-least (kept_if ((q (ceiling a)).keeps l) ((p (ceiling a)).puts l)) ((q (ceiling a)).puts l) (ceiling a l) (kept-within ((q (ceiling a)).keeps l) ((p (ceiling a)).puts l) (ceiling a l) (lp.capped l low)) (lq.capped l low);
-    puts_held = λ s l low h below. slot_join-held a.ladder is.ladder (kept_if ((q s).keeps l) ((p s).puts l)) ((q s).puts l) (kept-held ((q s).keeps l) ((p s).puts l) (lp.puts_held s l low h below)) (lq.puts_held s l low h below);
+    puts_held = λ s l low h below. slot_join-held a.grid is.ladder (kept_if ((q s).keeps l) ((p s).puts l)) ((q s).puts l) (kept-held ((q s).keeps l) ((p s).puts l) (lp.puts_held s l low h below)) (lq.puts_held s l low h below);
     keeps_others = λ s l low below other. both ((p s).keeps l) ((q s).keeps l) (lp.keeps_others s l low below (neither_left (da l) (db l) other)) (lq.keeps_others s l low below (neither_right (da l) (db l) other));
     puts_nowhere_else = λ s l low below other.
         ap (λ x. slot_join (kept_if ((q s).keeps l) x) ((q s).puts l)) (lp.puts_nowhere_else s l low below (neither_left (da l) (db l) other))

@@ -5,8 +5,10 @@ use Rattle.std.specs.List.Sorted.{IsStrictlyIncreasing}
 use Rattle.std.proofs.lemmas.Bool.{false≢true}
 use Rattle.sp_interval.specs.declared.interval.Interval.{Interval}
 use Rattle.sp_interval.specs.declared.interval.Interval.TheVariants.{Empty, Of}
-use Rattle.sp_interval.specs.Interval.{interval_le}
+use Rattle.sp_interval.specs.Interval.{interval_le, whole}
 use Rattle.sp_interval.proofs.Hulls.{whole-above}
+use Rattle.sp_numbers.specs.Numbers.{plain}
+use Rattle.sp_numbers.specs.Order.{le_from_below}
 use Rattle.sp_lattice.specs.System.{has}
 use Rattle.sp_value.specs.declared.targets.Target.{Target}
 use Rattle.sp_value.specs.Targets.{targets_le, ascend_from}
@@ -14,7 +16,7 @@ use Rattle.sp_value.specs.Known.{Known, known_le, are_formed, every_offset, ever
 use Rattle.sp_value.specs.Tests.{second, Before, Same, compare}
 use Rattle.sp_value.specs.TargetLaws.{le_match, le_skip, extent-made}
 use Rattle.sp_value.specs.KnownLaws.{known_made, the_targets_le}
-use Rattle.sp_value.specs.FormedLaws.{IsFormedKnown, none-formed, formed_from_test, formed_head, formed_tail, formed_cons, ascend_cons, ascend_head, ascend_tail, Within, within-below}
+use Rattle.sp_value.specs.FormedLaws.{IsFormedKnown, none-formed, numbers_from_test, formed_head, formed_tail, formed_cons, ascend_cons, ascend_head, ascend_tail, Within, within-below}
 use Rattle.sp_value.specs.Slots.{known_in, slot_le}
 use Rattle.sp_value.specs.SlotLaws.{known_in-monotone, known_in-formed, slot_of-stores, slot_of-monotone}
 use Rattle.sp_value.specs.Held.{stored, snapped_known}
@@ -144,13 +146,13 @@ module _ (a : Setting) (is : IsSetting a) where
   ceiling-within l = subst (λ (v : Known). Within (λ q. has q (a.points_to (cell_of a l)) ≡ true) v.targets) (sym (ceiling-knows l)) (widest-within (a.points_to (cell_of a l)) (a.points_to (cell_of a l)) (λ q m. m))
 
   -- what is formed, with its targets where the location may point, is stored under the ceiling
-  pub stored-under : (v : Known) (l : ℕ) → IsFormedKnown v → Within (λ q. has q (a.points_to (cell_of a l)) ≡ true) v.targets → slot_le (stored a.ladder v) (ceiling a l) ≡ true
+  pub stored-under : (v : Known) (l : ℕ) → IsFormedKnown v → Within (λ q. has q (a.points_to (cell_of a l)) ≡ true) v.targets → slot_le (stored a.grid v) (ceiling a l) ≡ true
   stored-under v l h w =
-      let f : IsFormedKnown (snapped_known a.ladder v) = snapped_known-formed a.ladder is.ladder v h in
-      slot_of-monotone (snapped_known a.ladder v) (ceiling_known (a.points_to (cell_of a l))) f (ceiling_known-formed l)
-      (known_made (snapped_known a.ladder v) (ceiling_known (a.points_to (cell_of a l)))
-      (whole-above (snapped_known a.ladder v).numbers (formed_from_test (snapped_known a.ladder v).numbers f.numbers))
-      (below_widest 0 (snapped_known a.ladder v).targets (a.points_to (cell_of a l)) f.targets f.ascending (points-ascend (cell_of a l)) (snapped-within a.ladder is.ladder (λ q. has q (a.points_to (cell_of a l)) ≡ true) v.targets w)))
+      let f : IsFormedKnown (snapped_known a.grid v) = snapped_known-formed a.grid is.ladder v h in
+      slot_of-monotone (snapped_known a.grid v) (ceiling_known (a.points_to (cell_of a l))) f (ceiling_known-formed l)
+      (known_made (snapped_known a.grid v) (ceiling_known (a.points_to (cell_of a l)))
+      (le_from_below (snapped_known a.grid v).numbers (plain whole) (record { span = whole-above (snapped_known a.grid v).numbers.span (numbers_from_test (snapped_known a.grid v).numbers f.numbers).span; nonzero = λ e. absurd (false≢true e) }))
+      (below_widest 0 (snapped_known a.grid v).targets (a.points_to (cell_of a l)) f.targets f.ascending (points-ascend (cell_of a l)) (snapped-within a.grid is.ladder (λ q. has q (a.points_to (cell_of a l)) ≡ true) v.targets w)))
 
   -- ---- what a store says of each region
 

@@ -110,40 +110,40 @@ chosen-alike false x y same = refl
 module _ (a : Setting) (is : IsSetting a) (uses : ℕ → Bool) (d : Destination) (value : Store → ℕ → ℕ → Known) (good : IsLawfulDestination a uses d) (fine : IsLawfulValue a uses d value) where
   -- what goes to a location from a region
   from : Store → ℕ → ℕ → Slot
-  from s l r = cond (d.hits r l) (stored a.ladder (value s r l)) Nothing
+  from s l r = cond (d.hits r l) (stored a.grid (value s r l)) Nothing
 
-  puts-rise : (s t : Store) (l : ℕ) → BelowStore a s t → UnderCeiling a t → slot_le (put_by a.ladder d (value s) (d.targets s) l) (put_by a.ladder d (value t) (d.targets t) l) ≡ true
-  puts-rise s t l below under = joins-rise (λ r. cond (d.hits r l) (stored a.ladder (value s r l)) Nothing) (λ r. cond (d.hits r l) (stored a.ladder (value t r l)) Nothing)
-      (λ r. choice-monotone (d.hits r l) (stored a.ladder (value s r l)) (stored a.ladder (value t r l)) (stored-monotone a.ladder is.ladder (value s r l) (value t r l) (fine.formed s r l) (fine.formed t r l) (fine.rises s t r l below under)))
+  puts-rise : (s t : Store) (l : ℕ) → BelowStore a s t → UnderCeiling a t → slot_le (put_by a.grid d (value s) (d.targets s) l) (put_by a.grid d (value t) (d.targets t) l) ≡ true
+  puts-rise s t l below under = joins-rise (λ r. cond (d.hits r l) (stored a.grid (value s r l)) Nothing) (λ r. cond (d.hits r l) (stored a.grid (value t r l)) Nothing)
+      (λ r. choice-monotone (d.hits r l) (stored a.grid (value s r l)) (stored a.grid (value t r l)) (stored-monotone a.grid is.ladder (value s r l) (value t r l) (fine.formed s r l) (fine.formed t r l) (fine.rises s t r l below under)))
       (d.targets s) (d.targets t) (good.rise s t below under)
 
-  puts-capped : (l : ℕ) → slot_le (put_by a.ladder d (value (ceiling a)) (d.targets (ceiling a)) l) (ceiling a l) ≡ true
-  puts-capped l = joins-below (λ r. has r d.regions ≡ true) (λ r. cond (d.hits r l) (stored a.ladder (value (ceiling a) r l)) Nothing) (ceiling a l)
-      (λ r m. chosen (λ x. slot_le x (ceiling a l) ≡ true) (d.hits r l) (stored a.ladder (value (ceiling a) r l)) Nothing (λ e. stored-under a is (value (ceiling a) r l) l (fine.formed (ceiling a) r l) (fine.within r l m e)) (λ e. refl))
+  puts-capped : (l : ℕ) → slot_le (put_by a.grid d (value (ceiling a)) (d.targets (ceiling a)) l) (ceiling a l) ≡ true
+  puts-capped l = joins-below (λ r. has r d.regions ≡ true) (λ r. cond (d.hits r l) (stored a.grid (value (ceiling a) r l)) Nothing) (ceiling a l)
+      (λ r m. chosen (λ x. slot_le x (ceiling a l) ≡ true) (d.hits r l) (stored a.grid (value (ceiling a) r l)) Nothing (λ e. stored-under a is (value (ceiling a) r l) l (fine.formed (ceiling a) r l) (fine.within r l m e)) (λ e. refl))
       (d.targets (ceiling a)) (good.within (ceiling a) (λ k low. slot-refl (ceiling a k)))
 
-  puts-held : (s : Store) (l : ℕ) → IsHeldSlot a.ladder (put_by a.ladder d (value s) (d.targets s) l)
-  puts-held s l = joins-held (IsHeldSlot a.ladder) tt (λ x y. slot_join-held a.ladder is.ladder x y) (λ r. cond (d.hits r l) (stored a.ladder (value s r l)) Nothing)
-      (λ r. chosen (IsHeldSlot a.ladder) (d.hits r l) (stored a.ladder (value s r l)) Nothing (λ e. stored-held a.ladder is.ladder (value s r l) (fine.formed s r l)) (λ e. tt)) (d.targets s)
+  puts-held : (s : Store) (l : ℕ) → IsHeldSlot a.grid (put_by a.grid d (value s) (d.targets s) l)
+  puts-held s l = joins-held (IsHeldSlot a.grid) tt (λ x y. slot_join-held a.grid is.ladder x y) (λ r. cond (d.hits r l) (stored a.grid (value s r l)) Nothing)
+      (λ r. chosen (IsHeldSlot a.grid) (d.hits r l) (stored a.grid (value s r l)) Nothing (λ e. stored-held a.grid is.ladder (value s r l) (fine.formed s r l)) (λ e. tt)) (d.targets s)
 
-  puts-nowhere_else : (s : Store) (l : ℕ) → UnderCeiling a s → may_hit d l ≡ false → put_by a.ladder d (value s) (d.targets s) l ≡ Nothing
-  puts-nowhere_else s l below other = joins-nothing (λ r. has r d.regions ≡ true) (λ r. cond (d.hits r l) (stored a.ladder (value s r l)) Nothing)
-      (λ r m. ap (λ b. cond b (stored a.ladder (value s r l)) Nothing) (no_hit d l other r m)) (d.targets s) (good.within s below)
+  puts-nowhere_else : (s : Store) (l : ℕ) → UnderCeiling a s → may_hit d l ≡ false → put_by a.grid d (value s) (d.targets s) l ≡ Nothing
+  puts-nowhere_else s l below other = joins-nothing (λ r. has r d.regions ≡ true) (λ r. cond (d.hits r l) (stored a.grid (value s r l)) Nothing)
+      (λ r m. ap (λ b. cond b (stored a.grid (value s r l)) Nothing) (no_hit d l other r m)) (d.targets s) (good.within s below)
 
-  puts-agree : (s t : Store) (l : ℕ) → UnderCeiling a s → UnderCeiling a t → AgreeAt uses s t → put_by a.ladder d (value s) (d.targets s) l ≡ put_by a.ladder d (value t) (d.targets t) l
+  puts-agree : (s t : Store) (l : ℕ) → UnderCeiling a s → UnderCeiling a t → AgreeAt uses s t → put_by a.grid d (value s) (d.targets s) l ≡ put_by a.grid d (value t) (d.targets t) l
   puts-agree s t l below below' agree =
-      joins-agree (λ r. has r d.regions ≡ true) (λ r. cond (d.hits r l) (stored a.ladder (value s r l)) Nothing) (λ r. cond (d.hits r l) (stored a.ladder (value t r l)) Nothing)
-      (λ r m. chosen-alike (d.hits r l) (stored a.ladder (value s r l)) (stored a.ladder (value t r l)) (λ h. ap (stored a.ladder) (fine.agree s t r l m h below below' agree))) (d.targets s) (good.within s below)
-      ∙ ap (λ xs. joins (λ x. cond (d.hits x.region l) (stored a.ladder (value t x.region l)) Nothing) xs) (good.agree s t below below' agree)
+      joins-agree (λ r. has r d.regions ≡ true) (λ r. cond (d.hits r l) (stored a.grid (value s r l)) Nothing) (λ r. cond (d.hits r l) (stored a.grid (value t r l)) Nothing)
+      (λ r m. chosen-alike (d.hits r l) (stored a.grid (value s r l)) (stored a.grid (value t r l)) (λ h. ap (stored a.grid) (fine.agree s t r l m h below below' agree))) (d.targets s) (good.within s below)
+      ∙ ap (λ xs. joins (λ x. cond (d.hits x.region l) (stored a.grid (value t x.region l)) Nothing) xs) (good.agree s t below below' agree)
 
-  pub storing-plain : IsPlain a (storing a.ladder d value)
+  pub storing-plain : IsPlain a (storing a.grid d value)
   storing-plain s t l low below under = puts-rise s t l below under
 
-  pub joining-plain : IsPlain a (joining a.ladder d value)
+  pub joining-plain : IsPlain a (joining a.grid d value)
   joining-plain s t l low below under = puts-rise s t l below under
 
   pub storing-lawful : ((s : Store) (l : ℕ) → UnderCeiling a s → may_hit d l ≡ true → kept_by d (d.targets s) l ≡ true → uses l ≡ true)
-      → IsLawful a (may_hit d) uses (storing a.ladder d value)
+      → IsLawful a (may_hit d) uses (storing a.grid d value)
   storing-lawful kept_used = record {
     keeps_rise = λ s t l low h below under. kept-rises d l (d.targets s) (d.targets t) (good.rise s t below under) (good.within t under);
     puts_rise = λ s t l low h below under. inl (puts-rise s t l below under);
@@ -156,7 +156,7 @@ module _ (a : Setting) (is : IsSetting a) (uses : ℕ → Bool) (d : Destination
     kept_is_used = λ s l low below defined kept. kept_used s l below defined kept;
   }
 
-  pub joining-lawful : ((l : ℕ) → may_hit d l ≡ true → uses l ≡ true) → IsLawful a (may_hit d) uses (joining a.ladder d value)
+  pub joining-lawful : ((l : ℕ) → may_hit d l ≡ true → uses l ≡ true) → IsLawful a (may_hit d) uses (joining a.grid d value)
   joining-lawful used = record {
     keeps_rise = λ s t l low h below under kept. refl;
     puts_rise = λ s t l low h below under. inl (puts-rise s t l below under);

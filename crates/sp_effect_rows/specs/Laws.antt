@@ -21,7 +21,7 @@ abbrev pub UnderCeiling : Setting → Store → Type 0
 UnderCeiling a s = BelowStore a s (ceiling a)
 
 abbrev pub HeldStore : Setting → Store → Type 0
-HeldStore a s = (l : ℕ) → l < count a → IsHeldSlot a.ladder (s l)
+HeldStore a s = (l : ℕ) → l < count a → IsHeldSlot a.grid (s l)
 
 -- two stores hold the same where the test is true
 abbrev pub AgreeAt : (ℕ → Bool) → Store → Store → Type 0
@@ -54,7 +54,7 @@ pub record IsLawful (a : Setting) (defines uses : ℕ → Bool) (row : Store →
       ⊎ (((row t).keeps l ≡ true) × (slot_le ((row s).puts l) (s l) ≡ true))
   pub capped : (l : ℕ) → l < count a → slot_le ((row (ceiling a)).puts l) (ceiling a l) ≡ true
   pub puts_held : (s : Store) (l : ℕ) → l < count a → HeldStore a s → UnderCeiling a s
-      → IsHeldSlot a.ladder ((row s).puts l)
+      → IsHeldSlot a.grid ((row s).puts l)
   pub keeps_others : (s : Store) (l : ℕ) → l < count a → UnderCeiling a s → defines l ≡ false
       → (row s).keeps l ≡ true
   pub puts_nowhere_else : (s : Store) (l : ℕ) → l < count a → UnderCeiling a s
@@ -116,14 +116,14 @@ pub record AreRowsLawful (a : Setting) : Type 0 where
       → IsLawfulDestination a uses d → IsLawfulValue a uses d value
       → ((s : Store) (l : ℕ) → UnderCeiling a s → may_hit d l ≡ true
       → kept_by d (d.targets s) l ≡ true → uses l ≡ true)
-      → IsLawful a (may_hit d) uses (storing a.ladder d value)
+      → IsLawful a (may_hit d) uses (storing a.grid d value)
   pub joining_lawful : (uses : ℕ → Bool) (d : Destination) (value : Store → ℕ → ℕ → Known)
       → IsLawfulDestination a uses d → IsLawfulValue a uses d value
       → ((l : ℕ) → may_hit d l ≡ true → uses l ≡ true)
-      → IsLawful a (may_hit d) uses (joining a.ladder d value)
+      → IsLawful a (may_hit d) uses (joining a.grid d value)
   pub placing_lawful : (uses at weak : ℕ → Bool) (value : Store → ℕ → Known)
       → IsLawfulPlacing a uses at weak value
-      → IsLawful a at uses (placing a.ladder at weak value)
+      → IsLawful a at uses (placing a.grid at weak value)
   pub untouched_lawful : (uses : ℕ → Bool) → IsLawful a (λ l. false) uses (λ s. untouched)
   -- two rows after one another, of which what is put always rises
   pub followed_lawful : (da db uses : ℕ → Bool) (first second : Store → Row)
@@ -132,10 +132,10 @@ pub record AreRowsLawful (a : Setting) : Type 0 where
       → IsLawful a (λ l. da l || db l) uses (λ s. followed (first s) (second s))
   pub storing_plain : (uses : ℕ → Bool) (d : Destination) (value : Store → ℕ → ℕ → Known)
       → IsLawfulDestination a uses d → IsLawfulValue a uses d value
-      → IsPlain a (storing a.ladder d value)
+      → IsPlain a (storing a.grid d value)
   pub joining_plain : (uses : ℕ → Bool) (d : Destination) (value : Store → ℕ → ℕ → Known)
       → IsLawfulDestination a uses d → IsLawfulValue a uses d value
-      → IsPlain a (joining a.ladder d value)
+      → IsPlain a (joining a.grid d value)
 
 abbrev pub RowLaws : Type 0
 RowLaws = (a : Setting) → IsSetting a → AreRowsLawful a

@@ -1,9 +1,10 @@
 -- A store through an address: the rule of strong and weak updates.
-use Rattle.std.specs.Prelude.{ℕ, Bool, true, cond, not, ◌&&◌, List, [], ◌∷◌, ℤ}
+use Rattle.std.specs.Prelude.{ℕ, Bool, true, cond, not, ◌&&◌, List, [], ◌∷◌}
 use Rattle.std.specs.List.{list_any}
 use Rattle.sp_value.specs.declared.targets.Target.{Target}
 use Rattle.sp_value.specs.declared.slots.Slot.{Slot}
 use Rattle.sp_value.specs.declared.slots.Slot.TheVariants.{Nothing}
+use Rattle.sp_numbers.specs.declared.grid.Grid.{Grid}
 use Rattle.sp_value.specs.Known.{Known}
 use Rattle.sp_value.specs.Held.{stored}
 use Rattle.sp_effect_rows.specs.Rows.{Store, Row, joins}
@@ -31,18 +32,18 @@ kept_by d (x ∷ []) l = not (d.hits x.region l && not (d.summary l))
 kept_by d (x ∷ y ∷ xs) l = true
 
 -- what goes to a location from the targets that hit it; `value` says what goes there from a region
-abbrev pub put_by : List ℤ → Destination → (ℕ → ℕ → Known) → List Target → ℕ → Slot
+abbrev pub put_by : Grid → Destination → (ℕ → ℕ → Known) → List Target → ℕ → Slot
 put_by points d value xs l =
     joins (λ x. cond (d.hits x.region l) (stored points (value x.region l)) Nothing) xs
 
-abbrev pub storing : List ℤ → Destination → (Store → ℕ → ℕ → Known) → Store → Row
+abbrev pub storing : Grid → Destination → (Store → ℕ → ℕ → Known) → Store → Row
 storing points d value s = record {
   keeps = λ l. kept_by d (d.targets s) l;
   puts = λ l. put_by points d (value s) (d.targets s) l;
 }
 
 -- a store that loses nothing, as that of a library routine which may write less than all
-abbrev pub joining : List ℤ → Destination → (Store → ℕ → ℕ → Known) → Store → Row
+abbrev pub joining : Grid → Destination → (Store → ℕ → ℕ → Known) → Store → Row
 joining points d value s = record {
   keeps = λ l. true;
   puts = λ l. put_by points d (value s) (d.targets s) l;

@@ -1,22 +1,24 @@
 -- An analysed program without pointers, and what effects see of it.
-use Rattle.std.specs.Prelude.{ℕ, Bool, false, ◌||◌, List, Option, Some, None, slice_get, slice_index_or, ℤ}
+use Rattle.std.specs.Prelude.{ℕ, Bool, false, ◌||◌, List, Option, Some, None, slice_get, slice_index_or}
 use Rattle.sp_types.specs.Types.{CType}
 use Rattle.sp_base_sets.specs.Reached.{row}
 use Rattle.sp_ir.specs.Regions.{Region, is_cell, numbers_of, is_summary_at}
 use Rattle.sp_ir.specs.Programs.{Lowered, Object}
 use Rattle.sp_ir.specs.Terrain.{terrain_of}
 use Rattle.sp_pre.specs.PointsTo.{Told}
+use Rattle.sp_numbers.specs.declared.grid.Grid.{Grid}
 use Rattle.sp_effect_rows.specs.Setting.{Setting}
 use Rattle.sp_effect_assign.specs.Scene.{Scene}
 
--- a program, what points-to tells of it, and the points to which what is stored is moved
+-- a program, what points-to tells of it, and the points to which what is stored is moved with the
+-- mode
 pub record Analysed : Type 0 where
   pub program : Lowered
   pub told : Told
-  pub ladder : List ℤ
+  pub grid : Grid
 
-abbrev pub analysed : Lowered → Told → List ℤ → Analysed
-analysed p told ladder = record { program = p; told = told; ladder = ladder }
+abbrev pub analysed : Lowered → Told → Grid → Analysed
+analysed p told grid = record { program = p; told = told; grid = grid }
 
 -- ---- locations
 
@@ -62,7 +64,7 @@ is_summary p told r = is_summary_at p.regions r || is_recursive told (owner_of p
 
 abbrev pub setting_of : Analysed → Setting
 setting_of a = record {
-  ladder = a.ladder;
+  grid = a.grid;
   cells = locations_of a.program;
   points_to = row a.told.rows;
   is_summary = is_summary a.program a.told;

@@ -25,5 +25,5 @@ pub record IsAnalysed (a : Analysed) : Type 0 where
   pub recursive : (f : ℕ) → (slice_index_or a.told.recursive f false ≡ true)
       ↔ IsRecursive a.program a.told.calls f
   -- the ladder, with no more points than 1,024 constants give
-  pub ladder : IsLadder a.ladder
-  pub few_points : length a.ladder ≤ 3097
+  pub ladder : IsLadder a.grid.ladder
+  pub few_points : length a.grid.ladder ≤ 3097

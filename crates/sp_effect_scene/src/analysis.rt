@@ -15,6 +15,7 @@ use sp_eval::numbers_as;
 use sp_graph::{Flow, supergraph};
 use sp_ir::Lowered;
 use sp_lattice::{Ladder, MOST_CONSTANTS};
+use sp_numbers::Grid;
 use sp_points_rules::{Groups, groups_of, under};
 use sp_pre::{PointsTo, points_to};
 use sp_types::CType;
@@ -36,8 +37,8 @@ fn most_constants(sharp: bool) -> usize
 }
 
 /// A formed program, and what is known of it before any effect: where cells may point, the
-/// supergraph, the locations, and the ladder. The groups are the regions of each object, and those
-/// with a leaf that is a pointer.
+/// supergraph, the locations, the ladder and the mode. The groups are the regions of each object, and
+/// those with a leaf that is a pointer.
 #[derive(Drop)]
 pub struct Analysis {
     pub lowered: Lowered,
@@ -45,13 +46,13 @@ pub struct Analysis {
     pub flow: Flow,
     pub locations: Locations,
     pub groups: Groups,
-    pub ladder: Ladder,
+    pub grid: Grid,
     ghost cells: { locations.cells.items ≡ locations_of (lowered_of lowered) } by { Prim.hlevel props },
-    ghost points: { IsLadder ladder } by { IsLadder-prop ladder },
+    ghost points: { IsLadder grid.ladder } by { IsLadder-prop grid.ladder },
     ghost grouped: { AreGroups (lowered_of lowered) groups },
     ghost few: { length (lowered_of lowered).objects < 2 ^ 32 },
     ghost graphed: { ∥ IsSupergraph (lowered_of lowered) pre.calls false flow ∥₁ },
-    ghost whole: { ∥ IsAnalysed (analysed (lowered_of lowered) pre ladder) ∥₁ },
+    ghost whole: { ∥ IsAnalysed (analysed (lowered_of lowered) pre grid) ∥₁ },
 }
 
 impl Analysis {
@@ -73,7 +74,8 @@ impl Analysis {
         ensures program { IfOk result (λ analysis.
             lowered_of analysis.lowered ≡ lowered_of lowered) }
         ensures points { IfOk result (λ analysis. IsLadderOf (most_constants sharp)
-            (lowered_of lowered).constants analysis.ladder) }
+            (lowered_of lowered).constants analysis.grid.ladder) }
+        ensures mode { IfOk result (λ analysis. analysis.grid.sharp ≡ sharp) }
     {
         let pre = points_to(alloc, &lowered)?;
         let flow = supergraph(alloc, &lowered, pre.calls())?;
@@ -88,7 +90,7 @@ impl Analysis {
             flow,
             locations,
             groups,
-            ladder,
+            grid: Grid { ladder, sharp },
         })
     }
 
@@ -120,7 +122,10 @@ impl Analysis {
         match element_of(&self.lowered, region) {
             Some(of) => {
                 if matches!(of, CType::Int(_)) {
-                    let fitted = value.with_numbers(alloc, numbers_as(of, &value))?;
+                    let fitted = value.with_numbers(
+                        alloc,
+                        numbers_as(self.grid.sharp, of, &value),
+                    )?;
                     Ok(fitted)
                 } else {
                     Ok(value)
@@ -143,7 +148,7 @@ impl Scenery for Analysis {
     ghost use Rattle.sp_effect_scene.specs.Analysed.{analysed, scene_of};
     ghost use Rattle.sp_effect_scene.specs.SceneLaws.{scene_lawful};
 
-    ghost scene = { λ s. scene_of (analysed (lowered_of s.lowered) s.pre s.ladder) };
+    ghost scene = { λ s. scene_of (analysed (lowered_of s.lowered) s.pre s.grid) };
 
     fn lowered(&self) -> &Lowered {
         &self.lowered
@@ -167,9 +172,9 @@ impl Scenery for Analysis {
         }
     }
 
-    fn ladder(&self) -> &Ladder {
-        &self.ladder
+    fn grid(&self) -> &Grid {
+        &self.grid
     }
 
-    ghost lawful = { λ s. scene_lawful (analysed (lowered_of s.lowered) s.pre s.ladder) s.whole };
+    ghost lawful = { λ s. scene_lawful (analysed (lowered_of s.lowered) s.pre s.grid) s.whole };
 }

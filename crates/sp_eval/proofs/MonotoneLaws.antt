@@ -1,8 +1,8 @@
 -- Of two stores, one below the other and the lesser formed, the lesser has the lesser values.
-use Rattle.std.proofs.Common.{◌≡◌, ◌⊎◌, inl, inr, ℕ, ◌<◌, ◌/◌, ◌%◌, nat_eq, Bool, true, false, cond, not, ◌&&◌, ◌||◌, List, [], ◌∷◌, Option, Some, None, refl, sym, subst, arith, ℤ, pos, ◌≤ℤ◌, neg_ℤ}
-use Rattle.std.specs.Prelude.{int_le, int_lt, if◌then◌else◌}
+use Rattle.std.proofs.Common.{◌≡◌, ℕ, ◌<◌, ◌/◌, ◌%◌, nat_eq, Bool, true, false, cond, not, ◌&&◌, ◌||◌, List, [], ◌∷◌, Option, Some, None, refl, sym, subst, arith, pos, neg_ℤ}
+use Rattle.std.specs.Prelude.{int_le, if◌then◌else◌}
 use Rattle.std.proofs.lemmas.Int.{ints}
-use Rattle.std.proofs.lemmas.Bool.{false≢true, or_cases}
+use Rattle.std.proofs.lemmas.Bool.{false≢true}
 use Rattle.sp_tree.specs.declared.token.Punct.{Punct}
 use Rattle.sp_tree.specs.declared.token.Punct.TheVariants.{Star, Plus, Minus, Tilde, Slash, Percent, ShiftLeft, ShiftRight, Ampersand, Bar, Caret}
 use Rattle.sp_types.specs.Types.{CType, void, integer, floating, pointer, array, structure, function}
@@ -11,19 +11,24 @@ use Rattle.sp_lattice.specs.Range.{IsIntegerRange}
 use Rattle.sp_lattice.specs.declared.ranges.Range.{Range}
 use Rattle.sp_lattice.specs.declared.relations.Relation.{Relation}
 use Rattle.sp_lattice.specs.declared.relations.Relation.TheVariants.{Less, LessEqual, Greater, GreaterEqual, Equal, Different}
-use Rattle.sp_lattice.proofs.Snaps.{int_le_true, le_from_int_le, int_lt_true, lt_from_int_lt}
+use Rattle.sp_lattice.proofs.Snaps.{le_from_int_le}
 use Rattle.sp_interval.specs.declared.interval.Interval.{Interval}
 use Rattle.sp_interval.specs.declared.interval.Interval.TheVariants.{Empty, Of}
-use Rattle.sp_interval.specs.Interval.{interval_le, hull, ranged, is_unsigned, IsFormed, IsOrdered, sum_of, difference_of}
-use Rattle.sp_interval.specs.Inclusion.{bounds_from_le, interval_le-refl, hull-monotone}
+use Rattle.sp_interval.specs.Interval.{interval_le, hull, ranged, is_unsigned, IsFormed, sum_of, difference_of}
+use Rattle.sp_interval.specs.Inclusion.{bounds_from_le, interval_le-refl, interval_le-trans, hull-monotone}
 use Rattle.sp_interval.proofs.Ranged.{ranged-monotone, ranged-within, ranged-same}
 use Rattle.sp_interval.proofs.Hulls.{ordered_from_formed}
-use Rattle.sp_interval.proofs.Sums.{sum_of-monotone, difference_of-monotone, added-monotone, subtracted-monotone}
-use Rattle.sp_interval.proofs.Products.{multiplied-monotone}
-use Rattle.sp_interval.proofs.Quotients.{divided-monotone}
-use Rattle.sp_interval.proofs.Remainders.{remaindered-monotone}
-use Rattle.sp_interval.proofs.ShiftLaws.{shifted_left-monotone, shifted_right-monotone}
-use Rattle.sp_interval.proofs.Bits.{anded-monotone, ored-monotone, xored-monotone}
+use Rattle.sp_interval.proofs.Sums.{sum_of-monotone, difference_of-monotone}
+use Rattle.sp_numbers.specs.declared.numbers.Numbers.{Numbers}
+use Rattle.sp_numbers.specs.Numbers.{numbers_le as le_of_numbers, numbers_order, is_empty, settled, plain, no_numbers, IsFormedNumbers}
+use Rattle.sp_numbers.specs.Order.{numbers_lawful, le-refl, IsBelow, below_from_le, le_from_below}
+use Rattle.sp_numbers.specs.Operations.{converted_numbers as ranged_numbers, differ_at_zero}
+use Rattle.sp_numbers.specs.Conditions.{all_hold, truth, truth_apart, truth_span, truth_numbers}
+use Rattle.sp_numbers.proofs.Settled.{settled-formed, settled-below}
+use Rattle.sp_numbers.proofs.OperationLaws.{with_range}
+use Rattle.sp_numbers.proofs.Truths.{span-formed, truth_laws}
+use Rattle.sp_value.specs.Orders.{join_monotone}
+use Rattle.sp_value.specs.FormedLaws.{formed_from_test}
 use Rattle.sp_ir.specs.Commands.{Expression, number, address, decay, read, convert, unary, binary, compare, move, distance, Lvalue, direct, through, field, lvalue_type}
 use Rattle.sp_ir.specs.Terrain.{Terrain, IsTerrain}
 use Rattle.sp_ir.specs.Denoted.{keeps_targets}
@@ -31,33 +36,25 @@ use Rattle.sp_value.specs.Kinds.{range_of}
 use Rattle.sp_value.specs.declared.targets.Target.{Target}
 use Rattle.sp_value.specs.Targets.{extent_le, targets_le}
 use Rattle.sp_value.specs.Known.{Known, none, of_numbers, of_target, known_le, known_join, has_numbers, has_targets, is_none, gathered, every_offset}
-use Rattle.sp_value.specs.Tests.{both, first, second}
+use Rattle.sp_value.specs.Tests.{first, second}
 use Rattle.sp_value.specs.TargetLaws.{offset_le, size_le, extent-made, le_match}
 use Rattle.sp_value.specs.KnownLaws.{numbers_le, the_targets_le, known_made, known-refl, known-trans, known_join-monotone, Rises, gathered-monotone}
 use Rattle.sp_value.specs.FormedLaws.{IsFormedKnown}
-use Rattle.sp_eval.specs.Numbers.{exactly, long_range, pointer_range, every, every_number, signed_by, operated, relation_of, all_hold, undecided, truth, times_size, shifted, outward}
+use Rattle.sp_eval.specs.Numbers.{exactly, long_range, pointer_range, every, every_number, signed_by, operated, relation_of, undecided, times_size, shifted, outward}
 use Rattle.sp_eval.specs.Steps.{each_target, whole_of, moved_offset, member_target, members_of, element_target, elements_of, accepted_one, accepted, numbers_as, read_cell, read_at, converted_numbers, converted, moved_target, moved, pair_distance, distances, distance_of, compared, comparison_of}
 use Rattle.sp_eval.specs.Evaluation.{matched, address_of, value_of, is_proper, is_proper_lvalue}
 use Rattle.sp_eval.specs.Laws.{AreFormed, AreBelow}
 use Rattle.sp_eval.proofs.Among.{chosen}
 use Rattle.sp_eval.proofs.Distances.{outward-monotone, times_size-ordered, times_size-monotone, ratio}
-use Rattle.sp_eval.proofs.FormLaws.{range_is, pointer_is, long_is, numbers_of, shifted-ordered, negated-ordered, proper-left, proper-right, proper-operands, size-some, value-formed}
+use Rattle.sp_eval.proofs.FormLaws.{range_is, pointer_is, long_is, plain-formed, exactly-formed, moved_numbers-formed, distance-formed, numbers_of, shifted-ordered, proper-left, proper-right, proper-operands, size-some, value-formed}
 
 -- ---- tests
-
-or_left : (a b : Bool) → a ≡ true → (a || b) ≡ true
-or_left true b h = refl
-or_left false b h = absurd (false≢true h)
-
-or_right : (a b : Bool) → b ≡ true → (a || b) ≡ true
-or_right true b h = refl
-or_right false b h = h
 
 abbrev pub Implies : Bool → Bool → Type 0
 Implies a b = a ≡ true → b ≡ true
 
 pub has_numbers-rises : (v w : Known) → known_le v w ≡ true → Implies (has_numbers v) (has_numbers w)
-has_numbers-rises v w h k = by v.numbers w.numbers (numbers_le v w h) k
+has_numbers-rises v w h k = by v.numbers.span w.numbers.span (below_from_le v.numbers w.numbers (numbers_le v w h)).span k
   where
     by : (i j : Interval) → interval_le i j ≡ true → not (interval_le i Empty) ≡ true → not (interval_le j Empty) ≡ true
     by Empty j h k = absurd (false≢true k)
@@ -107,8 +104,32 @@ pub same_numbers : (b : Bool) (i i' j j' : Interval) → (b ≡ true → interva
 same_numbers true i i' j j' h g = h refl
 same_numbers false i i' j j' h g = g
 
-numbers-monotone : (i j : Interval) → interval_le i j ≡ true → known_le (of_numbers i) (of_numbers j) ≡ true
-numbers-monotone i j h = known_made (of_numbers i) (of_numbers j) h refl
+numbers-monotone : (m n : Numbers) → le_of_numbers m n ≡ true → known_le (of_numbers m) (of_numbers n) ≡ true
+numbers-monotone m n h = known_made (of_numbers m) (of_numbers n) h refl
+
+rising_kept : (b c : Bool) (i i' j j' : Numbers) → Implies b c → le_of_numbers i j ≡ true → le_of_numbers i' j' ≡ true → le_of_numbers i' j ≡ true → le_of_numbers (cond b i i') (cond c j j') ≡ true
+rising_kept true true i i' j j' h p q r = p
+rising_kept true false i i' j j' h p q r = absurd (false≢true (h refl))
+rising_kept false true i i' j j' h p q r = r
+rising_kept false false i i' j j' h p q r = q
+
+falling_kept : (b c : Bool) (i j : Numbers) → Implies c b → le_of_numbers i j ≡ true → le_of_numbers (cond b no_numbers i) (cond c no_numbers j) ≡ true
+falling_kept true c i j h p = refl
+falling_kept false true i j h p = absurd (false≢true (h refl))
+falling_kept false false i j h p = p
+
+pub same_kept : (b : Bool) (i i' j j' : Numbers) → le_of_numbers i j ≡ true → le_of_numbers i' j' ≡ true → le_of_numbers (cond b i i') (cond b j j') ≡ true
+same_kept true i i' j j' h g = h
+same_kept false i i' j j' h g = g
+
+settled-le : (sharp : Bool) (i j : Interval) → IsFormed i → interval_le i j ≡ true → le_of_numbers (settled sharp false i) (settled sharp false j) ≡ true
+settled-le sharp i j h p = le_from_below (settled sharp false i) (settled sharp false j) (settled-below sharp false false i j h p (λ e. e))
+
+pub plain-le : (i j : Interval) → interval_le i j ≡ true → le_of_numbers (plain i) (plain j) ≡ true
+plain-le i j p = le_from_below (plain i) (plain j) (record { span = p; nonzero = λ e. interval_le-trans i j Empty p e })
+
+span_le : (v w : Known) → known_le v w ≡ true → interval_le v.numbers.span w.numbers.span ≡ true
+span_le v w h = (below_from_le v.numbers w.numbers (numbers_le v w h)).span
 
 -- ---- targets
 
@@ -152,27 +173,24 @@ shifted-monotone false i j i' j' p q = sum_of-monotone i j i' j' p q
 
 -- ---- conversions
 
-module _ (t : CType) (v w : Known) (formed : IsFormedKnown v) (h : known_le v w ≡ true) where
-  converted_numbers-monotone : interval_le (converted_numbers t v) (converted_numbers t w) ≡ true
+module _ (sharp : Bool) (t : CType) (v w : Known) (formed : IsFormedKnown v) (h : known_le v w ≡ true) where
+  converted_numbers-monotone : le_of_numbers (converted_numbers sharp t v) (converted_numbers sharp t w) ≡ true
   converted_numbers-monotone = by t
     where
-      ordered : IsOrdered v.numbers
-      ordered = ordered_from_formed v.numbers (numbers_of v formed)
-
-      by : (t : CType) → interval_le (converted_numbers t v) (converted_numbers t w) ≡ true
-      by (integer k) = hull-monotone (ranged (range_of k) v.numbers) (cond (has_targets v) (every (range_of k)) Empty) (ranged (range_of k) w.numbers) (cond (has_targets w) (every (range_of k)) Empty)
-          (ranged-monotone (range_of k) v.numbers w.numbers (range_is k) ordered (numbers_le v w h))
-          (rising_numbers (has_targets v) (has_targets w) (every (range_of k)) Empty (every (range_of k)) Empty (has_targets-rises v w h) (interval_le-refl (every (range_of k))) refl refl)
-      by (pointer u) = ranged-monotone pointer_range v.numbers w.numbers pointer_is ordered (numbers_le v w h)
+      by : (t : CType) → le_of_numbers (converted_numbers sharp t v) (converted_numbers sharp t w) ≡ true
+      by (integer k) = join_monotone numbers_order numbers_lawful (ranged_numbers sharp (range_of k) v.numbers) (cond (has_targets v) (plain (every (range_of k))) no_numbers) (ranged_numbers sharp (range_of k) w.numbers) (cond (has_targets w) (plain (every (range_of k))) no_numbers)
+          ((with_range (range_of k) (range_is k)).converted_laws.monotone sharp v.numbers v.numbers w.numbers w.numbers (numbers_of v formed) (numbers_of v formed) (numbers_le v w h) (numbers_le v w h))
+          (rising_kept (has_targets v) (has_targets w) (plain (every (range_of k))) no_numbers (plain (every (range_of k))) no_numbers (has_targets-rises v w h) (le-refl (plain (every (range_of k)))) refl refl)
+      by (pointer u) = (with_range pointer_range pointer_is).converted_laws.monotone sharp v.numbers v.numbers w.numbers w.numbers (numbers_of v formed) (numbers_of v formed) (numbers_le v w h) (numbers_le v w h)
       by void = refl
       by (floating k) = refl
       by (array u n) = refl
       by (structure n) = refl
       by (function s) = refl
 
-  pub converted-monotone : known_le (converted t v) (converted t w) ≡ true
+  pub converted-monotone : known_le (converted sharp t v) (converted sharp t w) ≡ true
   unfolding converted
-  converted-monotone = known_made (converted t v) (converted t w) converted_numbers-monotone (by (keeps_targets t))
+  converted-monotone = known_made (converted sharp t v) (converted sharp t w) converted_numbers-monotone (by (keeps_targets t))
     where
       by : (b : Bool) → targets_le (cond b v.targets []) (cond b w.targets []) ≡ true
       by true = the_targets_le v w h
@@ -180,121 +198,82 @@ module _ (t : CType) (v w : Known) (formed : IsFormedKnown v) (h : known_le v w 
 
 -- ---- operators
 
-subtracted_from-monotone : (r : Range) (z : ℤ) (i j : Interval) → IsIntegerRange r → IsFormed i → interval_le i j ≡ true → interval_le (ranged r (difference_of (exactly z) i)) (ranged r (difference_of (exactly z) j)) ≡ true
-subtracted_from-monotone r z i j is h p = ranged-monotone r (difference_of (exactly z) i) (difference_of (exactly z) j) is (negated-ordered z i h) (difference_of-monotone (exactly z) i (exactly z) j (interval_le-refl (exactly z)) p)
-
-signed_by-monotone : (op : Punct) (r : Range) (i j : Interval) → IsIntegerRange r → IsFormed i → interval_le i j ≡ true → interval_le (signed_by op r i) (signed_by op r j) ≡ true
+signed_by-monotone : (sharp : Bool) (op : Punct) (r : Range) (m n : Numbers) → IsIntegerRange r → IsFormedNumbers m → le_of_numbers m n ≡ true → le_of_numbers (signed_by sharp op r m) (signed_by sharp op r n) ≡ true
 unfolding signed_by
-signed_by-monotone Plus r i j is h p = ranged-monotone r i j is (ordered_from_formed i h) p
-signed_by-monotone Minus r i j is h p = subtracted_from-monotone r (pos 0) i j is h p
-signed_by-monotone Tilde r i j is h p = subtracted_from-monotone r (if is_unsigned r then r.hi else neg_ℤ (pos 1)) i j is h p
-signed_by-monotone op r i j is h p = refl
+signed_by-monotone sharp Plus r m n is h p = (with_range r is).converted_laws.monotone sharp m m n n h h p p
+signed_by-monotone sharp Minus r m n is h p = (with_range r is).subtracted_laws.monotone sharp (plain (exactly (pos 0))) m (plain (exactly (pos 0))) n (plain-formed (exactly (pos 0)) (formed_from_test (exactly (pos 0)) refl)) h (le-refl (plain (exactly (pos 0)))) p
+signed_by-monotone sharp Tilde r m n is h p =
+    let top : Numbers = settled sharp false (exactly (if is_unsigned r then r.hi else neg_ℤ (pos 1))) in
+    (with_range r is).subtracted_laws.monotone sharp top m top n (settled-formed sharp false (exactly (if is_unsigned r then r.hi else neg_ℤ (pos 1))) (exactly-formed r is)) h (le-refl top) p
+signed_by-monotone sharp op r m n is h p = refl
 
-operated-monotone : (op : Punct) (r : Range) (i j i' j' : Interval) → IsIntegerRange r → IsFormed i → IsFormed j → interval_le i i' ≡ true → interval_le j j' ≡ true → interval_le (operated op r i j) (operated op r i' j') ≡ true
+operated-monotone : (sharp : Bool) (op : Punct) (r : Range) (m n o p : Numbers) → IsIntegerRange r → IsFormedNumbers m → IsFormedNumbers n → le_of_numbers m o ≡ true → le_of_numbers n p ≡ true → le_of_numbers (operated sharp op r m n) (operated sharp op r o p) ≡ true
 unfolding operated
-operated-monotone Plus = added-monotone
-operated-monotone Minus = subtracted-monotone
-operated-monotone Star = multiplied-monotone
-operated-monotone Slash = divided-monotone
-operated-monotone Percent = remaindered-monotone
-operated-monotone ShiftLeft = shifted_left-monotone
-operated-monotone ShiftRight = shifted_right-monotone
-operated-monotone Ampersand = anded-monotone
-operated-monotone Bar = ored-monotone
-operated-monotone Caret = xored-monotone
-operated-monotone op = λ r i j i' j' is h k p q. refl
+operated-monotone sharp Plus r m n o p is = (with_range r is).added_laws.monotone sharp m n o p
+operated-monotone sharp Minus r m n o p is = (with_range r is).subtracted_laws.monotone sharp m n o p
+operated-monotone sharp Star r m n o p is = (with_range r is).multiplied_laws.monotone sharp m n o p
+operated-monotone sharp Slash r m n o p is = (with_range r is).divided_laws.monotone sharp m n o p
+operated-monotone sharp Percent r m n o p is = (with_range r is).remaindered_laws.monotone sharp m n o p
+operated-monotone sharp ShiftLeft r m n o p is = (with_range r is).shifted_left_laws.monotone sharp m n o p
+operated-monotone sharp ShiftRight r m n o p is = (with_range r is).shifted_right_laws.monotone sharp m n o p
+operated-monotone sharp Ampersand r m n o p is = (with_range r is).anded_laws.monotone sharp m n o p
+operated-monotone sharp Bar r m n o p is = (with_range r is).ored_laws.monotone sharp m n o p
+operated-monotone sharp Caret r m n o p is = (with_range r is).xored_laws.monotone sharp m n o p
+operated-monotone sharp op r m n o p is = λ h k x y. refl
 
 -- ---- comparisons
 
--- what all members of greater intervals agree on, those of lesser ones do
-all_hold-falls : (op : Relation) (a b c d a' b' c' d' : ℤ) → a' ≤ℤ a → b ≤ℤ b' → c' ≤ℤ c → d ≤ℤ d' → Implies (all_hold op a' b' c' d') (all_hold op a b c d)
-all_hold-falls Less a b c d a' b' c' d' h1 h2 h3 h4 k = int_lt_true b c (let l = lt_from_int_lt b' c' k in omega (arith, ints, h2, h3, l))
-all_hold-falls LessEqual a b c d a' b' c' d' h1 h2 h3 h4 k = int_le_true b c (let l = le_from_int_le b' c' k in omega (arith, ints, h2, h3, l))
-all_hold-falls Greater a b c d a' b' c' d' h1 h2 h3 h4 k = int_lt_true d a (let l = lt_from_int_lt d' a' k in omega (arith, ints, h1, h4, l))
-all_hold-falls GreaterEqual a b c d a' b' c' d' h1 h2 h3 h4 k = int_le_true d a (let l = le_from_int_le d' a' k in omega (arith, ints, h1, h4, l))
-all_hold-falls Equal a b c d a' b' c' d' h1 h2 h3 h4 k =
-    let l = le_from_int_le b' c' (first (int_le b' c') (int_le d' a') k) in
-    let m = le_from_int_le d' a' (second (int_le b' c') (int_le d' a') k) in
-    both (int_le b c) (int_le d a) (int_le_true b c (omega (arith, ints, h2, h3, l))) (int_le_true d a (omega (arith, ints, h1, h4, m)))
-all_hold-falls Different a b c d a' b' c' d' h1 h2 h3 h4 k = by (or_cases (int_lt b' c') (int_lt d' a') k)
+-- what is undecided is above each truth
+truth-under : (sharp : Bool) (op : Relation) (m n : Numbers) → IsFormedNumbers m → IsFormedNumbers n → le_of_numbers (truth_numbers sharp op m n) (plain undecided) ≡ true
+truth-under sharp op m n h g = le_from_below (truth_numbers sharp op m n) (plain undecided) (settled-undecided sharp (truth_span op m n) (span-formed op m n) (span-within op m n))
   where
-    by : (int_lt b' c' ≡ true) ⊎ (int_lt d' a' ≡ true) → (int_lt b c || int_lt d a) ≡ true
-    by (inl l) = let m = lt_from_int_lt b' c' l in or_left (int_lt b c) (int_lt d a) (int_lt_true b c (omega (arith, ints, h2, h3, m)))
-    by (inr l) = let m = lt_from_int_lt d' a' l in or_right (int_lt b c) (int_lt d a) (int_lt_true d a (omega (arith, ints, h1, h4, m)))
+    settled-undecided : (sharp : Bool) (i : Interval) → IsFormed i → interval_le i undecided ≡ true → IsBelow (settled sharp false i) (plain undecided)
+    settled-undecided true i h p = record { span = p; nonzero = λ e. absurd (false≢true e) }
+    settled-undecided false i h p = record { span = p; nonzero = λ e. absurd (false≢true e) }
 
--- all equal, and all different
-apart : (a b c d : ℤ) → a ≤ℤ b → c ≤ℤ d → (int_le b c && int_le d a) ≡ true → (int_lt b c || int_lt d a) ≡ true → ⊥
-apart a b c d o p h k =
-    let l = le_from_int_le b c (first (int_le b c) (int_le d a) h) in
-    let m = le_from_int_le d a (second (int_le b c) (int_le d a) h) in
-    by l m (or_cases (int_lt b c) (int_lt d a) k)
-  where
-    by : b ≤ℤ c → d ≤ℤ a → (int_lt b c ≡ true) ⊎ (int_lt d a ≡ true) → ⊥
-    by l m (inl n) = let q = lt_from_int_lt b c n in omega (arith, ints, o, p, l, m, q)
-    by l m (inr n) = let q = lt_from_int_lt d a n in omega (arith, ints, o, p, l, m, q)
+    truth-within : (op : Relation) (i j : Interval) → interval_le (truth op i j) undecided ≡ true
+    truth-within op Empty j = refl
+    truth-within op (Of a b) Empty = refl
+    truth-within op (Of a b) (Of c d) = chosen (λ i. interval_le i undecided ≡ true) (all_hold op a b c d) (exactly (pos 1)) (cond (all_hold (opposite op) a b c d) (exactly (pos 0)) undecided) (λ e. refl)
+        (λ e. chosen (λ i. interval_le i undecided ≡ true) (all_hold (opposite op) a b c d) (exactly (pos 0)) undecided (λ e. refl) (λ e. refl))
 
--- no relation holds of all members together with its opposite
-not_both : (op : Relation) (a b c d : ℤ) → a ≤ℤ b → c ≤ℤ d → all_hold op a b c d ≡ true → all_hold (opposite op) a b c d ≡ true → ⊥
-not_both Less a b c d o p h k = let l = lt_from_int_lt b c h in let m = le_from_int_le d a k in omega (arith, ints, o, p, l, m)
-not_both LessEqual a b c d o p h k = let l = le_from_int_le b c h in let m = lt_from_int_lt d a k in omega (arith, ints, o, p, l, m)
-not_both Greater a b c d o p h k = let l = lt_from_int_lt d a h in let m = le_from_int_le b c k in omega (arith, ints, o, p, l, m)
-not_both GreaterEqual a b c d o p h k = let l = le_from_int_le d a h in let m = lt_from_int_lt b c k in omega (arith, ints, o, p, l, m)
-not_both Equal a b c d o p h k = apart a b c d o p h k
-not_both Different a b c d o p h k = apart a b c d o p k h
+    apart-within : (op : Relation) (i : Interval) → interval_le i undecided ≡ true → interval_le (truth_apart op i) undecided ≡ true
+    apart-within Equal i h = refl
+    apart-within Different i h = refl
+    apart-within Less i h = h
+    apart-within LessEqual i h = h
+    apart-within Greater i h = h
+    apart-within GreaterEqual i h = h
 
--- of two choices of 1, 0 or both, the one with more decided lies below
-truth_choice : (x y x' y' : Bool) → Implies x' x → Implies y' y → (x ≡ true → y ≡ true → ⊥)
-    → interval_le (cond x (exactly (pos 1)) (cond y (exactly (pos 0)) undecided)) (cond x' (exactly (pos 1)) (cond y' (exactly (pos 0)) undecided)) ≡ true
-truth_choice true y true y' f g n = refl
-truth_choice false y true y' f g n = absurd (false≢true (f refl))
-truth_choice true true false true f g n = absurd (n refl refl)
-truth_choice true false false true f g n = absurd (false≢true (g refl))
-truth_choice false true false true f g n = refl
-truth_choice false false false true f g n = absurd (false≢true (g refl))
-truth_choice true y false false f g n = refl
-truth_choice false true false false f g n = refl
-truth_choice false false false false f g n = refl
+    span-within : (op : Relation) (m n : Numbers) → interval_le (truth_span op m n) undecided ≡ true
+    span-within op m n = by (is_empty m.span || is_empty n.span) (differ_at_zero m n)
+      where
+        by : (s t : Bool) → interval_le (cond s Empty (cond t (truth_apart op (truth op m.span n.span)) (truth op m.span n.span))) undecided ≡ true
+        by true t = refl
+        by false true = apart-within op (truth op m.span n.span) (truth-within op m.span n.span)
+        by false false = truth-within op m.span n.span
 
-truth-monotone : (op : Relation) (i j i' j' : Interval) → IsFormed i → IsFormed j → interval_le i i' ≡ true → interval_le j j' ≡ true → interval_le (truth op i j) (truth op i' j') ≡ true
-truth-monotone op Empty j i' j' h k p q = refl
-truth-monotone op (Of a b) Empty i' j' h k p q = refl
-truth-monotone op (Of a b) (Of c d) Empty j' h k p q = absurd (false≢true p)
-truth-monotone op (Of a b) (Of c d) (Of a' b') Empty h k p q = absurd (false≢true q)
-truth-monotone op (Of a b) (Of c d) (Of a' b') (Of c' d') h k p q =
-    let m = bounds_from_le a b a' b' p in
-    let n = bounds_from_le c d c' d' q in
-    truth_choice (all_hold op a b c d) (all_hold (opposite op) a b c d) (all_hold op a' b' c' d') (all_hold (opposite op) a' b' c' d')
-    (all_hold-falls op a b c d a' b' c' d' m.0 m.1 n.0 n.1)
-    (all_hold-falls (opposite op) a b c d a' b' c' d' m.0 m.1 n.0 n.1)
-    (not_both op a b c d h.0 k.0)
-
-truth-within : (op : Relation) (i j : Interval) → interval_le (truth op i j) undecided ≡ true
-truth-within op Empty j = refl
-truth-within op (Of a b) Empty = refl
-truth-within op (Of a b) (Of c d) = chosen (λ i. interval_le i undecided ≡ true) (all_hold op a b c d) (exactly (pos 1)) (cond (all_hold (opposite op) a b c d) (exactly (pos 0)) undecided) (λ e. refl)
-    (λ e. chosen (λ i. interval_le i undecided ≡ true) (all_hold (opposite op) a b c d) (exactly (pos 0)) undecided (λ e. refl) (λ e. refl))
-
-compared-monotone : (op : Relation) (v w v' w' : Known) → IsFormedKnown v → IsFormedKnown w → known_le v v' ≡ true → known_le w w' ≡ true → interval_le (compared op v w) (compared op v' w') ≡ true
-compared-monotone op v w v' w' h k p q = falling_numbers (is_none v || is_none w) (is_none v' || is_none w')
-    (cond (has_targets v || has_targets w) undecided (truth op v.numbers w.numbers))
-    (cond (has_targets v' || has_targets w') undecided (truth op v'.numbers w'.numbers))
+compared-monotone : (sharp : Bool) (op : Relation) (v w v' w' : Known) → IsFormedKnown v → IsFormedKnown w → known_le v v' ≡ true → known_le w w' ≡ true → le_of_numbers (compared sharp op v w) (compared sharp op v' w') ≡ true
+compared-monotone sharp op v w v' w' h k p q = falling_kept (is_none v || is_none w) (is_none v' || is_none w')
+    (cond (has_targets v || has_targets w) (plain undecided) (truth_numbers sharp op v.numbers w.numbers))
+    (cond (has_targets v' || has_targets w') (plain undecided) (truth_numbers sharp op v'.numbers w'.numbers))
     (either-rises (is_none v') (is_none w') (is_none v) (is_none w) (none-falls v v' p) (none-falls w w' q))
-    (rising_numbers (has_targets v || has_targets w) (has_targets v' || has_targets w') undecided (truth op v.numbers w.numbers) undecided (truth op v'.numbers w'.numbers)
+    (rising_kept (has_targets v || has_targets w) (has_targets v' || has_targets w') (plain undecided) (truth_numbers sharp op v.numbers w.numbers) (plain undecided) (truth_numbers sharp op v'.numbers w'.numbers)
     (either-rises (has_targets v) (has_targets w) (has_targets v') (has_targets w') (has_targets-rises v v' p) (has_targets-rises w w' q))
-    refl
-    (truth-monotone op v.numbers w.numbers v'.numbers w'.numbers (numbers_of v h) (numbers_of w k) (numbers_le v v' p) (numbers_le w w' q))
-    (truth-within op v.numbers w.numbers))
+    (le-refl (plain undecided))
+    ((truth_laws op).monotone sharp v.numbers w.numbers v'.numbers w'.numbers (numbers_of v h) (numbers_of w k) (numbers_le v v' p) (numbers_le w w' q))
+    (truth-under sharp op v.numbers w.numbers (numbers_of v h) (numbers_of w k)))
 
-comparison-monotone : (op : Option Relation) (v w v' w' : Known) → IsFormedKnown v → IsFormedKnown w → known_le v v' ≡ true → known_le w w' ≡ true → interval_le (comparison_of op v w) (comparison_of op v' w') ≡ true
+comparison-monotone : (sharp : Bool) (op : Option Relation) (v w v' w' : Known) → IsFormedKnown v → IsFormedKnown w → known_le v v' ≡ true → known_le w w' ≡ true → le_of_numbers (comparison_of sharp op v w) (comparison_of sharp op v' w') ≡ true
 unfolding comparison_of
-comparison-monotone None v w v' w' h k p q = refl
-comparison-monotone (Some op) v w v' w' h k p q = compared-monotone op v w v' w' h k p q
+comparison-monotone sharp None v w v' w' h k p q = refl
+comparison-monotone sharp (Some op) v w v' w' h k p q = compared-monotone sharp op v w v' w' h k p q
 
 -- ---- steps
 
-pub numbers_as-monotone : (t : CType) (i j : Interval) → IsFormed i → interval_le i j ≡ true → interval_le (numbers_as t i) (numbers_as t j) ≡ true
-numbers_as-monotone (integer k) i j h p = ranged-monotone (range_of k) i j (range_is k) (ordered_from_formed i h) p
-numbers_as-monotone t i j h p = p
+pub numbers_as-monotone : (sharp : Bool) (t : CType) (m n : Numbers) → IsFormedNumbers m → le_of_numbers m n ≡ true → le_of_numbers (numbers_as sharp t m) (numbers_as sharp t n) ≡ true
+numbers_as-monotone sharp (integer k) m n h p = (with_range (range_of k) (range_is k)).converted_laws.monotone sharp m m n n h h p p
+numbers_as-monotone sharp t m n h p = p
 
 module _ (g : Terrain) where
   member-rises : (t : CType) (k : ℕ) → Rises (λ x. of_target (member_target g t k x)) (λ x. of_target (member_target g t k x))
@@ -323,7 +302,7 @@ module _ (g : Terrain) where
   accepted-monotone : (t : CType) (v w : Known) → known_le v w ≡ true → known_le (accepted g t v) (accepted g t w) ≡ true
   unfolding accepted
   accepted-monotone t v w h = gathered-monotone (accepted_one g t) (accepted_one g t)
-      (rises-made (accepted_one g t) (accepted_one g t) (λ r o s o' s' p q. same_choice (g.accepts r t) (of_target (at r o s)) (of_numbers (every pointer_range)) (of_target (at r o' s')) (of_numbers (every pointer_range)) (one-monotone r o s o' s' p q) (known-refl (of_numbers (every pointer_range)))))
+      (rises-made (accepted_one g t) (accepted_one g t) (λ r o s o' s' p q. same_choice (g.accepts r t) (of_target (at r o s)) (of_numbers (plain (every pointer_range))) (of_target (at r o' s')) (of_numbers (plain (every pointer_range))) (one-monotone r o s o' s' p q) (known-refl (of_numbers (plain (every pointer_range))))))
       v.targets w.targets (the_targets_le v w h)
 
   pub matched-monotone : (l : Lvalue) (v w : Known) → known_le v w ≡ true → known_le (matched g l v) (matched g l w) ≡ true
@@ -332,18 +311,18 @@ module _ (g : Terrain) where
   matched-monotone (through e t p) v w h = accepted-monotone t v w h
   matched-monotone (field l k t) v w h = h
 
-  pub read_cell-monotone : (s t : ℕ → Known) → AreFormed s → AreBelow s t → (c : CType) (r : ℕ) → known_le (read_cell g s c r) (read_cell g t c r) ≡ true
-  read_cell-monotone s t formed below c r = known_made (read_cell g s c r) (read_cell g t c r)
-      (same_numbers (g.collapsed r) (every_number c) (numbers_as c (s r).numbers) (every_number c) (numbers_as c (t r).numbers) (λ e. interval_le-refl (every_number c))
-      (numbers_as-monotone c (s r).numbers (t r).numbers (numbers_of (s r) (formed r)) (numbers_le (s r) (t r) (below r))))
+  pub read_cell-monotone : (sharp : Bool) (s t : ℕ → Known) → AreFormed s → AreBelow s t → (c : CType) (r : ℕ) → known_le (read_cell sharp g s c r) (read_cell sharp g t c r) ≡ true
+  read_cell-monotone sharp s t formed below c r = known_made (read_cell sharp g s c r) (read_cell sharp g t c r)
+      (same_kept (g.collapsed r) (plain (every_number c)) (numbers_as sharp c (s r).numbers) (plain (every_number c)) (numbers_as sharp c (t r).numbers) (le-refl (plain (every_number c)))
+      (numbers_as-monotone sharp c (s r).numbers (t r).numbers (numbers_of (s r) (formed r)) (numbers_le (s r) (t r) (below r))))
       (the_targets_le (s r) (t r) (below r))
 
-  read-monotone : (s t : ℕ → Known) → AreFormed s → AreBelow s t → (c : CType) (v w : Known) → known_le v w ≡ true → known_le (read_at g s c v) (read_at g t c w) ≡ true
+  read-monotone : (sharp : Bool) (s t : ℕ → Known) → AreFormed s → AreBelow s t → (c : CType) (v w : Known) → known_le v w ≡ true → known_le (read_at sharp g s c v) (read_at sharp g t c w) ≡ true
   unfolding read_at
-  read-monotone s t formed below c v w h = known_join-monotone (of_numbers (cond (has_numbers v) (every_number c) Empty)) (gathered (λ x. read_cell g s c x.region) v.targets) (of_numbers (cond (has_numbers w) (every_number c) Empty)) (gathered (λ x. read_cell g t c x.region) w.targets)
-      (numbers-monotone (cond (has_numbers v) (every_number c) Empty) (cond (has_numbers w) (every_number c) Empty) (rising_numbers (has_numbers v) (has_numbers w) (every_number c) Empty (every_number c) Empty (has_numbers-rises v w h) (interval_le-refl (every_number c)) refl refl))
-      (gathered-monotone (λ x. read_cell g s c x.region) (λ x. read_cell g t c x.region)
-      (rises-made (λ x. read_cell g s c x.region) (λ x. read_cell g t c x.region) (λ r o a o' a' p q. read_cell-monotone s t formed below c r)) v.targets w.targets (the_targets_le v w h))
+  read-monotone sharp s t formed below c v w h = known_join-monotone (of_numbers (cond (has_numbers v) (plain (every_number c)) no_numbers)) (gathered (λ x. read_cell sharp g s c x.region) v.targets) (of_numbers (cond (has_numbers w) (plain (every_number c)) no_numbers)) (gathered (λ x. read_cell sharp g t c x.region) w.targets)
+      (numbers-monotone (cond (has_numbers v) (plain (every_number c)) no_numbers) (cond (has_numbers w) (plain (every_number c)) no_numbers) (rising_kept (has_numbers v) (has_numbers w) (plain (every_number c)) no_numbers (plain (every_number c)) no_numbers (has_numbers-rises v w h) (le-refl (plain (every_number c))) refl refl))
+      (gathered-monotone (λ x. read_cell sharp g s c x.region) (λ x. read_cell sharp g t c x.region)
+      (rises-made (λ x. read_cell sharp g s c x.region) (λ x. read_cell sharp g t c x.region) (λ r o a o' a' p q. read_cell-monotone sharp s t formed below c r)) v.targets w.targets (the_targets_le v w h))
 
   -- ---- pointers
 
@@ -364,17 +343,18 @@ module _ (g : Terrain) where
       (shifted-ordered back i (times_size size j) (ordered_from_formed i h) (times_size-ordered size j (ordered_from_formed j k)))
       (shifted-monotone back i (times_size size j) i' (times_size size j') p (times_size-monotone size j j' q))
 
-  moved-monotone : (back : Bool) (size : ℕ) (p b p' b' : Known) → IsFormedKnown p → IsFormedKnown b → known_le p p' ≡ true → known_le b b' ≡ true → known_le (moved g back size p b) (moved g back size p' b') ≡ true
+  moved-monotone : (sharp : Bool) (back : Bool) (size : ℕ) (p b p' b' : Known) → IsFormedKnown p → IsFormedKnown b → known_le p p' ≡ true → known_le b b' ≡ true → known_le (moved sharp g back size p b) (moved sharp g back size p' b') ≡ true
   unfolding moved
-  moved-monotone back size p b p' b' f k h l = rising_choice (has_numbers b) (has_numbers b')
-      (known_join (of_numbers (ranged pointer_range (shifted back p.numbers (times_size size b.numbers)))) (gathered (λ x. of_target (moved_target g back size b.numbers x)) p.targets)) none
-      (known_join (of_numbers (ranged pointer_range (shifted back p'.numbers (times_size size b'.numbers)))) (gathered (λ x. of_target (moved_target g back size b'.numbers x)) p'.targets)) none
+  moved-monotone sharp back size p b p' b' f k h l = rising_choice (has_numbers b) (has_numbers b')
+      (known_join (of_numbers (settled sharp false (ranged pointer_range (shifted back p.numbers.span (times_size size b.numbers.span))))) (gathered (λ x. of_target (moved_target g back size b.numbers.span x)) p.targets)) none
+      (known_join (of_numbers (settled sharp false (ranged pointer_range (shifted back p'.numbers.span (times_size size b'.numbers.span))))) (gathered (λ x. of_target (moved_target g back size b'.numbers.span x)) p'.targets)) none
       (has_numbers-rises b b' l)
-      (known_join-monotone (of_numbers (ranged pointer_range (shifted back p.numbers (times_size size b.numbers)))) (gathered (λ x. of_target (moved_target g back size b.numbers x)) p.targets)
-      (of_numbers (ranged pointer_range (shifted back p'.numbers (times_size size b'.numbers)))) (gathered (λ x. of_target (moved_target g back size b'.numbers x)) p'.targets)
-      (numbers-monotone (ranged pointer_range (shifted back p.numbers (times_size size b.numbers))) (ranged pointer_range (shifted back p'.numbers (times_size size b'.numbers)))
-      (moved_numbers-monotone back size p.numbers b.numbers p'.numbers b'.numbers (numbers_of p f) (numbers_of b k) (numbers_le p p' h) (numbers_le b b' l)))
-      (gathered-monotone (λ x. of_target (moved_target g back size b.numbers x)) (λ x. of_target (moved_target g back size b'.numbers x)) (moved_target-rises back size b.numbers b'.numbers (numbers_le b b' l)) p.targets p'.targets (the_targets_le p p' h)))
+      (known_join-monotone (of_numbers (settled sharp false (ranged pointer_range (shifted back p.numbers.span (times_size size b.numbers.span))))) (gathered (λ x. of_target (moved_target g back size b.numbers.span x)) p.targets)
+      (of_numbers (settled sharp false (ranged pointer_range (shifted back p'.numbers.span (times_size size b'.numbers.span))))) (gathered (λ x. of_target (moved_target g back size b'.numbers.span x)) p'.targets)
+      (numbers-monotone (settled sharp false (ranged pointer_range (shifted back p.numbers.span (times_size size b.numbers.span)))) (settled sharp false (ranged pointer_range (shifted back p'.numbers.span (times_size size b'.numbers.span))))
+      (settled-le sharp (ranged pointer_range (shifted back p.numbers.span (times_size size b.numbers.span))) (ranged pointer_range (shifted back p'.numbers.span (times_size size b'.numbers.span))) (moved_numbers-formed back size p.numbers.span b.numbers.span (numbers_of p f).span (numbers_of b k).span)
+      (moved_numbers-monotone back size p.numbers.span b.numbers.span p'.numbers.span b'.numbers.span (numbers_of p f).span (numbers_of b k).span (span_le p p' h) (span_le b b' l))))
+      (gathered-monotone (λ x. of_target (moved_target g back size b.numbers.span x)) (λ x. of_target (moved_target g back size b'.numbers.span x)) (moved_target-rises back size b.numbers.span b'.numbers.span (span_le b b' l)) p.targets p'.targets (the_targets_le p p' h)))
       refl refl
 
   pair-monotone : (size : ℕ) → 0 < size → (r : ℕ) (o s o' s' : Interval) (y y' : Target) → interval_le o o' ≡ true → y.region ≡ y'.region → extent_le y y' ≡ true → interval_le (pair_distance g size (at r o s) y) (pair_distance g size (at r o' s') y') ≡ true
@@ -385,48 +365,50 @@ module _ (g : Terrain) where
       (interval_le-refl (every long_range)))
 
   distances-monotone : (size : ℕ) (v w v' w' : Known) → 0 < size → known_le v v' ≡ true → known_le w w' ≡ true → known_le (distances g size v w) (distances g size v' w') ≡ true
-  distances-monotone size v w v' w' some p q = gathered-monotone (λ x. gathered (λ y. of_numbers (pair_distance g size x y)) w.targets) (λ x. gathered (λ y. of_numbers (pair_distance g size x y)) w'.targets)
-      (rises-made (λ x. gathered (λ y. of_numbers (pair_distance g size x y)) w.targets) (λ x. gathered (λ y. of_numbers (pair_distance g size x y)) w'.targets)
-      (λ r o s o' s' h k. gathered-monotone (λ y. of_numbers (pair_distance g size (at r o s) y)) (λ y. of_numbers (pair_distance g size (at r o' s') y))
-      (λ y y' e l. numbers-monotone (pair_distance g size (at r o s) y) (pair_distance g size (at r o' s') y') (pair-monotone size some r o s o' s' y y' h e l)) w.targets w'.targets (the_targets_le w w' q)))
+  distances-monotone size v w v' w' some p q = gathered-monotone (λ x. gathered (λ y. of_numbers (plain (pair_distance g size x y))) w.targets) (λ x. gathered (λ y. of_numbers (plain (pair_distance g size x y))) w'.targets)
+      (rises-made (λ x. gathered (λ y. of_numbers (plain (pair_distance g size x y))) w.targets) (λ x. gathered (λ y. of_numbers (plain (pair_distance g size x y))) w'.targets)
+      (λ r o s o' s' h k. gathered-monotone (λ y. of_numbers (plain (pair_distance g size (at r o s) y))) (λ y. of_numbers (plain (pair_distance g size (at r o' s') y)))
+      (λ y y' e l. numbers-monotone (plain (pair_distance g size (at r o s) y)) (plain (pair_distance g size (at r o' s') y')) (plain-le (pair_distance g size (at r o s) y) (pair_distance g size (at r o' s') y') (pair-monotone size some r o s o' s' y y' h e l))) w.targets w'.targets (the_targets_le w w' q)))
       v.targets v'.targets (the_targets_le v v' p)
 
   distance-monotone : (size : ℕ) (v w v' w' : Known) → 0 < size → known_le v v' ≡ true → known_le w w' ≡ true → interval_le (distance_of g size v w) (distance_of g size v' w') ≡ true
   unfolding distance_of
   distance-monotone size v w v' w' some p q = falling_numbers (is_none v || is_none w) (is_none v' || is_none w')
-      (hull (cond (has_numbers v || has_numbers w) (every long_range) Empty) (distances g size v w).numbers)
-      (hull (cond (has_numbers v' || has_numbers w') (every long_range) Empty) (distances g size v' w').numbers)
+      (hull (cond (has_numbers v || has_numbers w) (every long_range) Empty) (distances g size v w).numbers.span)
+      (hull (cond (has_numbers v' || has_numbers w') (every long_range) Empty) (distances g size v' w').numbers.span)
       (either-rises (is_none v') (is_none w') (is_none v) (is_none w) (none-falls v v' p) (none-falls w w' q))
-      (hull-monotone (cond (has_numbers v || has_numbers w) (every long_range) Empty) (distances g size v w).numbers (cond (has_numbers v' || has_numbers w') (every long_range) Empty) (distances g size v' w').numbers
+      (hull-monotone (cond (has_numbers v || has_numbers w) (every long_range) Empty) (distances g size v w).numbers.span (cond (has_numbers v' || has_numbers w') (every long_range) Empty) (distances g size v' w').numbers.span
       (rising_numbers (has_numbers v || has_numbers w) (has_numbers v' || has_numbers w') (every long_range) Empty (every long_range) Empty (either-rises (has_numbers v) (has_numbers w) (has_numbers v') (has_numbers w') (has_numbers-rises v v' p) (has_numbers-rises w w' q)) (interval_le-refl (every long_range)) refl refl)
-      (numbers_le (distances g size v w) (distances g size v' w') (distances-monotone size v w v' w' some p q)))
+      (span_le (distances g size v w) (distances g size v' w') (distances-monotone size v w v' w' some p q)))
 
 -- ---- all forms
 
-module _ (g : Terrain) (is : IsTerrain g) (s t : ℕ → Known) (formed : AreFormed s) (below : AreBelow s t) where
+module _ (sharp : Bool) (g : Terrain) (is : IsTerrain g) (s t : ℕ → Known) (formed : AreFormed s) (below : AreBelow s t) where
   mutual
-    pub address-monotone : (l : Lvalue) → is_proper_lvalue l ≡ true → known_le (address_of g s l) (address_of g t l) ≡ true
+    pub address-monotone : (l : Lvalue) → is_proper_lvalue l ≡ true → known_le (address_of sharp g s l) (address_of sharp g t l) ≡ true
     address-monotone (direct o c) h = known-refl (of_target (whole_of g (g.root o)))
     address-monotone (through e c p) h = value-monotone e h
-    address-monotone (field l k c) h = members-monotone g (lvalue_type l) k (matched g l (address_of g s l)) (matched g l (address_of g t l)) (matched-monotone g l (address_of g s l) (address_of g t l) (address-monotone l h))
+    address-monotone (field l k c) h = members-monotone g (lvalue_type l) k (matched g l (address_of sharp g s l)) (matched g l (address_of sharp g t l)) (matched-monotone g l (address_of sharp g s l) (address_of sharp g t l) (address-monotone l h))
 
-    pub value-monotone : (e : Expression) → is_proper e ≡ true → known_le (value_of g s e) (value_of g t e) ≡ true
-    value-monotone (number z k) h = known-refl (of_numbers (exactly z))
+    pub value-monotone : (e : Expression) → is_proper e ≡ true → known_le (value_of sharp g s e) (value_of sharp g t e) ≡ true
+    value-monotone (number z k) h = known-refl (of_numbers (settled sharp false (exactly z)))
     value-monotone (address l) h = address-monotone l h
-    value-monotone (decay l) h = elements-monotone g (matched g l (address_of g s l)) (matched g l (address_of g t l)) (matched-monotone g l (address_of g s l) (address_of g t l) (address-monotone l h))
-    value-monotone (read l) h = read-monotone g s t formed below (lvalue_type l) (matched g l (address_of g s l)) (matched g l (address_of g t l)) (matched-monotone g l (address_of g s l) (address_of g t l) (address-monotone l h))
-    value-monotone (convert c e) h = converted-monotone c (value_of g s e) (value_of g t e) (value-formed g is s formed e h) (value-monotone e h)
-    value-monotone (unary op k e) h = numbers-monotone (signed_by op (range_of k) (value_of g s e).numbers) (signed_by op (range_of k) (value_of g t e).numbers)
-        (signed_by-monotone op (range_of k) (value_of g s e).numbers (value_of g t e).numbers (range_is k) (numbers_of (value_of g s e) (value-formed g is s formed e h)) (numbers_le (value_of g s e) (value_of g t e) (value-monotone e h)))
-    value-monotone (binary op k e f p) h = numbers-monotone (operated op (range_of k) (value_of g s e).numbers (value_of g s f).numbers) (operated op (range_of k) (value_of g t e).numbers (value_of g t f).numbers)
-        (operated-monotone op (range_of k) (value_of g s e).numbers (value_of g s f).numbers (value_of g t e).numbers (value_of g t f).numbers (range_is k)
-        (numbers_of (value_of g s e) (value-formed g is s formed e (proper-left e f h))) (numbers_of (value_of g s f) (value-formed g is s formed f (proper-right e f h)))
-        (numbers_le (value_of g s e) (value_of g t e) (value-monotone e (proper-left e f h))) (numbers_le (value_of g s f) (value_of g t f) (value-monotone f (proper-right e f h))))
-    value-monotone (compare op e f) h = numbers-monotone (comparison_of (relation_of op) (value_of g s e) (value_of g s f)) (comparison_of (relation_of op) (value_of g t e) (value_of g t f))
-        (comparison-monotone (relation_of op) (value_of g s e) (value_of g s f) (value_of g t e) (value_of g t f) (value-formed g is s formed e (proper-left e f h)) (value-formed g is s formed f (proper-right e f h)) (value-monotone e (proper-left e f h)) (value-monotone f (proper-right e f h)))
-    value-monotone (move e f back size) h = moved-monotone g back size (value_of g s e) (value_of g s f) (value_of g t e) (value_of g t f)
-        (value-formed g is s formed e (proper-left e f (proper-operands size e f h))) (value-formed g is s formed f (proper-right e f (proper-operands size e f h)))
+    value-monotone (decay l) h = elements-monotone g (matched g l (address_of sharp g s l)) (matched g l (address_of sharp g t l)) (matched-monotone g l (address_of sharp g s l) (address_of sharp g t l) (address-monotone l h))
+    value-monotone (read l) h = read-monotone g sharp s t formed below (lvalue_type l) (matched g l (address_of sharp g s l)) (matched g l (address_of sharp g t l)) (matched-monotone g l (address_of sharp g s l) (address_of sharp g t l) (address-monotone l h))
+    value-monotone (convert c e) h = converted-monotone sharp c (value_of sharp g s e) (value_of sharp g t e) (value-formed sharp g is s formed e h) (value-monotone e h)
+    value-monotone (unary op k e) h = numbers-monotone (signed_by sharp op (range_of k) (value_of sharp g s e).numbers) (signed_by sharp op (range_of k) (value_of sharp g t e).numbers)
+        (signed_by-monotone sharp op (range_of k) (value_of sharp g s e).numbers (value_of sharp g t e).numbers (range_is k) (numbers_of (value_of sharp g s e) (value-formed sharp g is s formed e h)) (numbers_le (value_of sharp g s e) (value_of sharp g t e) (value-monotone e h)))
+    value-monotone (binary op k e f p) h = numbers-monotone (operated sharp op (range_of k) (value_of sharp g s e).numbers (value_of sharp g s f).numbers) (operated sharp op (range_of k) (value_of sharp g t e).numbers (value_of sharp g t f).numbers)
+        (operated-monotone sharp op (range_of k) (value_of sharp g s e).numbers (value_of sharp g s f).numbers (value_of sharp g t e).numbers (value_of sharp g t f).numbers (range_is k)
+        (numbers_of (value_of sharp g s e) (value-formed sharp g is s formed e (proper-left e f h))) (numbers_of (value_of sharp g s f) (value-formed sharp g is s formed f (proper-right e f h)))
+        (numbers_le (value_of sharp g s e) (value_of sharp g t e) (value-monotone e (proper-left e f h))) (numbers_le (value_of sharp g s f) (value_of sharp g t f) (value-monotone f (proper-right e f h))))
+    value-monotone (compare op e f) h = numbers-monotone (comparison_of sharp (relation_of op) (value_of sharp g s e) (value_of sharp g s f)) (comparison_of sharp (relation_of op) (value_of sharp g t e) (value_of sharp g t f))
+        (comparison-monotone sharp (relation_of op) (value_of sharp g s e) (value_of sharp g s f) (value_of sharp g t e) (value_of sharp g t f) (value-formed sharp g is s formed e (proper-left e f h)) (value-formed sharp g is s formed f (proper-right e f h)) (value-monotone e (proper-left e f h)) (value-monotone f (proper-right e f h)))
+    value-monotone (move e f back size) h = moved-monotone g sharp back size (value_of sharp g s e) (value_of sharp g s f) (value_of sharp g t e) (value_of sharp g t f)
+        (value-formed sharp g is s formed e (proper-left e f (proper-operands size e f h))) (value-formed sharp g is s formed f (proper-right e f (proper-operands size e f h)))
         (value-monotone e (proper-left e f (proper-operands size e f h))) (value-monotone f (proper-right e f (proper-operands size e f h)))
-    value-monotone (distance e f size) h = numbers-monotone (distance_of g size (value_of g s e) (value_of g s f)) (distance_of g size (value_of g t e) (value_of g t f))
-        (distance-monotone g size (value_of g s e) (value_of g s f) (value_of g t e) (value_of g t f) (size-some size e f h)
-        (value-monotone e (proper-left e f (proper-operands size e f h))) (value-monotone f (proper-right e f (proper-operands size e f h))))
+    value-monotone (distance e f size) h = numbers-monotone (settled sharp false (distance_of g size (value_of sharp g s e) (value_of sharp g s f))) (settled sharp false (distance_of g size (value_of sharp g t e) (value_of sharp g t f)))
+        (settled-le sharp (distance_of g size (value_of sharp g s e) (value_of sharp g s f)) (distance_of g size (value_of sharp g t e) (value_of sharp g t f))
+        (distance-formed g is size (value_of sharp g s e) (value_of sharp g s f) (size-some size e f h) (value-formed sharp g is s formed e (proper-left e f (proper-operands size e f h))) (value-formed sharp g is s formed f (proper-right e f (proper-operands size e f h))))
+        (distance-monotone g size (value_of sharp g s e) (value_of sharp g s f) (value_of sharp g t e) (value_of sharp g t f) (size-some size e f h)
+        (value-monotone e (proper-left e f (proper-operands size e f h))) (value-monotone f (proper-right e f (proper-operands size e f h)))))

@@ -6,6 +6,7 @@ use Rattle.sp_interval.specs.declared.interval.Interval.{Interval}
 use Rattle.sp_interval.specs.Interval.{ranged}
 use Rattle.sp_ir.specs.Commands.{Lvalue, direct, through, field}
 use Rattle.sp_ir.specs.Terrain.{Terrain}
+use Rattle.sp_numbers.specs.Numbers.{settled, plain}
 use Rattle.sp_ir.specs.Denoted.{PointsTo, matched_regions, member_region, element_region, keeps_targets}
 use Rattle.sp_value.specs.declared.targets.Target.{Target}
 use Rattle.sp_value.specs.Known.{Known, none, of_numbers, of_target, known_join, gathered, has_numbers}
@@ -21,7 +22,7 @@ module _ (g : Terrain) where
   pub accepted-within : (t : CType) (rs : List ℕ) (v : Known) → Within (Among rs) v.targets → Within (Among (filter (λ r. g.accepts r t) rs)) (accepted g t v).targets
   unfolding accepted
   accepted-within t rs v h = within-gathered (Among rs) (Among (filter (λ r. g.accepts r t) rs)) (accepted_one g t)
-      (λ x k. chosen (λ w. Within (Among (filter (λ r. g.accepts r t) rs)) w.targets) (g.accepts x.region t) (of_target x) (of_numbers (every pointer_range))
+      (λ x k. chosen (λ w. Within (Among (filter (λ r. g.accepts r t) rs)) w.targets) (g.accepts x.region t) (of_target x) (of_numbers (plain (every pointer_range)))
       (λ e. (among-filter (λ r. g.accepts r t) rs x.region e k, tt)) (λ e. tt)) v.targets h
 
   pub matched-within : (l : Lvalue) (rs : List ℕ) (v : Known) → Within (Among rs) v.targets → Within (Among (matched_regions g l rs)) (matched g l v).targets
@@ -57,23 +58,23 @@ module _ (g : Terrain) where
   elements-within rs v h = each-within (element_target g) (Among rs) (Among (map (element_region g) rs))
       (λ x m. subst (Among (map (element_region g) rs)) (sym (element-step x)) (among-map (element_region g) rs x.region m)) v h
 
-  pub read-within : (points : PointsTo) (cells : ℕ → Known) → PointWithin points cells → (t : CType) (rs : List ℕ) (v : Known) → Within (Among rs) v.targets → Within (Among (flat_map points rs)) (read_at g cells t v).targets
+  pub read-within : (sharp : Bool) (points : PointsTo) (cells : ℕ → Known) → PointWithin points cells → (t : CType) (rs : List ℕ) (v : Known) → Within (Among rs) v.targets → Within (Among (flat_map points rs)) (read_at sharp g cells t v).targets
   unfolding read_at
-  read-within points cells below t rs v h = within-gathered (Among rs) (Among (flat_map points rs)) (λ x. read_cell g cells t x.region)
+  read-within sharp points cells below t rs v h = within-gathered (Among rs) (Among (flat_map points rs)) (λ x. read_cell sharp g cells t x.region)
       (λ x m. within-more (Among (points x.region)) (Among (flat_map points rs)) (λ q k. among-flat_map points rs x.region q m k) (cells x.region).targets (below x.region)) v.targets h
 
-  pub moved-within : (P : ℕ → Type 0) (back : Bool) (size : ℕ) (p b : Known) → Within P p.targets → Within P (moved g back size p b).targets
+  pub moved-within : (sharp : Bool) (P : ℕ → Type 0) (back : Bool) (size : ℕ) (p b : Known) → Within P p.targets → Within P (moved sharp g back size p b).targets
   unfolding moved
-  moved-within P back size p b h =
+  moved-within sharp P back size p b h =
       chosen (λ w. Within P w.targets) (has_numbers b)
-      (known_join (of_numbers (ranged pointer_range (shifted back p.numbers (times_size size b.numbers)))) (gathered (λ x. of_target (moved_target g back size b.numbers x)) p.targets))
+      (known_join (of_numbers (settled sharp false (ranged pointer_range (shifted back p.numbers.span (times_size size b.numbers.span))))) (gathered (λ x. of_target (moved_target g back size b.numbers.span x)) p.targets))
       none
-      (λ e. within-gathered P P (λ x. of_target (moved_target g back size b.numbers x)) (λ x m. (m, tt)) p.targets h)
+      (λ e. within-gathered P P (λ x. of_target (moved_target g back size b.numbers.span x)) (λ x m. (m, tt)) p.targets h)
       (λ e. tt)
 
-pub converted-within : (t : CType) (rs : List ℕ) (v : Known) → Within (Among rs) v.targets → Within (Among (cond (keeps_targets t) rs [])) (converted t v).targets
+pub converted-within : (sharp : Bool) (t : CType) (rs : List ℕ) (v : Known) → Within (Among rs) v.targets → Within (Among (cond (keeps_targets t) rs [])) (converted sharp t v).targets
 unfolding converted
-converted-within t rs v h = by (keeps_targets t)
+converted-within sharp t rs v h = by (keeps_targets t)
   where
     by : (b : Bool) → Within (Among (cond b rs [])) (cond b v.targets [])
     by true = h

@@ -1,8 +1,9 @@
 -- The value of an expression and the address of an lvalue, where each region's cell holds what is
 -- known of it (C90 6.3). An address is a pointer like any other: its targets are where the lvalue
 -- stands, and its numbers what a punned target below it left.
-use Rattle.std.specs.Prelude.{ℕ, nat_le, ◌^◌, Bool, true, ◌&&◌}
+use Rattle.std.specs.Prelude.{ℕ, nat_le, ◌^◌, Bool, true, false, ◌&&◌}
 use Rattle.sp_interval.specs.Interval.{whole}
+use Rattle.sp_numbers.specs.Numbers.{settled}
 use Rattle.sp_ir.specs.Commands.{Expression, number, address, decay, read, convert, unary, binary, compare, move, distance, Lvalue, direct, through, field, lvalue_type}
 use Rattle.sp_ir.specs.Terrain.{Terrain}
 use Rattle.sp_value.specs.Kinds.{range_of}
@@ -17,29 +18,30 @@ matched g (through e t at) v = accepted g t v
 matched g (field l k t) v = v
 
 abbrev mutual
-  pub address_of : Terrain → (ℕ → Known) → Lvalue → Known
-  address_of g cells (direct o t) = of_target (whole_of g (g.root o))
-  address_of g cells (through e t at) = value_of g cells e
-  address_of g cells (field l k t) =
-      members_of g (lvalue_type l) k (matched g l (address_of g cells l))
+  pub address_of : Bool → Terrain → (ℕ → Known) → Lvalue → Known
+  address_of sharp g cells (direct o t) = of_target (whole_of g (g.root o))
+  address_of sharp g cells (through e t at) = value_of sharp g cells e
+  address_of sharp g cells (field l k t) =
+      members_of g (lvalue_type l) k (matched g l (address_of sharp g cells l))
 
-  pub value_of : Terrain → (ℕ → Known) → Expression → Known
-  value_of g cells (number z k) = of_numbers (exactly z)
-  value_of g cells (address l) = address_of g cells l
-  value_of g cells (decay l) = elements_of g (matched g l (address_of g cells l))
-  value_of g cells (read l) =
-      read_at g cells (lvalue_type l) (matched g l (address_of g cells l))
-  value_of g cells (convert t e) = converted t (value_of g cells e)
-  value_of g cells (unary op k e) =
-      of_numbers (signed_by op (range_of k) (value_of g cells e).numbers)
-  value_of g cells (binary op k e f at) = of_numbers
-      (operated op (range_of k) (value_of g cells e).numbers (value_of g cells f).numbers)
-  value_of g cells (compare op e f) =
-      of_numbers (comparison_of (relation_of op) (value_of g cells e) (value_of g cells f))
-  value_of g cells (move e f back size) =
-      moved g back size (value_of g cells e) (value_of g cells f)
-  value_of g cells (distance e f size) =
-      of_numbers (distance_of g size (value_of g cells e) (value_of g cells f))
+  pub value_of : Bool → Terrain → (ℕ → Known) → Expression → Known
+  value_of sharp g cells (number z k) = of_numbers (settled sharp false (exactly z))
+  value_of sharp g cells (address l) = address_of sharp g cells l
+  value_of sharp g cells (decay l) = elements_of g (matched g l (address_of sharp g cells l))
+  value_of sharp g cells (read l) =
+      read_at sharp g cells (lvalue_type l) (matched g l (address_of sharp g cells l))
+  value_of sharp g cells (convert t e) = converted sharp t (value_of sharp g cells e)
+  value_of sharp g cells (unary op k e) =
+      of_numbers (signed_by sharp op (range_of k) (value_of sharp g cells e).numbers)
+  value_of sharp g cells (binary op k e f at) = of_numbers
+      (operated sharp op (range_of k) (value_of sharp g cells e).numbers (value_of sharp g cells f).numbers)
+  value_of sharp g cells (compare op e f) =
+      of_numbers (comparison_of sharp (relation_of op) (value_of sharp g cells e) (value_of sharp g cells f))
+  value_of sharp g cells (move e f back size) =
+      moved sharp g back size (value_of sharp g cells e) (value_of sharp g cells f)
+  value_of sharp g cells (distance e f size) =
+      of_numbers (settled sharp false
+      (distance_of g size (value_of sharp g cells e) (value_of sharp g cells f)))
 
 abbrev pub is_proper_size : ℕ → Bool
 is_proper_size size = nat_le 1 size && nat_le size (2 ^ 40)

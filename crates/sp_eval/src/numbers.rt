@@ -1,15 +1,17 @@
-//! The operators of C on intervals of numbers (C90 6.2.1, 6.3).
-ghost use Rattle.std.specs.Prelude.{◌≡◌, ◌≤◌, ◌<◌, ◌^◌, true};
+//! The operators of C on numbers (C90 6.2.1, 6.3).
+ghost use Rattle.std.specs.Prelude.{◌≡◌, ◌≤◌, ◌<◌, ◌^◌, true, false};
 ghost use Rattle.sp_types.specs.View.{type_of};
 ghost use Rattle.sp_lattice.specs.Range.{IsIntegerRange};
 ghost use Rattle.sp_interval.specs.Interval.{IsFormed, whole, ranged, wrapped};
 ghost use Rattle.sp_interval.specs.declared.interval.Interval.TheVariants.{Of};
-ghost use Rattle.sp_value.specs.Known.{is_ordered_within};
+ghost use Rattle.sp_numbers.specs.Numbers.{IsFormedNumbers, settled, no_numbers};
+ghost use Rattle.sp_value.specs.Known.{is_ordered_within, is_formed_numbers};
 ghost use Rattle.sp_eval.specs.Wide.{IsWide, IsWider};
-ghost use Rattle.sp_eval.specs.Numbers.{exactly, every, pointer_range, long_range, every_number, complement_of, signed_by, operated, relation_of, all_hold, truth, times_size, shifted, outward};
+ghost use Rattle.sp_eval.specs.Numbers.{exactly, every, pointer_range, long_range, every_number, complement_of, signed_by, operated, relation_of, times_size, shifted, outward};
 
 use sp_interval::Interval;
 use sp_lattice::{Range, Relation};
+use sp_numbers::Numbers;
 use sp_tree::Punct;
 use sp_types::CType;
 use sp_value::range_of;
@@ -60,6 +62,26 @@ pub fn every_number(of: &CType) -> Interval
     }
 }
 
+/// No number.
+pub(crate) fn no_numbers() -> Numbers
+    ensures value { result ≡ no_numbers }
+    ensures formed { is_formed_numbers result ≡ true }
+{
+    Numbers {
+        span: Interval::Empty,
+        nonzero: true,
+    }
+}
+
+/// The numbers of an interval, in the normal form of the mode.
+pub(crate) fn numbers_of(sharp: bool, span: Interval) -> Numbers
+    requires { is_ordered_within whole span ≡ true }
+    ensures value { result ≡ settled sharp false span }
+    ensures formed { is_formed_numbers result ≡ true }
+{
+    Numbers::of(sharp, span)
+}
+
 /// The range rule of long on exact results, whose bounds may lie past those of all that is stored.
 pub(crate) fn ranged_as_long(exact: Interval) -> Interval
     ensures { result ≡ ranged long_range exact }
@@ -103,54 +125,60 @@ fn wrapped(lo: i128, hi: i128) -> Interval
 }
 
 // `~` (C90 6.3.3.3).
-fn complement(numbers: Interval, range: Range) -> Interval
+fn complement(sharp: bool, range: Range, numbers: Numbers) -> Numbers
     requires range { IsIntegerRange range }
-    requires formed { IsFormed numbers }
-    ensures value { result ≡ complement_of range numbers }
-    ensures formed { IsFormed result }
+    requires formed { IsFormedNumbers numbers }
+    ensures value { result ≡ complement_of sharp range numbers }
+    ensures formed { IsFormedNumbers result }
 {
     let from = if range.lo == 0 { range.hi } else { -1 };
-    exactly(from).sub(numbers, range)
+    Numbers::of(sharp, exactly(from)).sub(numbers, sharp, range)
 }
 
 /// `+`, `-` or `~` before an operand with these numbers (C90 6.3.3.3).
 #[tactic(auto, unfolding(crate::specs::Numbers::signed_by))]
-pub(crate) fn signed(op: Punct, range: Range, numbers: Interval) -> Interval
+pub(crate) fn signed(sharp: bool, op: Punct, range: Range, numbers: Numbers) -> Numbers
     requires range { IsIntegerRange range }
-    requires formed { IsFormed numbers }
-    ensures value { result ≡ signed_by op range numbers }
-    ensures formed { IsFormed result }
+    requires formed { IsFormedNumbers numbers }
+    ensures value { result ≡ signed_by sharp op range numbers }
+    ensures formed { IsFormedNumbers result }
 {
     match op {
-        Punct::Plus => numbers.convert(range),
-        Punct::Minus => exactly(0).sub(numbers, range),
-        Punct::Tilde => complement(numbers, range),
-        _ => Interval::Empty,
+        Punct::Plus => numbers.convert(sharp, range),
+        Punct::Minus => Numbers::of(false, exactly(0)).sub(numbers, sharp, range),
+        Punct::Tilde => complement(sharp, range, numbers),
+        _ => no_numbers(),
     }
 }
 
 /// An arithmetic operator between two operands with these numbers (C90 6.3.5 to 6.3.7, 6.3.10 to
 /// 6.3.12).
 #[tactic(auto, unfolding(crate::specs::Numbers::operated))]
-pub(crate) fn operated(op: Punct, range: Range, left: Interval, right: Interval) -> Interval
+pub(crate) fn operated(
+    sharp: bool,
+    op: Punct,
+    range: Range,
+    left: Numbers,
+    right: Numbers,
+) -> Numbers
     requires range { IsIntegerRange range }
-    requires left_formed { IsFormed left }
-    requires right_formed { IsFormed right }
-    ensures value { result ≡ operated op range left right }
-    ensures formed { IsFormed result }
+    requires left_formed { IsFormedNumbers left }
+    requires right_formed { IsFormedNumbers right }
+    ensures value { result ≡ operated sharp op range left right }
+    ensures formed { IsFormedNumbers result }
 {
     match op {
-        Punct::Plus => left.add(right, range),
-        Punct::Minus => left.sub(right, range),
-        Punct::Star => left.mul(right, range),
-        Punct::Slash => left.div(right, range),
-        Punct::Percent => left.rem(right, range),
-        Punct::ShiftLeft => left.shl(right, range),
-        Punct::ShiftRight => left.shr(right, range),
-        Punct::Ampersand => left.and(right, range),
-        Punct::Bar => left.or(right, range),
-        Punct::Caret => left.xor(right, range),
-        _ => Interval::Empty,
+        Punct::Plus => left.add(right, sharp, range),
+        Punct::Minus => left.sub(right, sharp, range),
+        Punct::Star => left.mul(right, sharp, range),
+        Punct::Slash => left.div(right, sharp, range),
+        Punct::Percent => left.rem(right, sharp, range),
+        Punct::ShiftLeft => left.shl(right, sharp, range),
+        Punct::ShiftRight => left.shr(right, sharp, range),
+        Punct::Ampersand => left.and(right, sharp, range),
+        Punct::Bar => left.or(right, sharp, range),
+        Punct::Caret => left.xor(right, sharp, range),
+        _ => no_numbers(),
     }
 }
 
@@ -166,44 +194,6 @@ pub fn relation_of(op: Punct) -> Option<Relation>
         Punct::EqualEqual => Some(Relation::Equal),
         Punct::NotEqual => Some(Relation::Different),
         _ => None,
-    }
-}
-
-// Whether each number from `lo` to `hi` stands in the relation to each from `least` to `most`.
-fn all_hold(op: Relation, lo: i128, hi: i128, least: i128, most: i128) -> bool
-    ensures { result ≡ all_hold op lo hi least most }
-{
-    match op {
-        Relation::Less => hi < least,
-        Relation::LessEqual => hi <= least,
-        Relation::Greater => most < lo,
-        Relation::GreaterEqual => most <= lo,
-        Relation::Equal => hi <= least && most <= lo,
-        Relation::Different => hi < least || most < lo,
-    }
-}
-
-/// 1 where each two members stand in the relation, 0 where no two do, else both (C90 6.3.8, 6.3.9).
-pub(crate) fn truth(op: Relation, left: Interval, right: Interval) -> Interval
-    ensures value { result ≡ truth op left right }
-    ensures formed { is_ordered_within whole result ≡ true }
-{
-    let (
-        Interval::Of { lo, hi },
-        Interval::Of {
-            lo: least,
-            hi: most,
-        },
-    ) = (left, right)
-    else {
-        return Interval::Empty;
-    };
-    if all_hold(op, lo, hi, least, most) {
-        exactly(1)
-    } else if all_hold(op.negated(), lo, hi, least, most) {
-        exactly(0)
-    } else {
-        Interval::Of { lo: 0, hi: 1 }
     }
 }
 

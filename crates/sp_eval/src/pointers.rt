@@ -1,18 +1,22 @@
 //! Moved pointers, their distances, and comparisons (C90 6.3.6, 6.3.8, 6.3.9).
-ghost use Rattle.std.specs.Prelude.{◌≡◌, true, cond, ◌||◌, ◌<◌, ◌≤◌, ◌^◌, IfOk};
+ghost use Rattle.std.specs.Prelude.{◌≡◌, true, false, cond, ◌||◌, ◌<◌, ◌≤◌, ◌^◌, IfOk};
 ghost use Rattle.sp_interval.specs.Interval.{IsFormed, whole, hull, ranged};
 ghost use Rattle.sp_interval.specs.declared.interval.Interval.TheVariants.{Empty};
+ghost use Rattle.sp_numbers.specs.Numbers.{settled};
 ghost use Rattle.sp_ir.specs.Programs.{lowered_of};
 ghost use Rattle.sp_ir.specs.Terrain.{terrain_of};
-ghost use Rattle.sp_value.specs.Known.{has_numbers, is_ordered_within, is_proper_within, every_offset};
+ghost use Rattle.sp_value.specs.Known.{has_numbers, is_ordered_within, is_proper_within, is_formed_numbers, every_offset};
 ghost use Rattle.sp_value.specs.Slots.{known_of};
 ghost use Rattle.sp_eval.specs.Numbers.{every, long_range, pointer_range, times_size, shifted};
 ghost use Rattle.sp_eval.specs.Steps.{pair_distance, distances, moved, distance_of, compared, comparison_of};
 
-use crate::numbers::{every, outward, ranged_as_long, ranged_as_pointer, shifted, times, truth};
+use crate::numbers::{
+    every, no_numbers, numbers_of, outward, ranged_as_long, ranged_as_pointer, shifted, times,
+};
 use sp_interval::Interval;
 use sp_ir::Lowered;
 use sp_lattice::{Lattice, Range, Relation};
+use sp_numbers::Numbers;
 use sp_value::{AtTarget, Part, Target, Value, gather};
 use std::alloc::{AllocError, Global};
 
@@ -28,7 +32,7 @@ fn element_size(lowered: &Lowered, region: u32) -> u64
 fn has_numbers(value: &Value) -> bool
     ensures { result ≡ has_numbers (known_of value.now) }
 {
-    !value.numbers.leq(&Interval::Empty)
+    !value.span.leq(&Interval::Empty)
 }
 
 // ---- moved pointers
@@ -80,40 +84,51 @@ impl AtTarget for Moving<'_> {
 }
 
 // The numbers of a pointer that is moved by so many elements of a size.
-fn moved_numbers(numbers: Interval, back: bool, by: Interval, size: u64) -> Interval
+fn moved_numbers(sharp: bool, numbers: Interval, step: Step, by: Interval) -> Numbers
     requires numbers { IsFormed numbers }
     requires by { IsFormed by }
-    requires small { size ≤ 2 ^ 40 }
-    ensures value { result ≡ ranged pointer_range (shifted back numbers (times_size size by)) }
-    ensures formed { is_ordered_within whole result ≡ true }
+    requires small { step.size ≤ 2 ^ 40 }
+    ensures value { result ≡ settled sharp false
+        (ranged pointer_range (shifted step.back numbers (times_size step.size by))) }
+    ensures formed { is_formed_numbers result ≡ true }
 {
-    ranged_as_pointer(shifted(back, numbers, times(by, size)))
+    let exact = shifted(step.back, numbers, times(by, step.size));
+    numbers_of(sharp, ranged_as_pointer(exact))
 }
 
-/// A pointer moved by so many elements of a size in bytes (C90 6.3.6).
+/// How a pointer moves.
+#[derive(Clone, Copy)]
+pub(crate) struct Step {
+    /// Whether it moves back.
+    pub back: bool,
+    /// The size of an element in bytes.
+    pub size: u64,
+}
+
+/// A pointer moved by so many elements (C90 6.3.6).
 #[tactic(auto, unfolding(crate::specs::Steps::moved))]
 pub(crate) fn moved(
     alloc: Global,
     lowered: &Lowered,
-    back: bool,
-    size: u64,
+    sharp: bool,
+    step: Step,
     pointer: &Value,
     by: &Value,
 ) -> Result<Value, AllocError>
-    requires { size ≤ 2 ^ 40 }
+    requires { step.size ≤ 2 ^ 40 }
     ensures { IfOk result (λ value. known_of value ≡
-        moved (terrain_of (lowered_of lowered.now)) back size (known_of pointer.now)
-        (known_of by.now)) }
+        moved sharp (terrain_of (lowered_of lowered.now)) step.back step.size
+        (known_of pointer.now) (known_of by.now)) }
 {
     if !has_numbers(by) {
-        return Ok(Value::of_numbers(alloc, Interval::Empty));
+        return Ok(Value::of_numbers(alloc, no_numbers()));
     }
-    let numbers = moved_numbers(pointer.numbers, back, by.numbers, size);
+    let numbers = moved_numbers(sharp, pointer.span, step, by.span);
     let moving = Moving {
         lowered,
-        back,
-        size,
-        by: by.numbers,
+        back: step.back,
+        size: step.size,
+        by: by.span,
     };
     let targets = gather(alloc, pointer, &moving)?;
     Value::of_numbers(alloc, numbers).joined(alloc, &targets)
@@ -152,14 +167,15 @@ impl AtTarget for Between<'_> {
     ghost use Rattle.sp_value.specs.Known.{of_numbers};
     ghost use Rattle.sp_ir.specs.Programs.{lowered_of};
     ghost use Rattle.sp_ir.specs.Terrain.{terrain_of};
+    ghost use Rattle.sp_numbers.specs.Numbers.{plain};
     ghost use Rattle.sp_eval.specs.Steps.{pair_distance};
 
-    ghost given = { λ each y. of_numbers (pair_distance
-        (terrain_of (lowered_of each.lowered.now)) each.size each.from y) };
+    ghost given = { λ each y. of_numbers (plain (pair_distance
+        (terrain_of (lowered_of each.lowered.now)) each.size each.from y)) };
 
     fn at(&self, _alloc: Global, target: Target) -> Result<Part, AllocError> {
         let distance = pair_distance(self.lowered, self.size, self.from, target);
-        Ok(Part::Numbers(distance))
+        Ok(Part::Numbers(numbers_of(false, distance)))
     }
 }
 
@@ -176,10 +192,12 @@ impl AtTarget for Distances<'_> {
     ghost use Rattle.sp_value.specs.Known.{of_numbers, gathered};
     ghost use Rattle.sp_ir.specs.Programs.{lowered_of};
     ghost use Rattle.sp_ir.specs.Terrain.{terrain_of};
+    ghost use Rattle.sp_numbers.specs.Numbers.{plain};
     ghost use Rattle.sp_eval.specs.Steps.{pair_distance};
 
     ghost given = { λ each x. gathered
-        (λ y. of_numbers (pair_distance (terrain_of (lowered_of each.lowered.now)) each.size x y))
+        (λ y. of_numbers (plain
+        (pair_distance (terrain_of (lowered_of each.lowered.now)) each.size x y)))
         each.to.now.targets };
 
     fn at(&self, alloc: Global, target: Target) -> Result<Part, AllocError> {
@@ -206,7 +224,7 @@ fn present_distance(
         hull (cond (has_numbers (known_of left.now) || has_numbers (known_of right.now))
         (every long_range) Empty)
         (distances (terrain_of (lowered_of lowered.now)) size (known_of left.now)
-        (known_of right.now)).numbers) }
+        (known_of right.now)).numbers.span) }
     ensures formed { IfOk result (λ i. is_ordered_within whole i ≡ true) }
 {
     let distances = gather(
@@ -219,9 +237,9 @@ fn present_distance(
         },
     )?;
     if has_numbers(left) || has_numbers(right) {
-        Ok(every(Range::signed(64)).hull(distances.numbers))
+        Ok(every(Range::signed(64)).hull(distances.span))
     } else {
-        Ok(distances.numbers)
+        Ok(distances.span)
     }
 }
 
@@ -251,27 +269,27 @@ pub(crate) fn distance(
 // ---- comparisons
 
 // Two values that stand beside a relation: numbers alone decide it.
-fn compared(op: Relation, left: &Value, right: &Value) -> Interval
-    ensures value { result ≡ compared op (known_of left.now) (known_of right.now) }
-    ensures formed { is_ordered_within whole result ≡ true }
+fn compared(sharp: bool, op: Relation, left: &Value, right: &Value) -> Numbers
+    ensures value { result ≡ compared sharp op (known_of left.now) (known_of right.now) }
+    ensures formed { is_formed_numbers result ≡ true }
 {
     if left.is_none() || right.is_none() {
-        Interval::Empty
+        no_numbers()
     } else if !left.targets.is_empty() || !right.targets.is_empty() {
-        Interval::Of { lo: 0, hi: 1 }
+        numbers_of(false, Interval::Of { lo: 0, hi: 1 })
     } else {
-        truth(op, left.numbers, right.numbers)
+        left.numbers().truth(op, right.numbers(), sharp)
     }
 }
 
 /// Two values that are compared (C90 6.3.8, 6.3.9): 1, 0, or both.
 #[tactic(auto, unfolding(crate::specs::Steps::comparison_of))]
-pub(crate) fn comparison(op: Option<Relation>, left: &Value, right: &Value) -> Interval
-    ensures value { result ≡ comparison_of op (known_of left.now) (known_of right.now) }
-    ensures formed { is_ordered_within whole result ≡ true }
+pub(crate) fn comparison(sharp: bool, op: Option<Relation>, left: &Value, right: &Value) -> Numbers
+    ensures value { result ≡ comparison_of sharp op (known_of left.now) (known_of right.now) }
+    ensures formed { is_formed_numbers result ≡ true }
 {
     match op {
-        Some(op) => compared(op, left, right),
-        None => Interval::Empty,
+        Some(op) => compared(sharp, op, left, right),
+        None => no_numbers(),
     }
 }

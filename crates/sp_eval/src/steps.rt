@@ -2,23 +2,23 @@
 ghost use Rattle.std.specs.Prelude.{◌≡◌, true, cond, IfOk, option_map};
 ghost use Rattle.sp_types.specs.View.{type_of};
 ghost use Rattle.sp_lattice.specs.Range.{IsIntegerRange};
-ghost use Rattle.sp_interval.specs.Interval.{IsFormed, whole, hull};
-ghost use Rattle.sp_interval.specs.declared.interval.Interval.TheVariants.{Empty};
+ghost use Rattle.sp_numbers.specs.Numbers.{plain, no_numbers, numbers_join};
 ghost use Rattle.sp_ir.specs.Denoted.{keeps_targets};
 ghost use Rattle.sp_ir.specs.Programs.{lowered_of};
 ghost use Rattle.sp_ir.specs.Terrain.{terrain_of};
 ghost use Rattle.sp_ir.specs.View.{lvalue_of};
-ghost use Rattle.sp_value.specs.Known.{of_target, has_targets, is_ordered_within, is_proper_within, every_offset, every_size};
+ghost use Rattle.sp_value.specs.Known.{of_target, has_targets, is_proper_within, is_formed_numbers, every_offset, every_size};
 ghost use Rattle.sp_value.specs.Locations.{cells_at, known_of_slot};
 ghost use Rattle.sp_value.specs.Slots.{known_of};
 ghost use Rattle.sp_eval.specs.Numbers.{every};
 ghost use Rattle.sp_eval.specs.Steps.{whole_of, moved_offset, members_of, elements_of, numbers_as, read_at, converted_numbers, converted};
 ghost use Rattle.sp_eval.specs.Evaluation.{matched};
 
-use crate::numbers::{every, every_number, exactly};
+use crate::numbers::{every, every_number, exactly, no_numbers, numbers_of};
 use sp_interval::Interval;
 use sp_ir::{Lowered, Lvalue};
 use sp_lattice::Range;
+use sp_numbers::Numbers;
 use sp_types::{CType, IntKind};
 use sp_value::{AtTarget, Locations, Part, Slot, Target, Value, View, gather, range_of};
 use std::alloc::{AllocError, Global};
@@ -131,7 +131,7 @@ pub(crate) fn members_of(
         number,
     };
     let members = gather(alloc, address, &member)?;
-    Value::of_numbers(alloc, address.numbers).joined(alloc, &members)
+    Value::of_numbers(alloc, address.numbers()).joined(alloc, &members)
 }
 
 /// The elements of the array that stands at an address.
@@ -145,7 +145,7 @@ pub(crate) fn elements_of(
         elements_of (terrain_of (lowered_of lowered.now)) (known_of address.now)) }
 {
     let elements = gather(alloc, address, &Elements { lowered })?;
-    Value::of_numbers(alloc, address.numbers).joined(alloc, &elements)
+    Value::of_numbers(alloc, address.numbers()).joined(alloc, &elements)
 }
 
 // ---- accesses
@@ -170,7 +170,8 @@ impl AtTarget for Matching<'_> {
         if self.lowered.accepts(target.region, self.access) {
             Ok(Part::One(target))
         } else {
-            Ok(Part::Numbers(every(Range::unsigned(64))))
+            let numbers = numbers_of(false, every(Range::unsigned(64)));
+            Ok(Part::Numbers(numbers))
         }
     }
 }
@@ -206,23 +207,24 @@ pub fn slot_at<'a, V: View>(locations: &Locations, view: &'a V, region: u32) -> 
 
 /// The numbers of a value that is read or stored with a type: of an integer type they become numbers of
 /// it; of another they stay.
-pub fn numbers_as(of: &CType, value: &Value) -> Interval
-    ensures value { result ≡ numbers_as (type_of of.now) (known_of value.now).numbers }
-    ensures formed { is_ordered_within whole result ≡ true }
+pub fn numbers_as(sharp: bool, of: &CType, value: &Value) -> Numbers
+    ensures value { result ≡ numbers_as sharp (type_of of.now) (known_of value.now).numbers }
+    ensures formed { is_formed_numbers result ≡ true }
 {
     match of {
-        CType::Int(kind) => value.numbers.convert(range_of(*kind)),
-        _ => value.numbers,
+        CType::Int(kind) => value.numbers().convert(sharp, range_of(*kind)),
+        _ => value.numbers(),
     }
 }
 
-// What the cell of a target holds, read with a type.
+/// What the cell of a target holds, read with a type.
 #[derive(Drop)]
-struct Reading<'a, V: View> {
-    lowered: &'a Lowered,
-    locations: &'a Locations,
-    view: &'a V,
-    access: &'a CType,
+pub(crate) struct Reading<'a, V: View> {
+    pub lowered: &'a Lowered,
+    pub locations: &'a Locations,
+    pub sharp: bool,
+    pub view: &'a V,
+    pub access: &'a CType,
 }
 
 impl<V: View> AtTarget for Reading<'_, V> {
@@ -232,7 +234,7 @@ impl<V: View> AtTarget for Reading<'_, V> {
     ghost use Rattle.sp_value.specs.Locations.{cells_at};
     ghost use Rattle.sp_eval.specs.Steps.{read_cell};
 
-    ghost given = { λ each x. read_cell (terrain_of (lowered_of each.lowered.now))
+    ghost given = { λ each x. read_cell each.sharp (terrain_of (lowered_of each.lowered.now))
         (cells_at each.locations.now.cells.items (V.store each.view.now)) (type_of each.access.now)
         x.region };
 
@@ -240,15 +242,15 @@ impl<V: View> AtTarget for Reading<'_, V> {
         let collapsed = self.lowered.is_collapsed(target.region);
         let Some(Slot::Plain(held)) = slot_at(self.locations, self.view, target.region) else {
             return if collapsed {
-                Ok(Part::Numbers(every_number(self.access)))
+                Ok(Part::Numbers(numbers_of(false, every_number(self.access))))
             } else {
-                Ok(Part::Numbers(Interval::Empty))
+                Ok(Part::Numbers(no_numbers()))
             };
         };
         let numbers = if collapsed {
-            every_number(self.access)
+            numbers_of(false, every_number(self.access))
         } else {
-            numbers_as(self.access, held)
+            numbers_as(self.sharp, self.access, held)
         };
         let value = held.with_numbers(alloc, numbers)?;
         Ok(Part::All(value))
@@ -259,60 +261,51 @@ impl<V: View> AtTarget for Reading<'_, V> {
 #[tactic(auto, unfolding(crate::specs::Steps::read_at))]
 pub(crate) fn read_at<V: View>(
     alloc: Global,
-    lowered: &Lowered,
-    locations: &Locations,
-    view: &V,
-    access: &CType,
+    reading: &Reading<V>,
     address: &Value,
 ) -> Result<Value, AllocError>
     ensures { IfOk result (λ value. known_of value ≡
-        read_at (terrain_of (lowered_of lowered.now))
-        (cells_at locations.now.cells.items (V.store view.now)) (type_of access.now)
-        (known_of address.now)) }
+        read_at reading.now.sharp (terrain_of (lowered_of reading.now.lowered.now))
+        (cells_at reading.now.locations.now.cells.items (V.store reading.now.view.now))
+        (type_of reading.now.access.now) (known_of address.now)) }
 {
-    let numbers = match address.numbers {
-        Interval::Empty => Interval::Empty,
-        Interval::Of { .. } => every_number(access),
+    let numbers = match address.span {
+        Interval::Empty => no_numbers(),
+        Interval::Of { .. } => numbers_of(false, every_number(reading.access)),
     };
-    let reading = Reading {
-        lowered,
-        locations,
-        view,
-        access,
-    };
-    let read = gather(alloc, address, &reading)?;
+    let read = gather(alloc, address, reading)?;
     Value::of_numbers(alloc, numbers).joined(alloc, &read)
 }
 
 // ---- conversions
 
 // Every number of a type besides, where the value has a target.
-fn with_every(numbers: Interval, range: Range, value: &Value) -> Interval
-    requires numbers { IsFormed numbers }
+fn with_every(numbers: Numbers, range: Range, value: &Value) -> Numbers
+    requires numbers { is_formed_numbers numbers ≡ true }
     requires range { IsIntegerRange range }
-    ensures value { result ≡
-        hull numbers (cond (has_targets (known_of value.now)) (every range) Empty) }
-    ensures formed { is_ordered_within whole result ≡ true }
+    ensures value { result ≡ numbers_join numbers
+        (cond (has_targets (known_of value.now)) (plain (every range)) no_numbers) }
+    ensures formed { is_formed_numbers result ≡ true }
 {
     if value.targets.is_empty() {
         numbers
     } else {
-        numbers.hull(every(range))
+        numbers.join(numbers_of(false, every(range)))
     }
 }
 
 // The numbers of a value that becomes one of a type.
-fn converted_numbers(to: &CType, value: &Value) -> Interval
-    ensures value { result ≡ converted_numbers (type_of to.now) (known_of value.now) }
-    ensures formed { is_ordered_within whole result ≡ true }
+fn converted_numbers(sharp: bool, to: &CType, value: &Value) -> Numbers
+    ensures value { result ≡ converted_numbers sharp (type_of to.now) (known_of value.now) }
+    ensures formed { is_formed_numbers result ≡ true }
 {
     match to {
         CType::Int(kind) => {
             let range = range_of(*kind);
-            with_every(value.numbers.convert(range), range, value)
+            with_every(value.numbers().convert(sharp, range), range, value)
         }
-        CType::Pointer(_) => value.numbers.convert(Range::unsigned(64)),
-        _ => Interval::Empty,
+        CType::Pointer(_) => value.numbers().convert(sharp, Range::unsigned(64)),
+        _ => no_numbers(),
     }
 }
 
@@ -329,11 +322,11 @@ fn keeps_targets(to: &CType) -> bool
 
 /// A value converted to a type (C90 6.2.1.2, 6.3.4).
 #[tactic(auto, unfolding(crate::specs::Steps::converted))]
-pub fn converted(alloc: Global, to: &CType, value: &Value) -> Result<Value, AllocError>
+pub fn converted(alloc: Global, sharp: bool, to: &CType, value: &Value) -> Result<Value, AllocError>
     ensures { IfOk result (λ result. known_of result ≡
-        converted (type_of to.now) (known_of value.now)) }
+        converted sharp (type_of to.now) (known_of value.now)) }
 {
-    let numbers = converted_numbers(to, value);
+    let numbers = converted_numbers(sharp, to, value);
     if keeps_targets(to) {
         value.with_numbers(alloc, numbers)
     } else {

@@ -11,44 +11,44 @@ use Rattle.sp_report.specs.ByNode.{lines_of_node, by_node_from}
 use Rattle.sp_report.specs.Values.{value_line, node_lines, uses_at, values_from}
 use Rattle.sp_report.specs.Laws.{InputLaws}
 
-alarms-agree : (p : Lowered) (cells : List ℕ) (g h : ℕ → ℕ → Option Slot) (k : ℕ) (ns : List ℕ)
-    → ((i n : ℕ) → slice_get ns i ≡ Some n → alarms_at p cells (store_given g (k + i)) (slice_get p.nodes n) ≡ alarms_at p cells (store_given h (k + i)) (slice_get p.nodes n))
-    → alarms_from p cells g k ns ≡ alarms_from p cells h k ns
-alarms-agree p cells g h k [] same = refl
-alarms-agree p cells g h k (n ∷ ns) same =
+alarms-agree : (sharp : Bool) (p : Lowered) (cells : List ℕ) (g h : ℕ → ℕ → Option Slot) (k : ℕ) (ns : List ℕ)
+    → ((i n : ℕ) → slice_get ns i ≡ Some n → alarms_at sharp p cells (store_given g (k + i)) (slice_get p.nodes n) ≡ alarms_at sharp p cells (store_given h (k + i)) (slice_get p.nodes n))
+    → alarms_from sharp p cells g k ns ≡ alarms_from sharp p cells h k ns
+alarms-agree sharp p cells g h k [] same = refl
+alarms-agree sharp p cells g h k (n ∷ ns) same =
     let here : k + 0 ≡ k = omega arith in
-    let first : alarms_at p cells (store_given g k) (slice_get p.nodes n) ≡ alarms_at p cells (store_given h k) (slice_get p.nodes n) =
-    subst (λ (j : ℕ). alarms_at p cells (store_given g j) (slice_get p.nodes n) ≡ alarms_at p cells (store_given h j) (slice_get p.nodes n)) here (same 0 n refl) in
-    ap (λ as_. as_ ++ alarms_from p cells g (suc k) ns) first
-    ∙ ap (λ as_. alarms_at p cells (store_given h k) (slice_get p.nodes n) ++ as_) (alarms-agree p cells g h (suc k) ns (λ i m e. moved i m (same (suc i) m e)))
+    let first : alarms_at sharp p cells (store_given g k) (slice_get p.nodes n) ≡ alarms_at sharp p cells (store_given h k) (slice_get p.nodes n) =
+    subst (λ (j : ℕ). alarms_at sharp p cells (store_given g j) (slice_get p.nodes n) ≡ alarms_at sharp p cells (store_given h j) (slice_get p.nodes n)) here (same 0 n refl) in
+    ap (λ as_. as_ ++ alarms_from sharp p cells g (suc k) ns) first
+    ∙ ap (λ as_. alarms_at sharp p cells (store_given h k) (slice_get p.nodes n) ++ as_) (alarms-agree sharp p cells g h (suc k) ns (λ i m e. moved i m (same (suc i) m e)))
   where
-    moved : (i m : ℕ) → alarms_at p cells (store_given g (k + suc i)) (slice_get p.nodes m) ≡ alarms_at p cells (store_given h (k + suc i)) (slice_get p.nodes m)
-        → alarms_at p cells (store_given g (suc k + i)) (slice_get p.nodes m) ≡ alarms_at p cells (store_given h (suc k + i)) (slice_get p.nodes m)
+    moved : (i m : ℕ) → alarms_at sharp p cells (store_given g (k + suc i)) (slice_get p.nodes m) ≡ alarms_at sharp p cells (store_given h (k + suc i)) (slice_get p.nodes m)
+        → alarms_at sharp p cells (store_given g (suc k + i)) (slice_get p.nodes m) ≡ alarms_at sharp p cells (store_given h (suc k + i)) (slice_get p.nodes m)
     moved i m e =
         let shift : k + suc i ≡ suc k + i = omega arith in
-        subst (λ (j : ℕ). alarms_at p cells (store_given g j) (slice_get p.nodes m) ≡ alarms_at p cells (store_given h j) (slice_get p.nodes m)) shift e
+        subst (λ (j : ℕ). alarms_at sharp p cells (store_given g j) (slice_get p.nodes m) ≡ alarms_at sharp p cells (store_given h j) (slice_get p.nodes m)) shift e
 
-from_zero : (p : Lowered) (cells : List ℕ) (g h : ℕ → ℕ → Option Slot) (ns : List ℕ)
-    → ((k n : ℕ) → slice_get ns k ≡ Some n → alarms_at p cells (store_given g k) (slice_get p.nodes n) ≡ alarms_at p cells (store_given h k) (slice_get p.nodes n))
-    → alarms_from p cells g 0 ns ≡ alarms_from p cells h 0 ns
-from_zero p cells g h ns same = alarms-agree p cells g h 0 ns (λ i n e. moved i n (same i n e))
+from_zero : (sharp : Bool) (p : Lowered) (cells : List ℕ) (g h : ℕ → ℕ → Option Slot) (ns : List ℕ)
+    → ((k n : ℕ) → slice_get ns k ≡ Some n → alarms_at sharp p cells (store_given g k) (slice_get p.nodes n) ≡ alarms_at sharp p cells (store_given h k) (slice_get p.nodes n))
+    → alarms_from sharp p cells g 0 ns ≡ alarms_from sharp p cells h 0 ns
+from_zero sharp p cells g h ns same = alarms-agree sharp p cells g h 0 ns (λ i n e. moved i n (same i n e))
   where
-    moved : (i n : ℕ) → alarms_at p cells (store_given g i) (slice_get p.nodes n) ≡ alarms_at p cells (store_given h i) (slice_get p.nodes n)
-        → alarms_at p cells (store_given g (0 + i)) (slice_get p.nodes n) ≡ alarms_at p cells (store_given h (0 + i)) (slice_get p.nodes n)
+    moved : (i n : ℕ) → alarms_at sharp p cells (store_given g i) (slice_get p.nodes n) ≡ alarms_at sharp p cells (store_given h i) (slice_get p.nodes n)
+        → alarms_at sharp p cells (store_given g (0 + i)) (slice_get p.nodes n) ≡ alarms_at sharp p cells (store_given h (0 + i)) (slice_get p.nodes n)
     moved i n e =
         let shift : i ≡ 0 + i = omega arith in
-        subst (λ (j : ℕ). alarms_at p cells (store_given g j) (slice_get p.nodes n) ≡ alarms_at p cells (store_given h j) (slice_get p.nodes n)) shift e
+        subst (λ (j : ℕ). alarms_at sharp p cells (store_given g j) (slice_get p.nodes n) ≡ alarms_at sharp p cells (store_given h j) (slice_get p.nodes n)) shift e
 
 -- ---- lines by node
 
-module _ (names : List (List ℕ)) (p : Lowered) (cells : List ℕ) (g h : ℕ → ℕ → Option Slot) where
+module _ (sharp : Bool) (names : List (List ℕ)) (p : Lowered) (cells : List ℕ) (g h : ℕ → ℕ → Option Slot) where
   abbrev alarms_of_node : (ℕ → ℕ → Option Slot) → ℕ → ℕ → List Alarm
-  alarms_of_node given k n = alarms_at p cells (store_given given k) (slice_get p.nodes n)
+  alarms_of_node given k n = alarms_at sharp p cells (store_given given k) (slice_get p.nodes n)
 
   by-node-agree : (k : ℕ) (ns : List ℕ)
       → ((i n : ℕ) → slice_get ns i ≡ Some n
       → alarms_of_node g (k + i) n ≡ alarms_of_node h (k + i) n)
-      → by_node_from names p cells g k ns ≡ by_node_from names p cells h k ns
+      → by_node_from names sharp p cells g k ns ≡ by_node_from names sharp p cells h k ns
   by-node-agree k [] same = refl
   by-node-agree k (n ∷ ns) same =
       let here : k + 0 ≡ k = omega arith in
@@ -65,7 +65,7 @@ module _ (names : List (List ℕ)) (p : Lowered) (cells : List ℕ) (g h : ℕ �
 
   by_node_zero : (ns : List ℕ)
       → ((k n : ℕ) → slice_get ns k ≡ Some n → alarms_of_node g k n ≡ alarms_of_node h k n)
-      → by_node_from names p cells g 0 ns ≡ by_node_from names p cells h 0 ns
+      → by_node_from names sharp p cells g 0 ns ≡ by_node_from names sharp p cells h 0 ns
   by_node_zero ns same = by-node-agree 0 ns (λ i n e. moved i n (same i n e))
     where
       moved : (i n : ℕ) → alarms_of_node g i n ≡ alarms_of_node h i n

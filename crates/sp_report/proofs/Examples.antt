@@ -14,6 +14,7 @@ use Rattle.sp_ir.specs.Regions.{Region}
 use Rattle.sp_ir.specs.Programs.{Object, Lowered}
 use Rattle.sp_value.specs.declared.targets.Target.{Target}
 use Rattle.sp_value.specs.declared.slots.Slot.{Slot}
+use Rattle.sp_numbers.specs.Numbers.{settled}
 use Rattle.sp_value.specs.Known.{of_numbers, none}
 use Rattle.sp_value.specs.Slots.{slot_of}
 use Rattle.sp_effect_alarms.specs.declared.alarm.Alarm.{Alarm}
@@ -100,7 +101,7 @@ abbrev all_names : List (List ℕ)
 all_names = names ++ codes "pair" ∷ []
 
 abbrev plain : ℤ → ℤ → Slot
-plain lo hi = slot_of (of_numbers (Of lo hi))
+plain lo hi = slot_of (of_numbers (settled false false (Of lo hi)))
 
 abbrev every_int : Slot
 every_int = plain (neg_ℤ (pos 2147483648)) (pos 2147483647)
@@ -125,10 +126,20 @@ member = refl
 abbrev to : ℕ → Target
 to r = record { region = r; offset = Of (pos 0) (pos 1); size = Of (pos 2) (pos 2) }
 
-targets : known_text all_names program (record { numbers = Of (pos 0) (pos 0); targets = to 0 ∷ to 2 ∷ [] })
+targets : known_text all_names program (record { numbers = settled false false (Of (pos 0) (pos 0)); targets = to 0 ∷ to 2 ∷ [] })
     ≡ codes "[0,0] &main.a+[0,1]/[2,2] &main.s.pair[]+[0,1]/[2,2]"
 unfolding digits
 targets = refl
+
+-- 0 isn't one of these
+hole : known_text all_names program (of_numbers (settled true true (Of (neg_ℤ (pos 5)) (pos 7)))) ≡ codes "[-5,7]~0"
+unfolding digits
+hole = refl
+
+-- that 0 lies outside isn't told again
+positive : known_text all_names program (of_numbers (settled true true (Of (pos 0) (pos 7)))) ≡ codes "[1,7]"
+unfolding digits
+positive = refl
 
 nothing : known_text all_names program none ≡ codes "none"
 nothing = refl

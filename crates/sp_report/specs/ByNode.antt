@@ -1,5 +1,5 @@
 -- The alarms again, node by node: each as its line of the report, behind the number of its node.
-use Rattle.std.specs.Prelude.{ℕ, suc, List, [], ◌∷◌, ◌++◌, codes, Option, slice_get}
+use Rattle.std.specs.Prelude.{ℕ, Bool, suc, List, [], ◌∷◌, ◌++◌, codes, Option, slice_get}
 use Rattle.std.specs.List.{flat_map}
 use Rattle.std.specs.Fmt.{decimal}
 use Rattle.sp_ir.specs.Programs.{Lowered}
@@ -19,8 +19,8 @@ module _ (names : List (List ℕ)) where
 
   -- of a list of nodes of the program; inputs number the first as k
   abbrev pub by_node_from :
-      Lowered → List ℕ → (ℕ → ℕ → Option Slot) → ℕ → List ℕ → List ℕ
-  by_node_from p cells given k [] = []
-  by_node_from p cells given k (n ∷ ns) =
-      lines_of_node n (alarms_at p cells (store_given given k) (slice_get p.nodes n))
-      ++ by_node_from p cells given (suc k) ns
+      Bool → Lowered → List ℕ → (ℕ → ℕ → Option Slot) → ℕ → List ℕ → List ℕ
+  by_node_from sharp p cells given k [] = []
+  by_node_from sharp p cells given k (n ∷ ns) =
+      lines_of_node n (alarms_at sharp p cells (store_given given k) (slice_get p.nodes n))
+      ++ by_node_from sharp p cells given (suc k) ns

@@ -1,5 +1,5 @@
 -- The alarms of nodes over the stores that a table of inputs gives.
-use Rattle.std.specs.Prelude.{◌≡◌, ℕ, suc, true, List, [], ◌∷◌, ◌++◌, Option, Some, None, slice_get}
+use Rattle.std.specs.Prelude.{◌≡◌, ℕ, Bool, suc, true, List, [], ◌∷◌, ◌++◌, Option, Some, None, slice_get}
 use Rattle.sp_lattice.specs.System.{has}
 use Rattle.sp_ir.specs.Commands.{Node}
 use Rattle.sp_ir.specs.Programs.{Lowered}
@@ -27,13 +27,13 @@ abbrev pub AreProperNodes : Lowered → List ℕ → Type 0
 AreProperNodes p nodes = (n : ℕ) → has n nodes ≡ true → IsProperNode p (slice_get p.nodes n)
 
 -- the alarms of a node that may be there
-abbrev pub alarms_at : Lowered → List ℕ → (ℕ → Slot) → Option Node → List Alarm
-alarms_at p cells store None = []
-alarms_at p cells store (Some n) = node_alarms p (cells_at cells store) n
+abbrev pub alarms_at : Bool → Lowered → List ℕ → (ℕ → Slot) → Option Node → List Alarm
+alarms_at sharp p cells store None = []
+alarms_at sharp p cells store (Some n) = node_alarms sharp p (cells_at cells store) n
 
 -- those of a list of nodes of the program; inputs number the first as k
-abbrev pub alarms_from : Lowered → List ℕ → (ℕ → ℕ → Option Slot) → ℕ → List ℕ → List Alarm
-alarms_from p cells given k [] = []
-alarms_from p cells given k (n ∷ ns) =
-    alarms_at p cells (store_given given k) (slice_get p.nodes n)
-    ++ alarms_from p cells given (suc k) ns
+abbrev pub alarms_from : Bool → Lowered → List ℕ → (ℕ → ℕ → Option Slot) → ℕ → List ℕ → List Alarm
+alarms_from sharp p cells given k [] = []
+alarms_from sharp p cells given k (n ∷ ns) =
+    alarms_at sharp p cells (store_given given k) (slice_get p.nodes n)
+    ++ alarms_from sharp p cells given (suc k) ns

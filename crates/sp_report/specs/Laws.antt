@@ -1,5 +1,5 @@
 -- The laws of reports, as the layers above use them.
-use Rattle.std.specs.Prelude.{◌≡◌, ◌↔◌, ℕ, true, List, [], Option, Some, slice_get}
+use Rattle.std.specs.Prelude.{◌≡◌, ◌↔◌, ℕ, Bool, true, List, [], Option, Some, slice_get}
 use Rattle.std.specs.List.{Contains}
 use Rattle.std.specs.List.Sorted.{IsStrictlySortedBy}
 use Rattle.sp_lattice.specs.System.{has}
@@ -29,17 +29,17 @@ pub record ReportLaws : Type 0 where
 -- Two tables of inputs that give each node the same alarms give the same alarms together, and the
 -- same lines by node. Two that agree at the locations that nodes use have the same lines of values.
 pub record InputLaws : Type 0 where
-  pub alarms_agree : (p : Lowered) (cells : List ℕ) (g h : ℕ → ℕ → Option Slot) (nodes : List ℕ)
+  pub alarms_agree : (sharp : Bool) (p : Lowered) (cells : List ℕ) (g h : ℕ → ℕ → Option Slot) (nodes : List ℕ)
       → ((k n : ℕ) → slice_get nodes k ≡ Some n
-      → alarms_at p cells (store_given g k) (slice_get p.nodes n)
-      ≡ alarms_at p cells (store_given h k) (slice_get p.nodes n))
-      → alarms_from p cells g 0 nodes ≡ alarms_from p cells h 0 nodes
-  pub by_node_agree : (names : List (List ℕ)) (p : Lowered) (cells : List ℕ)
+      → alarms_at sharp p cells (store_given g k) (slice_get p.nodes n)
+      ≡ alarms_at sharp p cells (store_given h k) (slice_get p.nodes n))
+      → alarms_from sharp p cells g 0 nodes ≡ alarms_from sharp p cells h 0 nodes
+  pub by_node_agree : (sharp : Bool) (names : List (List ℕ)) (p : Lowered) (cells : List ℕ)
       (g h : ℕ → ℕ → Option Slot) (nodes : List ℕ)
       → ((k n : ℕ) → slice_get nodes k ≡ Some n
-      → alarms_at p cells (store_given g k) (slice_get p.nodes n)
-      ≡ alarms_at p cells (store_given h k) (slice_get p.nodes n))
-      → by_node_from names p cells g 0 nodes ≡ by_node_from names p cells h 0 nodes
+      → alarms_at sharp p cells (store_given g k) (slice_get p.nodes n)
+      ≡ alarms_at sharp p cells (store_given h k) (slice_get p.nodes n))
+      → by_node_from names sharp p cells g 0 nodes ≡ by_node_from names sharp p cells h 0 nodes
   pub values_agree : (names : List (List ℕ)) (p : Lowered) (cells : List ℕ)
       (g h : ℕ → ℕ → Option Slot) (uses : List (List ℕ)) (nodes : List ℕ)
       → ((k l : ℕ) → has l (uses_at (slice_get uses k)) ≡ true

@@ -5,6 +5,8 @@ use Rattle.std.specs.Fmt.{decimal, signed_decimal}
 use Rattle.sp_tree.specs.declared.fault.Place.{Place}
 use Rattle.sp_interval.specs.declared.interval.Interval.{Interval}
 use Rattle.sp_interval.specs.declared.interval.Interval.TheVariants.{Empty, Of}
+use Rattle.sp_numbers.specs.declared.numbers.Numbers.{Numbers}
+use Rattle.sp_numbers.specs.Numbers.{has_hole}
 use Rattle.sp_effect_alarms.specs.declared.alarm.Alarm.{Alarm}
 use Rattle.sp_effect_alarms.specs.declared.alarm.AlarmKind.{AlarmKind}
 use Rattle.sp_effect_alarms.specs.declared.alarm.AlarmKind.TheVariants.{Overrun, Zero, Pointer, NoFunction, Punned}
@@ -14,6 +16,14 @@ abbrev pub interval_text : Interval → List ℕ
 interval_text Empty = codes "[]"
 interval_text (Of lo hi) =
     codes "[" ++ (signed_decimal lo ++ (codes "," ++ (signed_decimal hi ++ codes "]")))
+
+-- 0 lies between the bounds, and isn't one of the numbers
+abbrev pub hole_text : Numbers → List ℕ
+hole_text n = cond (has_hole n) (codes "~0") []
+
+-- numbers: those of an interval, or all of these but 0
+abbrev pub numbers_text : Numbers → List ℕ
+numbers_text n = interval_text n.span ++ hole_text n
 
 abbrev pub is_one : Interval → Bool
 is_one Empty = false

@@ -10,7 +10,7 @@ use Rattle.sp_value.specs.declared.targets.Target.{Target}
 use Rattle.sp_value.specs.declared.slots.Slot.{Slot}
 use Rattle.sp_value.specs.Known.{Known}
 use Rattle.sp_value.specs.Slots.{known_in}
-use Rattle.sp_report.specs.Texts.{interval_text, file_name, position_text}
+use Rattle.sp_report.specs.Texts.{numbers_text, interval_text, file_name, position_text}
 use Rattle.sp_report.specs.Places.{region_name, location_name}
 use Rattle.sp_report.specs.Inputs.{store_given}
 
@@ -40,8 +40,8 @@ module _ (names : List (List ℕ)) (p : Lowered) where
   targets_text (x ∷ xs) = target_text x ++ more_targets xs
 
   abbrev pub known_text : Known → List ℕ
-  known_text v = cond (interval_le v.numbers Empty) (targets_text v.targets)
-      (interval_text v.numbers ++ more_targets v.targets)
+  known_text v = cond (interval_le v.numbers.span Empty) (targets_text v.targets)
+      (numbers_text v.numbers ++ more_targets v.targets)
 
   -- ---- lines, over the regions of locations
 

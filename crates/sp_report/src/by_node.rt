@@ -4,14 +4,12 @@ ghost use Rattle.sp_ir.specs.Programs.{lowered_of};
 ghost use Rattle.sp_report.specs.Inputs.{store_given, IsProperNode, AreProperNodes, alarms_at};
 ghost use Rattle.sp_report.specs.ByNode.{lines_of_node, by_node_from};
 
-use crate::inputs::{InputAt, add_alarms};
+use crate::inputs::{InputAt, Subject, add_alarms};
 use crate::lines::{add_text, lines_of};
-use crate::places::Legend;
 use sp_effect_alarms::Alarm;
-use sp_ir::Lowered;
 use sp_lattice::Inputs;
 use sp_tree::Names;
-use sp_value::{Locations, Slot};
+use sp_value::Slot;
 use std::alloc::{AllocError, Global};
 
 // Adds the lines of the node of a number, which has these alarms.
@@ -37,22 +35,23 @@ fn add_lines(
 // Adds the lines of the node of a number over the store that reaches it.
 fn add_node<I: Inputs<Value = Slot>>(
     alloc: Global,
-    legend: &Legend<'_>,
-    locations: &Locations,
+    names: &Names,
+    subject: &Subject<'_>,
     number: u32,
     input: &InputAt<'_, I>,
     text: &mut Vec<u8>,
 ) -> Result<(), AllocError>
-    requires { IsProperNode (lowered_of legend.now.lowered.now)
-        (slice_get (lowered_of legend.now.lowered.now).nodes number) }
-    ensures { OnOk result (text.new.items ≡ text.old.items ++ lines_of_node legend.now.names.now
-        number (alarms_at (lowered_of legend.now.lowered.now) locations.now.cells.items
+    requires { IsProperNode (lowered_of subject.now.lowered.now)
+        (slice_get (lowered_of subject.now.lowered.now).nodes number) }
+    ensures { OnOk result (text.new.items ≡ text.old.items ++ lines_of_node names.now number
+        (alarms_at subject.now.sharp (lowered_of subject.now.lowered.now)
+        subject.now.locations.now.cells.items
         (store_given (I.given input.now.inputs.now) input.now.node)
-        (slice_get (lowered_of legend.now.lowered.now).nodes number))) }
+        (slice_get (lowered_of subject.now.lowered.now).nodes number))) }
 {
     let mut alarms = Vec::new(alloc);
-    add_alarms(alloc, legend.lowered, locations, number, input, &mut alarms)?;
-    add_lines(alloc, legend.names, number, alarms.as_slice(), text)
+    add_alarms(alloc, subject, number, input, &mut alarms)?;
+    add_lines(alloc, names, number, alarms.as_slice(), text)
 }
 
 /// The alarms of nodes of a program, each as its line of the report behind the number of its node:
@@ -61,21 +60,19 @@ fn add_node<I: Inputs<Value = Slot>>(
 pub fn print_by_node<I: Inputs<Value = Slot>>(
     alloc: Global,
     names: &Names,
-    lowered: &Lowered,
-    locations: &Locations,
+    subject: &Subject<'_>,
     nodes: &[u32],
     inputs: &I,
 ) -> Result<Vec<u8>, AllocError>
     requires few { length nodes.now < 2 ^ 32 }
-    requires proper { AreProperNodes (lowered_of lowered.now) nodes.now }
-    ensures { IfOk result (λ text. text.items ≡ by_node_from names.now (lowered_of lowered.now)
-        locations.now.cells.items (I.given inputs.now) 0 nodes.now) }
+    requires proper { AreProperNodes (lowered_of subject.now.lowered.now) nodes.now }
+    ensures { IfOk result (λ text. text.items ≡ by_node_from names.now subject.now.sharp
+        (lowered_of subject.now.lowered.now) subject.now.locations.now.cells.items (I.given inputs.now) 0 nodes.now) }
 {
-    let legend = Legend { names, lowered };
     let mut text = Vec::new(alloc);
     for (k, number) in nodes.iter().enumerate() {
         let input = InputAt::new(inputs, k as u32);
-        add_node(alloc, &legend, locations, *number, &input, &mut text)?;
+        add_node(alloc, names, subject, *number, &input, &mut text)?;
     }
     Ok(text)
 }

@@ -57,24 +57,32 @@ pub(crate) fn node_at(lowered: &Lowered, number: u32) -> Option<&Node>
     lowered.nodes.get(number as usize)
 }
 
+/// What is reported on: a program, its locations, and the mode.
+#[derive(Drop)]
+pub struct Subject<'a> {
+    pub lowered: &'a Lowered,
+    pub locations: &'a Locations,
+    pub sharp: bool,
+}
+
 /// Adds the alarms of the node of a number, where there is one.
 pub(crate) fn add_alarms<I: Inputs<Value = Slot>>(
     alloc: Global,
-    lowered: &Lowered,
-    locations: &Locations,
+    subject: &Subject<'_>,
     number: u32,
     input: &InputAt<'_, I>,
     alarms: &mut Vec<Alarm>,
 ) -> Result<(), AllocError>
-    requires { IsProperNode (lowered_of lowered.now)
-        (slice_get (lowered_of lowered.now).nodes number) }
-    ensures { OnOk result (alarms.new.items ≡ alarms.old.items ++
-        alarms_at (lowered_of lowered.now) locations.now.cells.items
+    requires { IsProperNode (lowered_of subject.now.lowered.now)
+        (slice_get (lowered_of subject.now.lowered.now).nodes number) }
+    ensures { OnOk result (alarms.new.items ≡ alarms.old.items ++ alarms_at subject.now.sharp
+        (lowered_of subject.now.lowered.now) subject.now.locations.now.cells.items
         (store_given (I.given input.now.inputs.now) input.now.node)
-        (slice_get (lowered_of lowered.now).nodes number)) }
+        (slice_get (lowered_of subject.now.lowered.now).nodes number)) }
 {
+    let (lowered, locations) = (subject.lowered, subject.locations);
     if let Some(node) = node_at(lowered, number) {
-        let found = verdicts(alloc, lowered, locations, node, input)?;
+        let found = verdicts(alloc, lowered, locations, subject.sharp, node, input)?;
         alarms.extend_from_slice(found.as_slice())?;
     }
     Ok(())
@@ -84,20 +92,20 @@ pub(crate) fn add_alarms<I: Inputs<Value = Slot>>(
 /// nodes by their places in the list. A number that is no node of the program has no alarm.
 pub fn alarms<I: Inputs<Value = Slot>>(
     alloc: Global,
-    lowered: &Lowered,
-    locations: &Locations,
+    subject: &Subject<'_>,
     nodes: &[u32],
     inputs: &I,
 ) -> Result<Vec<Alarm>, AllocError>
     requires few { length nodes.now < 2 ^ 32 }
-    requires proper { AreProperNodes (lowered_of lowered.now) nodes.now }
-    ensures { IfOk result (λ alarms. alarms.items ≡ alarms_from (lowered_of lowered.now)
-        locations.now.cells.items (I.given inputs.now) 0 nodes.now) }
+    requires proper { AreProperNodes (lowered_of subject.now.lowered.now) nodes.now }
+    ensures { IfOk result (λ alarms. alarms.items ≡ alarms_from subject.now.sharp
+        (lowered_of subject.now.lowered.now) subject.now.locations.now.cells.items
+        (I.given inputs.now) 0 nodes.now) }
 {
     let mut alarms = Vec::new(alloc);
     for (k, number) in nodes.iter().enumerate() {
         let input = InputAt::new(inputs, k as u32);
-        add_alarms(alloc, lowered, locations, *number, &input, &mut alarms)?;
+        add_alarms(alloc, subject, *number, &input, &mut alarms)?;
     }
     Ok(alarms)
 }

@@ -21,8 +21,8 @@
 //! and `node 3 a.c:1:35: main.a = [1,1]` is a line of values: of the node `if(a)` in
 //! `int main(void){int a;int b;a=1;if(a)if(b)a=2;else a=-b;return a;}`.
 //!
-//! What goes in: the names of the texts, the program, its locations, the numbers of its nodes, and
-//! the [`Inputs`](sp_lattice::Inputs) that a solved table gives. [`alarms`] lists the alarms of the
+//! What goes in: the names of the texts, the [`Subject`], the numbers of its nodes, and the
+//! [`Inputs`](sp_lattice::Inputs) that a solved table gives. [`alarms`] lists the alarms of the
 //! nodes over their stores (`alarms_from` of `specs.Inputs`). [`print_alarms`] gives the bytes
 //! `report_text` of `specs.Report`. [`print_values`] gives `values_from` of `specs.Values`, and
 //! [`print_by_node`] `by_node_from` of `specs.ByNode`. [`add_place`] writes a place. The
@@ -40,7 +40,7 @@ mod texts;
 mod values;
 
 pub use by_node::print_by_node;
-pub use inputs::alarms;
+pub use inputs::{Subject, alarms};
 pub use lawful::reports_are_lawful;
 pub use lines::{Report, add_place, print_alarms};
 pub use values::print_values;

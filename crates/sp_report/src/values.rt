@@ -5,7 +5,7 @@ ghost use Rattle.std.specs.Fmt.{decimal};
 ghost use Rattle.sp_ir.specs.Programs.{lowered_of};
 ghost use Rattle.sp_ir.specs.View.{node_of};
 ghost use Rattle.sp_value.specs.Slots.{known_in, known_of};
-ghost use Rattle.sp_report.specs.Texts.{interval_text, position_text, file_name};
+ghost use Rattle.sp_report.specs.Texts.{interval_text, hole_text, position_text, file_name};
 ghost use Rattle.sp_report.specs.Inputs.{store_given};
 ghost use Rattle.sp_report.specs.Values.{target_text, more_targets, targets_text, known_text, head_text, value_line, node_lines, uses_at, values_from};
 
@@ -16,6 +16,7 @@ use crate::texts::{Bounds, Position};
 use sp_interval::Interval;
 use sp_ir::{Lowered, Node};
 use sp_lattice::{Inputs, Lattice};
+use sp_numbers::Numbers;
 use sp_tree::Names;
 use sp_value::{Locations, Slot, Target, Value, View};
 use std::alloc::{AllocError, Global};
@@ -74,6 +75,16 @@ fn add_targets(
     Ok(())
 }
 
+// Adds that 0 isn't among the numbers, where it lies between their bounds.
+fn add_hole(numbers: Numbers, text: &mut Vec<u8>) -> Result<(), AllocError>
+    ensures { OnOk result (text.new.items ≡ text.old.items ++ hole_text numbers) }
+{
+    if numbers.has_hole() {
+        text.extend_from_slice(b"~0")?;
+    }
+    Ok(())
+}
+
 // Adds a value: its numbers, then its targets.
 fn add_value(
     alloc: Global,
@@ -85,11 +96,12 @@ fn add_value(
         (lowered_of legend.now.lowered.now) (known_of value.now)) }
 {
     let targets = value.targets.as_slice();
-    if value.numbers.leq(&Interval::Empty) {
+    if value.span.leq(&Interval::Empty) {
         add_targets(alloc, legend, targets, text)?;
     } else {
-        let numbers = format!(in alloc; "{}", Bounds(value.numbers))?;
+        let numbers = format!(in alloc; "{}", Bounds(value.span))?;
         text.extend_from_slice(numbers.as_bytes())?;
+        add_hole(value.numbers(), text)?;
         add_more(alloc, legend, targets, text)?;
     }
     Ok(())

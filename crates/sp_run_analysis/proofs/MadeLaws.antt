@@ -12,13 +12,15 @@ use Rattle.sp_run_analysis.specs.Outcomes.{AreEquationsOf}
 
 pub made : (p : Lowered) (sharp : Bool) (analysis : Analysis) (program : CProgram)
     → lowered_of analysis.lowered ≡ p
-    → IsLadderOf (most_constants sharp) p.constants analysis.ladder
+    → IsLadderOf (most_constants sharp) p.constants analysis.grid.ladder
+    → analysis.grid.sharp ≡ sharp
     → analysed_of program.analysis ≡ analysed_of analysis → program.sharp ≡ sharp
     → AreEquationsOf p sharp (equations_in program)
-made p sharp analysis program is points same mode = record {
+made p sharp analysis program is points numbers same mode = record {
   program = ap (λ (a : Analysed). a.program) same ∙ is;
   mode = mode;
-  points = subst (λ (a : Analysed). IsLadderOf (most_constants sharp) p.constants a.ladder)
+  numbers = ap (λ (a : Analysed). a.grid.sharp) same ∙ numbers;
+  points = subst (λ (a : Analysed). IsLadderOf (most_constants sharp) p.constants a.grid.ladder)
       (sym same) points;
   whole = program.analysis.whole;
   are = program.equations;

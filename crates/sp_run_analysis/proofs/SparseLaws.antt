@@ -146,29 +146,29 @@ module _ (e : Equations) (whole : IsAnalysed e.analysed) (are : AreEquations e) 
         by (inl l_low) = ap slot_or_nothing (sym (same-there k l low (used-there l l_low there)))
         by (inr past) = ap slot_or_nothing (sym (same-beyond k l low past))
 
-    node-same : node_alarms a.program (cells_at (locations_of a.program) (store_given some_given k)) node
-        ≡ node_alarms a.program (cells_at (locations_of a.program) (store_given all_given k)) node
-    node-same = sym (node-agrees a.program (setting_of a).points_to
+    node-same : node_alarms a.grid.sharp a.program (cells_at (locations_of a.program) (store_given some_given k)) node
+        ≡ node_alarms a.grid.sharp a.program (cells_at (locations_of a.program) (store_given all_given k)) node
+    node-same = sym (node-agrees a.grid.sharp a.program (setting_of a).points_to
         (cells_at (locations_of a.program) (store_given all_given k)) (cells_at (locations_of a.program) (store_given some_given k))
         (cells-within (setting_of a) (scene_laws a whole).scene.setting (store_given all_given k) (under k low)) node
         (cells-agree (setting_of a) (scene_laws a whole).scene.setting (store_given all_given k) (store_given some_given k) read agree))
 
   alarms-at : (k : ℕ) → k < length (nodes_of e) → (found : Option Node) → slice_get a.program.nodes (number_of e k) ≡ found
-      → alarms_at a.program (locations_of a.program) (store_given some_given k) found ≡ alarms_at a.program (locations_of a.program) (store_given all_given k) found
+      → alarms_at a.grid.sharp a.program (locations_of a.program) (store_given some_given k) found ≡ alarms_at a.grid.sharp a.program (locations_of a.program) (store_given all_given k) found
   alarms-at k low None is = refl
   alarms-at k low (Some node) is = node-same k low node is
 
   each-node : (k n : ℕ) → slice_get (nodes_of e) k ≡ Some n
-      → alarms_at a.program (locations_of a.program) (store_given some_given k) (slice_get a.program.nodes n)
-      ≡ alarms_at a.program (locations_of a.program) (store_given all_given k) (slice_get a.program.nodes n)
+      → alarms_at a.grid.sharp a.program (locations_of a.program) (store_given some_given k) (slice_get a.program.nodes n)
+      ≡ alarms_at a.grid.sharp a.program (locations_of a.program) (store_given all_given k) (slice_get a.program.nodes n)
   each-node k n at =
       let found = found-at (nodes_of e) k n 0 at in
-      subst (λ m. alarms_at a.program (locations_of a.program) (store_given some_given k) (slice_get a.program.nodes m)
-      ≡ alarms_at a.program (locations_of a.program) (store_given all_given k) (slice_get a.program.nodes m)) found.1
+      subst (λ m. alarms_at a.grid.sharp a.program (locations_of a.program) (store_given some_given k) (slice_get a.program.nodes m)
+      ≡ alarms_at a.grid.sharp a.program (locations_of a.program) (store_given all_given k) (slice_get a.program.nodes m)) found.1
       (alarms-at k found.0 (slice_get a.program.nodes (number_of e k)) refl)
 
   alarms-same : alarms_of e some_given ≡ alarms_of e all_given
-  alarms-same = input_laws.alarms_agree a.program (locations_of a.program) some_given all_given (nodes_of e) each-node
+  alarms-same = input_laws.alarms_agree a.grid.sharp a.program (locations_of a.program) some_given all_given (nodes_of e) each-node
 
   -- ---- values
 
@@ -191,13 +191,13 @@ module _ (e : Equations) (whole : IsAnalysed e.analysed) (are : AreEquations e) 
   -- ---- lines by node
 
   by-node-same : (names : List (List ℕ))
-      → by_node_from names a.program (locations_of a.program) some_given 0 (nodes_of e)
-      ≡ by_node_from names a.program (locations_of a.program) all_given 0 (nodes_of e)
-  by-node-same names = input_laws.by_node_agree names a.program (locations_of a.program) some_given all_given (nodes_of e) each-node
+      → by_node_from names a.grid.sharp a.program (locations_of a.program) some_given 0 (nodes_of e)
+      ≡ by_node_from names a.grid.sharp a.program (locations_of a.program) all_given 0 (nodes_of e)
+  by-node-same names = input_laws.by_node_agree a.grid.sharp names a.program (locations_of a.program) some_given all_given (nodes_of e) each-node
 
   wanted-same : (names : List (List ℕ)) (values nodes : Bool)
-      → cond nodes (text_of e some_given names values ++ by_node_from names a.program (locations_of a.program) some_given 0 (nodes_of e)) (text_of e some_given names values)
-      ≡ cond nodes (text_of e all_given names values ++ by_node_from names a.program (locations_of a.program) all_given 0 (nodes_of e)) (text_of e all_given names values)
+      → cond nodes (text_of e some_given names values ++ by_node_from names a.grid.sharp a.program (locations_of a.program) some_given 0 (nodes_of e)) (text_of e some_given names values)
+      ≡ cond nodes (text_of e all_given names values ++ by_node_from names a.grid.sharp a.program (locations_of a.program) all_given 0 (nodes_of e)) (text_of e all_given names values)
   wanted-same names values true = ap₂ (λ t l. t ++ l) (text-same names values) (by-node-same names)
   wanted-same names values false = text-same names values
 

@@ -23,7 +23,8 @@ use Rattle.sp_run_analysis.specs.declared.dense.Outcome.TheVariants.{Reported, T
 pub record AreEquationsOf (p : Lowered) (sharp : Bool) (e : Equations) : Type 0 where
   pub program : e.analysed.program ≡ p
   pub mode : e.sharp ≡ sharp
-  pub points : IsLadderOf (most_constants sharp) p.constants e.analysed.ladder
+  pub numbers : e.analysed.grid.sharp ≡ sharp
+  pub points : IsLadderOf (most_constants sharp) p.constants e.analysed.grid.ladder
   pub whole : ∥ IsAnalysed e.analysed ∥₁
   pub are : ∥ AreEquations e ∥₁
 
@@ -32,7 +33,7 @@ pub record AreEquationsOf (p : Lowered) (sharp : Bool) (e : Equations) : Type 0 
 module _ (e : Equations) (given : ℕ → ℕ → Option Slot) where
   -- the alarms of all nodes
   abbrev pub alarms_of : List Alarm
-  alarms_of = alarms_from e.analysed.program (locations_of e.analysed.program) given 0 (nodes_of e)
+  alarms_of = alarms_from e.analysed.grid.sharp e.analysed.program (locations_of e.analysed.program) given 0 (nodes_of e)
 
   -- the report, and where they are wanted, the lines of values behind it
   abbrev pub text_of : List (List ℕ) → Bool → List ℕ
@@ -44,7 +45,7 @@ module _ (e : Equations) (given : ℕ → ℕ → Option Slot) where
   -- and where they are wanted, the lines by node behind all that
   abbrev pub detailed_text : List (List ℕ) → Wanted → List ℕ
   detailed_text names wanted = cond wanted.nodes
-      (text_of names wanted.values ++ by_node_from names e.analysed.program
+      (text_of names wanted.values ++ by_node_from names e.analysed.grid.sharp e.analysed.program
       (locations_of e.analysed.program) given 0 (nodes_of e))
       (text_of names wanted.values)
 

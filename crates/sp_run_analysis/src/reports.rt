@@ -12,8 +12,9 @@ ghost use Rattle.sp_defuse.specs.declared.nodes.Node.{Node};
 ghost use Rattle.sp_run_analysis.specs.Outcomes.{IsReport, alarms_of, text_of};
 
 use sp_defuse::{CProgram, Node};
+use sp_effect_scene::Analysis;
 use sp_lattice::Inputs;
-use sp_report::{Report, alarms, print_alarms, print_by_node, print_values};
+use sp_report::{Report, Subject, alarms, print_alarms, print_by_node, print_values};
 use sp_tree::Names;
 use sp_value::Slot;
 use std::alloc::{AllocError, Global};
@@ -39,6 +40,19 @@ fn uses_of(alloc: Global, nodes: &[Node]) -> Result<Vec<Vec<u32>>, AllocError>
         uses.push(Vec::from_slice(alloc, node.uses.as_slice())?)?;
     }
     Ok(uses)
+}
+
+/// What is reported on.
+fn subject_of(analysis: &Analysis) -> Subject<'_>
+    ensures lowered { result.lowered.now ≡ analysis.entry.now.lowered }
+    ensures locations { result.locations.now ≡ analysis.entry.now.locations }
+    ensures sharp { result.sharp ≡ analysis.entry.now.grid.sharp }
+{
+    Subject {
+        lowered: &analysis.lowered,
+        locations: &analysis.locations,
+        sharp: analysis.grid.sharp,
+    }
 }
 
 /// Adds the lines of values.
@@ -78,19 +92,13 @@ fn add_by_node<I: Inputs<Value = Slot>>(
     text: &mut Vec<u8>,
 ) -> Result<(), AllocError>
     ensures { OnOk result (text.new.items ≡ text.old.items ++ by_node_from names.now
-        (lowered_of program.now.analysis.lowered)
+        program.now.analysis.grid.sharp (lowered_of program.now.analysis.lowered)
         (locations_of (lowered_of program.now.analysis.lowered)) (I.given inputs.now) 0
         (nodes_of (equations_in program.now))) }
 {
     let analysis = program.analysis();
-    let lines = print_by_node(
-        alloc,
-        names,
-        &analysis.lowered,
-        &analysis.locations,
-        analysis.flow.nodes(),
-        inputs,
-    )?;
+    let subject = subject_of(analysis);
+    let lines = print_by_node(alloc, names, &subject, analysis.flow.nodes(), inputs)?;
     text.extend_from_slice(&lines)
 }
 
@@ -109,7 +117,8 @@ fn report_with<I: Inputs<Value = Slot>>(
 {
     let analysis = program.analysis();
     let nodes = analysis.flow.nodes();
-    let found = alarms(alloc, &analysis.lowered, &analysis.locations, nodes, inputs)?;
+    let subject = subject_of(analysis);
+    let found = alarms(alloc, &subject, nodes, inputs)?;
     let mut report = print_alarms(alloc, names, &found)?;
     if with_values {
         add_values(alloc, names, program, inputs, &mut report.text)?;

@@ -33,8 +33,8 @@ alike-at a s t us r there agree = by (location_of (locations_of a.program) r) re
         ap known_in (agree l (sym (location-found (locations_of a.program) r l (2 ^ 32) e).1) (has_there (locations_of a.program) r l found.0 found.1) there)
 
 pub alarms-agree : (a : Analysed) → IsAnalysed a → (n : ℕ) (node : Node) → slice_get a.program.nodes n ≡ Some node → (s t : Store) → UnderCeiling (setting_of a) s → AgreeAt (used_at a n) s t
-    → node_alarms a.program (known_in_regions (scene_of a) s) node ≡ node_alarms a.program (known_in_regions (scene_of a) t) node
+    → node_alarms a.grid.sharp a.program (known_in_regions (scene_of a) s) node ≡ node_alarms a.grid.sharp a.program (known_in_regions (scene_of a) t) node
 alarms-agree a whole n node is s t under agree =
-    node-agrees a.program (setting_of a).points_to (known_in_regions (scene_of a) s) (known_in_regions (scene_of a) t) (cells-within (setting_of a) (scene-is a whole).setting s under) node
+    node-agrees a.grid.sharp a.program (setting_of a).points_to (known_in_regions (scene_of a) s) (known_in_regions (scene_of a) t) (cells-within (setting_of a) (scene-is a whole).setting s under) node
     (λ r there. alike-at a s t (command_uses a.program (setting_of a).points_to node.command) r there
     (λ l at cell used. agree l (ap (λ c. used_by a n c l) (ap command_in is) ∙ alarms-used a r cell l at n node.command used)))

@@ -43,15 +43,15 @@ module _ (a : Analysed) (sharp : Bool) (n : ℕ) (s : Store) where
   turn true k old x put = refl
   turn false k old x put = refl
 
-  pub effect-is : (l : ℕ) → cond (cut_at a sharp n l) (stored a.ladder (cut_value l (known_in (made l)))) (made l) ≡ effect_at a sharp n s l
-  effect-is l = turn (cut_at a sharp n l) ((row_of a n (command_at a.program n) s).keeps l) (s l) (stored a.ladder (cut_value l (known_in (made l)))) ((row_of a n (command_at a.program n) s).puts l)
+  pub effect-is : (l : ℕ) → cond (cut_at a sharp n l) (stored a.grid (cut_value l (known_in (made l)))) (made l) ≡ effect_at a sharp n s l
+  effect-is l = turn (cut_at a sharp n l) ((row_of a n (command_at a.program n) s).keeps l) (s l) (stored a.grid (cut_value l (known_in (made l)))) ((row_of a n (command_at a.program n) s).puts l)
 
   -- where nothing is cut, it is what the command makes
   pub effect-uncut : (l : ℕ) → cut_at a sharp n l ≡ false → made l ≡ effect_at a sharp n s l
-  effect-uncut l none = sym (ap (λ b. cond b (stored a.ladder (cut_value l (known_in (made l)))) (made l)) none) ∙ effect-is l
+  effect-uncut l none = sym (ap (λ b. cond b (stored a.grid (cut_value l (known_in (made l)))) (made l)) none) ∙ effect-is l
 
-  pub effect-cut : (l : ℕ) (r q : Slot) → r ≡ made l → q ≡ cond (cut_at a sharp n l) (stored a.ladder (cut_value l (known_in r))) r → q ≡ effect_at a sharp n s l
-  effect-cut l r q is cut = cut ∙ ap (λ x. cond (cut_at a sharp n l) (stored a.ladder (cut_value l (known_in x))) x) is ∙ effect-is l
+  pub effect-cut : (l : ℕ) (r q : Slot) → r ≡ made l → q ≡ cond (cut_at a sharp n l) (stored a.grid (cut_value l (known_in r))) r → q ≡ effect_at a sharp n s l
+  effect-cut l r q is cut = cut ∙ ap (λ x. cond (cut_at a sharp n l) (stored a.grid (cut_value l (known_in x))) x) is ∙ effect-is l
 
   -- what the command makes at its own locations, beside what was there
   pub made-at : ∥ IsAnalysed a ∥₁ → UnderCeiling (setting_of a) s → (places own : List ℕ) → AllBelow (count (setting_of a)) places → AreLocations a (own_at a n) own → (l : ℕ) (old again before between after : Slot) → has l places ≡ true → old ≡ s l → again ≡ cond (has l own) before old

@@ -47,7 +47,7 @@ lower k n h = grind (arith, nat_tests, h)
 
 module _ (e : Equations) (whole : IsAnalysed e.analysed) (are : AreEquations e) where
   held-store : (s : Store) → Held (meaning_of e) s → HeldStore (setting_of e.analysed) s
-  held-store s h l low = held-from e.analysed.ladder whole.ladder (s l) (h l low)
+  held-store s h l low = held-from e.analysed.grid whole.ladder (s l) (h l low)
 
   agree-at : (k : ℕ) (s t : Store) → k < length (nodes_of e) → ((u : ℕ) → has u (row e.uses k) ≡ true → s u ≡ t u) → AgreeAt (used_at e.analysed (number_of e k)) s t
   agree-at k s t low agree u used = agree u ((are.uses k low).are u ∙ used)
@@ -55,13 +55,13 @@ module _ (e : Equations) (whole : IsAnalysed e.analysed) (are : AreEquations e) 
   few-targets : (l : ℕ) → length ((setting_of e.analysed).points_to (cell_of (setting_of e.analysed) l)) ≤ length e.analysed.program.regions
   few-targets l = targets-few e.analysed whole (cell_of (setting_of e.analysed) l)
 
-  rank-most : (l : ℕ) (a : Slot) → slot_le a (ceiling (setting_of e.analysed) l) ≡ true → slot_rank e.analysed.ladder a ≤ height_of e.analysed
+  rank-most : (l : ℕ) (a : Slot) → slot_le a (ceiling (setting_of e.analysed) l) ≡ true → slot_rank e.analysed.grid.ladder a ≤ height_of e.analysed
   rank-most l a below =
       let points = (setting_of e.analysed).points_to (cell_of (setting_of e.analysed) l) in
       let known = subst (λ v. known_le (known_in a) v ≡ true) (ceiling-knows (setting_of e.analysed) (scene_laws e.analysed whole).scene.setting l) (known_in-monotone a (ceiling (setting_of e.analysed) l) below) in
-      let most = slot_rank-most e.analysed.ladder whole.ladder a (ceiling_known points) known in
-      bounded (slot_rank e.analysed.ladder a) (length e.analysed.ladder) (length points) (length e.analysed.program.regions)
-      (subst (λ n. slot_rank e.analysed.ladder a ≤ 1 + length e.analysed.ladder + n * (1 + 2 * length e.analysed.ladder)) (length-map points widest) most) (few-targets l)
+      let most = slot_rank-most e.analysed.grid whole.ladder a (ceiling_known points) known in
+      bounded (slot_rank e.analysed.grid.ladder a) (length e.analysed.grid.ladder) (length points) (length e.analysed.program.regions)
+      (subst (λ n. slot_rank e.analysed.grid.ladder a ≤ 1 + length e.analysed.grid.ladder + n * (1 + 2 * length e.analysed.grid.ladder)) (length-map points widest) most) (few-targets l)
 
   pub equations-system : IsSystem slot_order (meaning_of e)
   equations-system = record {
@@ -72,16 +72,16 @@ module _ (e : Equations) (whole : IsAnalysed e.analysed) (are : AreEquations e) 
     uses_below = λ k low. (are.uses k low).below;
     monotone = λ k s t low held below under. (effect-lawful e.analysed whole e.sharp (number_of e k)).monotone s t (held-store s held) below under;
     capped = λ k low. (effect-lawful e.analysed whole e.sharp (number_of e k)).capped;
-    bottom_held = held-to e.analysed.ladder whole.ladder Nothing tt;
-    join_held = λ l a b low h g under other. held-to e.analysed.ladder whole.ladder (slot_join a b)
-        (slot_join-held e.analysed.ladder whole.ladder a b (held-from e.analysed.ladder whole.ladder a h) (held-from e.analysed.ladder whole.ladder b g));
-    effect_held = λ k s low held below l l_low. held-to e.analysed.ladder whole.ladder (effect_at e.analysed e.sharp (number_of e k) s l)
+    bottom_held = held-to e.analysed.grid whole.ladder Nothing tt;
+    join_held = λ l a b low h g under other. held-to e.analysed.grid whole.ladder (slot_join a b)
+        (slot_join-held e.analysed.grid whole.ladder a b (held-from e.analysed.grid whole.ladder a h) (held-from e.analysed.grid whole.ladder b g));
+    effect_held = λ k s low held below l l_low. held-to e.analysed.grid whole.ladder (effect_at e.analysed e.sharp (number_of e k) s l)
         ((effect-lawful e.analysed whole e.sharp (number_of e k)).held s (held-store s held) below l l_low);
     frame = λ k l s low l_low below other. (effect-lawful e.analysed whole e.sharp (number_of e k)).frame s l l_low below (sym ((are.defs k low).are l) ∙ other);
     support = λ k l s t low below below' agree defined. (effect-lawful e.analysed whole e.sharp (number_of e k)).support s t l (defined-low k l low defined) below below' (agree-at k s t low agree) (sym ((are.defs k low).are l) ∙ defined);
-    rises = λ a b h g below above. slot_rank-rises e.analysed.ladder whole.ladder a b (held-from e.analysed.ladder whole.ladder a h) (held-from e.analysed.ladder whole.ladder b g) below above;
+    rises = λ a b h g below above. slot_rank-rises e.analysed.grid whole.ladder a b (held-from e.analysed.grid whole.ladder a h) (held-from e.analysed.grid whole.ladder b g) below above;
     ranked = λ l a low held below. rank-most l a below;
-    height_below = high (length e.analysed.ladder) (length e.analysed.program.regions) whole.few_points whole.formed.few_regions;
+    height_below = high (length e.analysed.grid.ladder) (length e.analysed.program.regions) whole.few_points whole.formed.few_regions;
   }
     where
       into-low : (k : ℕ) → k < length (nodes_of e) → AllBelow (length (nodes_of e)) (row e.into k)

@@ -1,7 +1,7 @@
 -- The equations of an analysed program: a system whose nodes are those of the supergraph, whose
 -- locations are the cells, and whose effects are those of the commands. Calls are localised: into a
 -- function passes what it accesses alone.
-use Rattle.std.specs.Prelude.{◌≡◌, ◌↔◌, ◌<◌, ◌+◌, ◌*◌, ℕ, Bool, true, ◌&&◌, nat_eq, nat_lt, List, length, slice_index_or, ℤ}
+use Rattle.std.specs.Prelude.{◌≡◌, ◌↔◌, ◌<◌, ◌+◌, ◌*◌, ℕ, Bool, true, ◌&&◌, nat_eq, nat_lt, List, length, slice_index_or}
 use Rattle.std.specs.List.{list_any}
 use Rattle.std.specs.List.Sorted.{IsStrictlyIncreasing}
 use Rattle.sp_lattice.specs.System.{Meaning, has, AllBelow}
@@ -10,6 +10,7 @@ use Rattle.sp_graph.specs.Accessed.{accesses}
 use Rattle.sp_graph.specs.Calls.{IsReached}
 use Rattle.sp_graph.specs.declared.edge.Edge.{Edge}
 use Rattle.sp_graph.specs.Supergraph.{Graph, IsSupergraph, edges_at, passes_by}
+use Rattle.sp_numbers.specs.declared.grid.Grid.{Grid}
 use Rattle.sp_value.specs.declared.slots.Slot.{Slot}
 use Rattle.sp_value.specs.Slots.{slot_le, known_in}
 use Rattle.sp_value.specs.Held.{stored, slot_rank}
@@ -51,13 +52,13 @@ passes_between g from to l =
 -- ---- the system
 
 -- to store it once more changes nothing
-abbrev pub is_held : List ℤ → Slot → Bool
-is_held points a = slot_le (stored points (known_in a)) a && slot_le a (stored points (known_in a))
+abbrev pub is_held : Grid → Slot → Bool
+is_held grid a = slot_le (stored grid (known_in a)) a && slot_le a (stored grid (known_in a))
 
 -- how often a location can grow: with its first value, by its numbers, and by each region to which it
 -- points with offset and size
 abbrev pub height_of : Analysed → ℕ
-height_of a = 1 + length a.ladder + length a.program.regions * (1 + 2 * length a.ladder)
+height_of a = 1 + length a.grid.ladder + length a.program.regions * (1 + 2 * length a.grid.ladder)
 
 abbrev pub meaning_of : Equations → Meaning Slot
 meaning_of e = record {
@@ -69,8 +70,8 @@ meaning_of e = record {
   uses = row e.uses;
   effect = λ k. effect_at e.analysed e.sharp (number_of e k);
   ceiling = ceiling (setting_of e.analysed);
-  held = λ a. is_held e.analysed.ladder a ≡ true;
-  rank = slot_rank e.analysed.ladder;
+  held = λ a. is_held e.analysed.grid a ≡ true;
+  rank = slot_rank e.analysed.grid.ladder;
   height = height_of e.analysed;
 }
 

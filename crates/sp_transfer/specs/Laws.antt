@@ -21,7 +21,7 @@ pub record TransferLaws : Type 0 where
   pub alarms : (a : Analysed) → IsAnalysed a → (n : ℕ) (node : Node)
       → slice_get a.program.nodes n ≡ Some node → (s t : Store) → UnderCeiling (setting_of a) s
       → AgreeAt (used_at a n) s t
-      → node_alarms a.program (known_in_regions (scene_of a) s) node
-      ≡ node_alarms a.program (known_in_regions (scene_of a) t) node
+      → node_alarms a.grid.sharp a.program (known_in_regions (scene_of a) s) node
+      ≡ node_alarms a.grid.sharp a.program (known_in_regions (scene_of a) t) node
   pub systems : (e : Equations) → IsAnalysed e.analysed → AreEquations e
       → IsSystem slot_order (meaning_of e)

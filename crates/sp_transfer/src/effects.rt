@@ -170,7 +170,7 @@ fn cut<V: View>(
     requires long { length row.old ≡ length at.now.places.now }
     ensures { OnOk result ((l : ℕ) → store_of at.now.places.now row.new l ≡
         cond (cut_at (analysed_of analysis.now) at.now.sharp node l)
-        (stored (analysed_of analysis.now).ladder (cut_by_all (scene_of (analysed_of analysis.now))
+        (stored (analysed_of analysis.now).grid (cut_by_all (scene_of (analysed_of analysis.now))
         (known_in_regions (scene_of (analysed_of analysis.now)) (V.store view.now))
         (accessed_by at.now.sharp (command_at (analysed_of analysis.now).program node)) l
         (known_in (store_of at.now.places.now row.old l))))

@@ -4,34 +4,84 @@ ghost use Rattle.sp_value.specs.Known.{is_formed_known, is_formed_known-prop};
 
 use crate::targets::{Target, Targets};
 use sp_interval::Interval;
-use sp_lattice::{Ladder, Lattice};
+use sp_lattice::Lattice;
+use sp_numbers::{Grid, Numbers};
 use std::alloc::{AllocError, Global};
 
 /// What an expression may be worth: numbers and targets.
 #[derive(Drop)]
 pub struct Value {
-    pub numbers: Interval,
+    pub span: Interval,
     pub targets: Targets,
-    ghost facts: { is_formed_known numbers targets ≡ true } by { is_formed_known-prop numbers targets },
+    pub nonzero: bool,
+    ghost facts: { is_formed_known (record { span = span; nonzero = nonzero }) targets ≡ true } by { is_formed_known-prop (record { span = span; nonzero = nonzero }) targets },
 }
 
 impl Value {
     ghost use Rattle.std.specs.Prelude.{◌≡◌, IfOk};
-    ghost use Rattle.sp_value.specs.Known.{Known, known_le, is_none, of_numbers, of_target, is_ordered_within, is_proper_within, every_offset, every_size};
     ghost use Rattle.sp_interval.specs.Interval.{whole};
+    ghost use Rattle.sp_numbers.specs.Numbers.{plain};
+    ghost use Rattle.sp_value.specs.Known.{Known, none, known_le, is_none, of_numbers, of_target, is_ordered_within, is_formed_numbers, is_proper_within, every_offset, every_size};
     ghost use Rattle.std.specs.Prelude.{true};
     ghost use Rattle.sp_value.specs.Slots.{known_of, value_join};
     ghost use Rattle.sp_value.specs.Held.{stored};
     ghost use Rattle.sp_lattice.specs.Ladder.{IsLadder};
 
+    /// The numbers.
+    pub fn numbers(&self) -> Numbers
+        ensures { result ≡ (known_of self.now).numbers }
+    {
+        Numbers {
+            span: self.span,
+            nonzero: self.nonzero,
+        }
+    }
+
+    /// Neither a number nor a target.
+    pub fn none(alloc: Global) -> Value
+        ensures { known_of result ≡ none }
+    {
+        Value {
+            span: Interval::Empty,
+            targets: Targets::new(alloc),
+            nonzero: true,
+        }
+    }
+
+    /// The numbers of an interval, of which nothing is told of 0.
+    pub fn of_span(alloc: Global, span: Interval) -> Value
+        requires { is_ordered_within whole span ≡ true }
+        ensures { known_of result ≡ of_numbers (plain span) }
+    {
+        match span {
+            Interval::Empty => Value::none(alloc),
+            Interval::Of { .. } => Value {
+                span,
+                targets: Targets::new(alloc),
+                nonzero: false,
+            },
+        }
+    }
+
+    /// The same targets, and the numbers of an interval, of which nothing is told of 0.
+    pub fn with_span(&self, alloc: Global, span: Interval) -> Result<Value, AllocError>
+        requires { is_ordered_within whole span ≡ true }
+        ensures { IfOk result (λ value. known_of value ≡
+            record { numbers = plain span; targets = self.now.targets }) }
+    {
+        let numbers = Value::of_span(alloc, span).numbers();
+        self.with_numbers(alloc, numbers)
+    }
+
     /// These numbers.
-    pub fn of_numbers(alloc: Global, numbers: Interval) -> Value
-        requires { is_ordered_within whole numbers ≡ true }
+    pub fn of_numbers(alloc: Global, numbers: Numbers) -> Value
+        requires { is_formed_numbers numbers ≡ true }
         ensures { known_of result ≡ of_numbers numbers }
     {
         Value {
-            numbers,
+            span: numbers.span,
             targets: Targets::new(alloc),
+            nonzero: numbers.nonzero,
         }
     }
 
@@ -43,41 +93,54 @@ impl Value {
     {
         let targets = Targets::of_one(alloc, target)?;
         Ok(Value {
-            numbers: Interval::Empty,
+            span: Interval::Empty,
             targets,
+            nonzero: true,
         })
     }
 
     /// These numbers and targets.
-    pub fn of_parts(numbers: Interval, targets: Targets) -> Value
+    pub fn of_parts(numbers: Numbers, targets: Targets) -> Value
         requires { is_formed_known numbers targets ≡ true }
         ensures { known_of result ≡ record { numbers = numbers; targets = targets } }
     {
-        Value { numbers, targets }
+        Value {
+            span: numbers.span,
+            targets,
+            nonzero: numbers.nonzero,
+        }
     }
 
     /// The same targets, and other numbers.
-    pub fn with_numbers(&self, alloc: Global, numbers: Interval) -> Result<Value, AllocError>
-        requires { is_ordered_within whole numbers ≡ true }
+    pub fn with_numbers(&self, alloc: Global, numbers: Numbers) -> Result<Value, AllocError>
+        requires { is_formed_numbers numbers ≡ true }
         ensures { IfOk result (λ value. known_of value ≡
             record { numbers = numbers; targets = self.now.targets }) }
     {
         let targets = self.targets.copy(alloc)?;
-        Ok(Value { numbers, targets })
+        Ok(Value {
+            span: numbers.span,
+            targets,
+            nonzero: numbers.nonzero,
+        })
     }
 
     /// Whether there is neither a number nor a target.
     pub fn is_none(&self) -> bool
         ensures { result ≡ is_none (known_of self.now) }
     {
-        self.numbers.leq(&Interval::Empty) && self.targets.is_empty()
+        let none = Numbers {
+            span: Interval::Empty,
+            nonzero: true,
+        };
+        self.numbers().leq(&none) && self.targets.is_empty()
     }
 
     /// Whether the numbers lie within the other's, and each target in the one of its region.
     fn leq(&self, other: &Value) -> bool
         ensures { result ≡ known_le (known_of self.now) (known_of other.now) }
     {
-        self.numbers.leq(&other.numbers) && self.targets.leq(&other.targets)
+        self.numbers().leq(&other.numbers()) && self.targets.leq(&other.targets)
     }
 
     /// An equal value.
@@ -86,24 +149,23 @@ impl Value {
     {
         let targets = self.targets.copy(alloc)?;
         Ok(Value {
-            numbers: self.numbers,
+            span: self.span,
             targets,
+            nonzero: self.nonzero,
         })
     }
 
     /// What is stored of the value: all bounds moved outward to points of a ladder.
-    pub fn stored(&self, alloc: Global, ladder: &Ladder) -> Result<Slot, AllocError>
-        requires { IsLadder ladder.now }
-        ensures { IfOk result (λ slot. slot ≡ stored ladder.now (known_of self.now)) }
+    pub fn stored(&self, alloc: Global, grid: &Grid) -> Result<Slot, AllocError>
+        requires { IsLadder grid.now.ladder }
+        ensures { IfOk result (λ slot. slot ≡ stored grid.now (known_of self.now)) }
     {
         if self.is_none() {
             return Ok(Slot::Nothing);
         }
-        let targets = self.targets.snapped(alloc, ladder)?;
-        Ok(Slot::Plain(Value {
-            numbers: self.numbers.snap(ladder),
-            targets,
-        }))
+        let targets = self.targets.snapped(alloc, &grid.ladder)?;
+        let numbers = self.numbers().store(grid.sharp, &grid.ladder);
+        Ok(Slot::Plain(Value::of_parts(numbers, targets)))
     }
 
     /// The least value above both.
@@ -111,10 +173,8 @@ impl Value {
         ensures { IfOk result (λ value. value ≡ value_join self.now other.now) }
     {
         let targets = self.targets.joined(alloc, &other.targets)?;
-        Ok(Value {
-            numbers: self.numbers.hull(other.numbers),
-            targets,
-        })
+        let numbers = self.numbers().join(other.numbers());
+        Ok(Value::of_parts(numbers, targets))
     }
 }
 

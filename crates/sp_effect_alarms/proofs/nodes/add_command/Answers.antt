@@ -29,10 +29,10 @@ by_arguments p at r vs u v w e f h =
 
 pub returns-in_ok-add_library-in-Library : goal.returns-in_ok-add_library-in-Library
 returns-in_ok-add_library-in-Library g c =
-    let p = lowered_of c.args.lowered.now in
-    let cells = cells_at c.args.locations.now.cells.items (g.V.View.store c.args.view.now) in
+    let p = lowered_of c.args.input.now.lowered.now in
+    let cells = cells_at c.args.input.now.locations.now.cells.items (g.V.View.store c.args.input.now.view.now) in
     let told = rw c.deref-in-Library-2.ensures.value at c.in_ok-arguments-in-Library.ensures in
-    let same = by_arguments p c.args.place c.in-Library.which (values_of p cells (map expression_of c.in-Library.args.items))
+    let same = by_arguments p c.args.place c.in-Library.which (values_of c.args.input.now.sharp p cells (map expression_of c.in-Library.args.items))
     (known_of c.in_ok-arguments-in-Library.arguments.first) (known_of c.in_ok-arguments-in-Library.arguments.second) (known_of c.in_ok-arguments-in-Library.arguments.third)
     told.0 told.1 told.2 in
     rw c.in-Library.is (added _ _ _ _ _ _ _ c.in_ok-add_result-in-Library.ensures (rw c.deref-in-Library.ensures.value at c.in_ok-add_list-in-Library.ensures) (rw same at c.in_ok-add_library-in-Library.ensures))

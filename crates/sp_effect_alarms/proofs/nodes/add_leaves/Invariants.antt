@@ -7,4 +7,4 @@ use Rattle.sp_effect_alarms.proofs.nodes.add_leaves.Given as goal
 
 abbrev pub invariant-loop-leaf : goal.invariant-loop-leaf
 invariant-loop-leaf g l = l.alarms.items ≡ l.initial.alarms.items
-    ++ leaf_alarms (lowered_of l.lowered) (cells_at l.locations.cells.items (g.V.View.store l.view)) (map leaf_of (take l.leaf-index l.leaves))
+    ++ leaf_alarms l.input.sharp (lowered_of l.input.lowered.now) (cells_at l.input.locations.now.cells.items (g.V.View.store l.input.view.now)) (map leaf_of (take l.leaf-index l.leaves))

@@ -7,4 +7,4 @@ use Rattle.sp_effect_alarms.proofs.nodes.add_list.Given as goal
 
 abbrev pub invariant-loop-expr : goal.invariant-loop-expr
 invariant-loop-expr g l = l.alarms.items ≡ l.initial.alarms.items
-    ++ list_alarms (lowered_of l.lowered) (cells_at l.locations.cells.items (g.V.View.store l.view)) (map expression_of (take l.expr-index l.exprs))
+    ++ list_alarms l.input.sharp (lowered_of l.input.lowered.now) (cells_at l.input.locations.now.cells.items (g.V.View.store l.input.view.now)) (map expression_of (take l.expr-index l.exprs))

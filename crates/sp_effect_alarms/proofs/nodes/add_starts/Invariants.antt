@@ -6,4 +6,4 @@ use Rattle.sp_effect_alarms.proofs.nodes.add_starts.Given as goal
 
 abbrev pub invariant-loop-object : goal.invariant-loop-object
 invariant-loop-object g l = l.alarms.items ≡ l.initial.alarms.items
-    ++ start_alarms (lowered_of l.lowered) (cells_at l.locations.cells.items (g.V.View.store l.view)) (map object_of (take l.object-index l.objects))
+    ++ start_alarms l.input.sharp (lowered_of l.input.lowered.now) (cells_at l.input.locations.now.cells.items (g.V.View.store l.input.view.now)) (map object_of (take l.object-index l.objects))

@@ -17,7 +17,7 @@ store-requires-clause-there g c =
     let lvalue = lvalue_of c.args.lvalue.now in
     λ k e low l h. c.requires.among l (hits-there (destination scene lvalue) c.args.hit.now c.as_slice-targets.result.now c.requires.defs
     (within-seen scene s lvalue c.as_slice-targets.result.now (known_of c.in_ok-bottom.bottom) c.as_slice-targets.ensures
-    (bottom-seen scene s (terrain_of (lowered_of c.lowered-lowered.result.now)) c.locations-locations.result.now.cells.items c.lowered-lowered.ensures c.locations-locations.ensures lvalue (known_of c.in_ok-bottom.bottom) c.in_ok-bottom.ensures)
+    (bottom-seen scene s (terrain_of (lowered_of c.lowered-lowered.result.now)) c.locations-locations.result.now.cells.items c.grid-grid.result.now c.lowered-lowered.ensures c.locations-locations.ensures c.grid-grid.ensures lvalue (known_of c.in_ok-bottom.bottom) c.in_ok-bottom.ensures)
     (g.met.S.Scenery.lawful c.args.scene.now) c.requires.below) k e low l h)
 
 pub store-requires-clause-hit_there : goal.store-requires-clause-hit_there
@@ -31,11 +31,12 @@ returns g c = λ l h.
     let e = expression_of c.args.value.now in
     let terrain = terrain_of (lowered_of c.lowered-lowered.result.now) in
     let cells = c.locations-locations.result.now.cells.items in
+    let grid = c.grid-grid.result.now in
     assigned scene s lvalue c.as_slice-targets.result.now (known_of c.in_ok-bottom.bottom) c.as_slice-targets.ensures
-    (bottom-seen scene s terrain cells c.lowered-lowered.ensures c.locations-locations.ensures lvalue (known_of c.in_ok-bottom.bottom) c.in_ok-bottom.ensures)
+    (bottom-seen scene s terrain cells grid c.lowered-lowered.ensures c.locations-locations.ensures c.grid-grid.ensures lvalue (known_of c.in_ok-bottom.bottom) c.in_ok-bottom.ensures)
     e (known_of c.in_ok-value.value) (λ (k : ℕ). store_of c.args.places.now c.args.row.now k) (store_of c.args.places.now c.store.new.row l) l
-    (value-seen scene s terrain cells c.lowered-lowered.ensures c.locations-locations.ensures e (known_of c.in_ok-value.value) c.in_ok-value.ensures)
+    (value-seen scene s terrain cells grid c.lowered-lowered.ensures c.locations-locations.ensures c.grid-grid.ensures e (known_of c.in_ok-value.value) c.in_ok-value.ensures)
     (c.in_ok-store.ensures.stored l h)
 
 pub invariant_of-to : goal.invariant_of-to
-invariant_of-to g c = record { made = c.in_ok-slot.ensures ∙ ap (λ points. stored points (known_of c.in_ok-value.value)) c.ladder.ensures }
+invariant_of-to g c = record { made = c.in_ok-slot.ensures ∙ ap (λ points. stored points (known_of c.in_ok-value.value)) c.grid-grid.ensures }

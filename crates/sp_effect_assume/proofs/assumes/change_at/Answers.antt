@@ -21,7 +21,7 @@ returns-clause-there g c =
     let test = ap at (sym known) ∙ sym c.either_names.ensures in
     elim c.if-either_names.branch [
       | then-either_names+in_ok-left+in_ok-slot w ↦ ap (λ r. store_of c.args.places.now r c.args.location) w.row-is
-          ∙ replaced (at own) (store_of c.args.places.now w.put_at.new.row c.args.location) old (stored scene.setting.ladder (left own)) (test ∙ w.if-either_names.true)
-          (w.put_at.ensures.there ∙ stored-left left w.in_ok-slot.slot w.ladder.result.now scene.setting.ladder (known_of w.in_ok-left.left) (known_of c.in_ok-own.own) own w.in_ok-slot.ensures w.ladder.ensures w.in_ok-left.ensures known)
-      | else-either_names w ↦ ap (λ r. store_of c.args.places.now r c.args.location) w.row-is ∙ stays (at own) old old (stored scene.setting.ladder (left own)) (test ∙ w.if-either_names.false) refl
+          ∙ replaced (at own) (store_of c.args.places.now w.put_at.new.row c.args.location) old (stored scene.setting.grid (left own)) (test ∙ w.if-either_names.true)
+          (w.put_at.ensures.there ∙ stored-left left w.in_ok-slot.slot w.grid.result.now scene.setting.grid (known_of w.in_ok-left.left) (known_of c.in_ok-own.own) own w.in_ok-slot.ensures w.grid.ensures w.in_ok-left.ensures known)
+      | else-either_names w ↦ ap (λ r. store_of c.args.places.now r c.args.location) w.row-is ∙ stays (at own) old old (stored scene.setting.grid (left own)) (test ∙ w.if-either_names.false) refl
     ]

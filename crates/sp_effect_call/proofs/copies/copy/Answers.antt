@@ -15,8 +15,8 @@ pub returns : goal.returns
 returns g c = λ l h.
     let a = analysed_of c.args.analysis.now in
     let store : ℕ → _ = λ n. g.V.View.store c.args.view.now n in
-    stored-row a (lvalue_of c.args.to.now) (λ s q k. copied_of a.program (known_in_regions (scene_of a) s) q k (lvalue_of c.args.from.now))
-    (λ q k. stored a.ladder (fitted (scene_of a) k (copied_at a.program (known_in_regions (scene_of a) store) q k (known_of c.in_ok-source.source)))) store (λ (n : ℕ). store_of c.args.places.now c.args.row.now n) l
+    stored-row a (lvalue_of c.args.to.now) (λ s q k. copied_of a.grid.sharp a.program (known_in_regions (scene_of a) s) q k (lvalue_of c.args.from.now))
+    (λ q k. stored a.grid (fitted (scene_of a) k (copied_at a.program (known_in_regions (scene_of a) store) q k (known_of c.in_ok-source.source)))) store (λ (n : ℕ). store_of c.args.places.now c.args.row.now n) l
     (store_of c.args.places.now c.store_leaves.new.row l) c.args.analysis.now.locations.cells.items c.as_slice-targets.result.now (known_of c.in_ok-bottom.bottom)
     c.args.analysis.now.cells c.in_ok-bottom.ensures c.as_slice-targets.ensures
-    (λ q k. ap (λ (v : Known). stored a.ladder (fitted (scene_of a) k (copied_at a.program (known_in_regions (scene_of a) store) q k v))) c.in_ok-source.ensures) (c.in_ok-store_leaves.ensures l h)
+    (λ q k. ap (λ (v : Known). stored a.grid (fitted (scene_of a) k (copied_at a.program (known_in_regions (scene_of a) store) q k v))) c.in_ok-source.ensures) (c.in_ok-store_leaves.ensures l h)

@@ -4,7 +4,7 @@ use Rattle.sp_effect_call.proofs.Joins.{joined-next, joined-all}
 use Rattle.sp_effect_call.proofs.joined.join_told.Goals as goal
 
 pub loop-number-init : goal.loop-number-init
-loop-number-init g c = c.of_numbers-sum.ensures
+loop-number-init g c = c.none-sum.ensures
 
 pub loop-number-preserved : goal.loop-number-preserved
 loop-number-preserved g c =

@@ -18,7 +18,7 @@ pub returns : goal.returns
 returns g c = λ l h.
     let a = analysed_of c.args.analysis.now in
     stored-row a (lvalue_of c.args.to.now) (λ s q k. foreign_leaf a.program (lvalue_of c.args.to.now) (site_targets (terrain_of a.program) c.args.site) q k)
-    (λ q k. stored a.ladder (fitted (scene_of a) k (foreign_leaf a.program (lvalue_of c.args.to.now) c.in_ok-site.site.targets q k))) (λ n. g.V.View.store c.args.view.now n) (λ (n : ℕ). store_of c.args.places.now c.args.row.now n) l
+    (λ q k. stored a.grid (fitted (scene_of a) k (foreign_leaf a.program (lvalue_of c.args.to.now) c.in_ok-site.site.targets q k))) (λ n. g.V.View.store c.args.view.now n) (λ (n : ℕ). store_of c.args.places.now c.args.row.now n) l
     (store_of c.args.places.now c.store_leaves.new.row l) c.args.analysis.now.locations.cells.items c.as_slice-targets.result.now (known_of c.in_ok-bottom.bottom)
     c.args.analysis.now.cells c.in_ok-bottom.ensures c.as_slice-targets.ensures
-    (λ q k. ap (λ (v : Known). stored a.ladder (fitted (scene_of a) k (foreign_leaf a.program (lvalue_of c.args.to.now) v.targets q k))) c.in_ok-site.ensures) (c.in_ok-store_leaves.ensures l h)
+    (λ q k. ap (λ (v : Known). stored a.grid (fitted (scene_of a) k (foreign_leaf a.program (lvalue_of c.args.to.now) v.targets q k))) c.in_ok-site.ensures) (c.in_ok-store_leaves.ensures l h)

@@ -19,10 +19,10 @@ evaluated-requires g c = all_at (λ (e : Expression). is_proper e ≡ true) (map
 
 pub loop-arg-preserved : goal.loop-arg-preserved
 loop-arg-preserved g c =
-    images-next evaluated_of (λ e. evaluated (lowered_of c.args.analysis.now.lowered) (known_in_regions (scene_of (analysed_of c.args.analysis.now)) (λ n. g.V.View.store c.args.view.now n)) (expression_of e)) c.args.args.now c.loop-arg.arg-index c.arg-item.result
+    images-next evaluated_of (λ e. evaluated c.args.analysis.now.grid.sharp (lowered_of c.args.analysis.now.lowered) (known_in_regions (scene_of (analysed_of c.args.analysis.now)) (λ n. g.V.View.store c.args.view.now n)) (expression_of e)) c.args.args.now c.loop-arg.arg-index c.arg-item.result
     c.loop-arg.arguments.items c.push.new.self.items c.in_ok-argument.argument c.loop-arg-test.true c.arg-item.is c.loop-arg.invariant c.in_ok-argument.ensures c.in_ok-push.ensures.items
 
 pub returns : goal.returns
 returns g c =
-    images-all (evaluated (lowered_of c.args.analysis.now.lowered) (known_in_regions (scene_of (analysed_of c.args.analysis.now)) (λ n. g.V.View.store c.args.view.now n))) expression_of c.args.args.now c.loop-arg.arg-index
+    images-all (evaluated c.args.analysis.now.grid.sharp (lowered_of c.args.analysis.now.lowered) (known_in_regions (scene_of (analysed_of c.args.analysis.now)) (λ n. g.V.View.store c.args.view.now n))) expression_of c.args.args.now c.loop-arg.arg-index
     (map evaluated_of c.loop-arg.arguments.items) (omega (arith, c.loop-arg-test.false)) c.loop-arg.invariant

@@ -15,6 +15,6 @@ returns g c = λ l h.
     let a = analysed_of c.args.analysis.now in
     let store : ℕ → _ = λ n. g.V.View.store c.args.view.now n in
     stored-row a (lvalue_of c.args.to.now) (results_value a c.args.call (lvalue_of c.args.to.now))
-    (λ q k. stored a.ladder (fitted (scene_of a) k (results_value a c.args.call (lvalue_of c.args.to.now) store q k))) store (λ (n : ℕ). store_of c.args.places.now c.args.row.now n) l
+    (λ q k. stored a.grid (fitted (scene_of a) k (results_value a c.args.call (lvalue_of c.args.to.now) store q k))) store (λ (n : ℕ). store_of c.args.places.now c.args.row.now n) l
     (store_of c.args.places.now c.store_leaves.new.row l) c.args.analysis.now.locations.cells.items c.as_slice-targets.result.now (known_of c.in_ok-bottom.bottom)
     c.args.analysis.now.cells c.in_ok-bottom.ensures c.as_slice-targets.ensures (λ q k. refl) (c.in_ok-store_leaves.ensures l h)

@@ -13,7 +13,7 @@ returns g c = λ l.
     let scene = g.S.Scenery.scene c.args.scene.now in
     let places = c.args.places.now in
     let old = store_of places c.args.row.now l in
-    cut-stored (has l c.args.cuts.now) scene.setting.ladder
+    cut-stored (has l c.args.cuts.now) scene.setting.grid
     (cut_by_all scene (known_in_regions scene (g.V.View.store c.args.view.now)) (map access_of c.args.accesses.now) l (known_in old))
     old (store_of places c.cut_all.new.row l) (store_of places c.store_all.new.row l)
     (c.in_ok-cut_all.ensures.cut l) (c.in_ok-cut_all.ensures.others l) (c.in_ok-store_all.ensures l)

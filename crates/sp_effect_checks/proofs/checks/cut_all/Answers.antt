@@ -18,11 +18,11 @@ cut_named-requires-clause-proper g c =
 
 pub loop-access-preserved : goal.loop-access-preserved
 loop-access-preserved g c =
-    let scene = g.S.Scenery.scene c.args.scene.now in
-    let places = c.args.places.now in
+    let scene = g.S.Scenery.scene c.args.site.now.scene.now in
+    let places = c.args.site.now.places.now in
     record {
       cut = λ k there.
-          cut-more scene (known_in_regions scene (g.V.View.store c.args.view.now)) c.args.accesses.now c.loop-access.access-index c.access-item.result k
+          cut-more scene (known_in_regions scene (g.V.View.store c.args.site.now.view.now)) c.args.accesses.now c.loop-access.access-index c.access-item.result k
           (known_in (store_of places c.args.row.now k)) (known_in (store_of places c.loop-access.row k)) (known_in (store_of places c.cut_named.new.row k))
           c.loop-access-test.true c.access-item.is (c.loop-access.invariant.cut k there) (c.in_ok-cut_named.ensures.cut k there);
       others = λ k there. c.in_ok-cut_named.ensures.others k there ∙ c.loop-access.invariant.others k there;

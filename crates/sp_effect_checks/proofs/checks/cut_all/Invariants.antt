@@ -10,7 +10,7 @@ use Rattle.sp_effect_checks.proofs.checks.cut_all.Given as goal
 -- cut by the first accesses
 abbrev pub invariant-loop-access : goal.invariant-loop-access
 invariant-loop-access g l = record {
-  cut : (k : ℕ) → has k l.cuts ≡ true → known_in (store_of l.places l.row k) ≡ cut_by_all (g.S.Scenery.scene l.scene)
-      (known_in_regions (g.S.Scenery.scene l.scene) (g.V.View.store l.view)) (map access_of (take l.access-index l.accesses)) k (known_in (store_of l.places l.fn.row k));
-  others : (k : ℕ) → has k l.cuts ≡ false → store_of l.places l.row k ≡ store_of l.places l.fn.row k;
+  cut : (k : ℕ) → has k l.site.cuts.now ≡ true → known_in (store_of l.site.places.now l.row k) ≡ cut_by_all (g.S.Scenery.scene l.site.scene.now)
+      (known_in_regions (g.S.Scenery.scene l.site.scene.now) (g.V.View.store l.site.view.now)) (map access_of (take l.access-index l.accesses)) k (known_in (store_of l.site.places.now l.fn.row k));
+  others : (k : ℕ) → has k l.site.cuts.now ≡ false → store_of l.site.places.now l.row k ≡ store_of l.site.places.now l.fn.row k;
 }

@@ -12,11 +12,11 @@ use Rattle.sp_effect_checks.proofs.checks.cut_each.Goals as goal
 
 pub loop-location-preserved : goal.loop-location-preserved
 loop-location-preserved g c =
-    let scene = g.S.Scenery.scene c.args.scene.now in
-    let places = c.args.places.now in
+    let scene = g.S.Scenery.scene c.args.site.now.scene.now in
+    let places = c.args.site.now.places.now in
     record {
       cut = λ k there.
-          once (λ (v : Known). cut_by scene (known_in_regions scene (g.V.View.store c.args.view.now)) (type_of c.args.access.now.of.now) (expression_of c.args.access.now.pointer.now) k v)
+          once (λ (v : Known). cut_by scene (known_in_regions scene (g.V.View.store c.args.site.now.view.now)) (type_of c.args.access.now.of.now) (expression_of c.args.access.now.pointer.now) k v)
           c.args.locations.now c.loop-location.location-index _ k (known_in (store_of places c.args.row.now k)) (known_in (store_of places c.loop-location.row k)) (known_in (store_of places c.cut_among.new.row k))
           (AllPairs-from_increasing c.args.locations.now c.requires.once) c.loop-location-test.true (c.loop-location.invariant.cut k there) (c.in_ok-cut_among.ensures.cut k there);
       others = λ k there. c.in_ok-cut_among.ensures.others k there ∙ c.loop-location.invariant.others k there;

@@ -26,8 +26,8 @@ returns-in_ok-by-in-Move g c =
     (by-pointer scene (known_in_regions scene s) terrain (type_of a.of.now) (expression_of a.pointer.now) (expression_of m.pointer.value) (expression_of m.by.value) m.back m.size c.args.location
     (known_of c.in_ok-by-in-Move.by) (known_of c.args.own.now) (ap expression_of m.is ∙ move-view m.pointer m.by m.back m.size) c.lowered-lowered.ensures
     (ap (λ (x : Expr). reads_cell scene (expression_of x) c.args.location) (sym c.deref.ensures) ∙ sym c.reads-in-Move.ensures ∙ c.if-reads-2.true)
-    (value-seen scene s terrain c.locations.result.now.cells.items c.lowered-lowered.ensures c.locations.ensures (expression_of c.deref-then-reads-2.result.now) (known_of c.in_ok-by-in-Move.by) c.in_ok-by-in-Move.ensures
-    ∙ ap (λ (x : Expr). value_of scene.terrain (known_in_regions scene s) (expression_of x)) c.deref-then-reads-2.ensures))
+    (value-seen scene s terrain c.locations.result.now.cells.items c.grid.result.now c.lowered-lowered.ensures c.locations.ensures c.grid.ensures (expression_of c.deref-then-reads-2.result.now) (known_of c.in_ok-by-in-Move.by) c.in_ok-by-in-Move.ensures
+    ∙ ap (λ (x : Expr). value_of scene.setting.grid.sharp scene.terrain (known_in_regions scene s) (expression_of x)) c.deref-then-reads-2.ensures))
     c.cut_pointer-then-reads-2.ensures
 
 pub returns-in_ok-from-in-Move : goal.returns-in_ok-from-in-Move
@@ -38,10 +38,10 @@ returns-in_ok-from-in-Move g c =
     let m = c.in-Move in
     let terrain = terrain_of (lowered_of c.lowered-lowered.result.now) in
     subst (λ (k : Known). IfOk c.cut_step.result (λ left. known_of left ≡ k))
-    (by-step scene (known_in_regions scene s) terrain (type_of a.of.now) (expression_of a.pointer.now) (expression_of m.pointer.value) (expression_of m.by.value) m.back m.size c.args.location
-    (known_of c.in_ok-from-in-Move.from) (known_of c.args.own.now) (ap expression_of m.is ∙ move-view m.pointer m.by m.back m.size) c.lowered-lowered.ensures
+    (by-step scene (known_in_regions scene s) terrain c.grid.result.now (type_of a.of.now) (expression_of a.pointer.now) (expression_of m.pointer.value) (expression_of m.by.value) m.back m.size c.args.location
+    (known_of c.in_ok-from-in-Move.from) (known_of c.args.own.now) (ap expression_of m.is ∙ move-view m.pointer m.by m.back m.size) c.lowered-lowered.ensures c.grid.ensures
     (ap (λ (x : Expr). reads_cell scene (expression_of x) c.args.location) (sym c.deref.ensures) ∙ sym c.reads-in-Move.ensures ∙ c.if-reads-2.false)
     (ap (λ (x : Expr). reads_cell scene (expression_of x) c.args.location) (sym c.deref-else-reads-2.ensures) ∙ sym c.reads-else-reads-2.ensures ∙ c.if-reads-3.true)
-    (value-seen scene s terrain c.locations-then-reads-3.result.now.cells.items c.lowered-lowered.ensures c.locations-then-reads-3.ensures (expression_of c.deref-then-reads-3.result.now) (known_of c.in_ok-from-in-Move.from) c.in_ok-from-in-Move.ensures
-    ∙ ap (λ (x : Expr). value_of scene.terrain (known_in_regions scene s) (expression_of x)) c.deref-then-reads-3.ensures))
+    (value-seen scene s terrain c.locations-then-reads-3.result.now.cells.items c.grid.result.now c.lowered-lowered.ensures c.locations-then-reads-3.ensures c.grid.ensures (expression_of c.deref-then-reads-3.result.now) (known_of c.in_ok-from-in-Move.from) c.in_ok-from-in-Move.ensures
+    ∙ ap (λ (x : Expr). value_of scene.setting.grid.sharp scene.terrain (known_in_regions scene s) (expression_of x)) c.deref-then-reads-3.ensures))
     c.cut_step.ensures

@@ -8,4 +8,4 @@ use Rattle.sp_effect_checks.proofs.checks.store_all.Given as goal
 -- the first ones are moved to the ladder
 abbrev pub invariant-loop-location : goal.invariant-loop-location
 invariant-loop-location g l = (k : ℕ) → store_of l.places l.row k ≡ cond (has k (take l.location-index l.cuts))
-    (stored (g.S.Scenery.scene l.scene).setting.ladder (known_in (store_of l.places l.fn.row k))) (store_of l.places l.fn.row k)
+    (stored (g.S.Scenery.scene l.scene).setting.grid (known_in (store_of l.places l.fn.row k))) (store_of l.places l.fn.row k)

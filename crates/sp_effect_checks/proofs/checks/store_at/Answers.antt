@@ -7,8 +7,8 @@ use Rattle.sp_effect_checks.proofs.checks.store_at.Goals as goal
 
 pub returns : goal.returns
 returns g c =
-    let ladder = (g.S.Scenery.scene c.args.scene.now).setting.ladder in
+    let grid = (g.S.Scenery.scene c.args.scene.now).setting.grid in
     let places = c.args.places.now in
-    at-one c.args.location (λ (l : ℕ). store_of places c.put_at.new.row l) (λ (l : ℕ). stored ladder (known_in (store_of places c.args.row.now l))) (λ (l : ℕ). store_of places c.args.row.now l)
-    (c.put_at.ensures.there ∙ c.in_ok-slot.ensures ∙ ap (λ p. stored p (known_of c.in_ok-own.own)) c.ladder.ensures ∙ ap (stored ladder) c.in_ok-own.ensures)
+    at-one c.args.location (λ (l : ℕ). store_of places c.put_at.new.row l) (λ (l : ℕ). stored grid (known_in (store_of places c.args.row.now l))) (λ (l : ℕ). store_of places c.args.row.now l)
+    (c.put_at.ensures.there ∙ c.in_ok-slot.ensures ∙ ap (λ p. stored p (known_of c.in_ok-own.own)) c.grid.ensures ∙ ap (stored grid) c.in_ok-own.ensures)
     c.put_at.ensures.others

@@ -12,12 +12,12 @@ pub returns : goal.returns
 returns c = λ s k h.
     let a = analysed_of c.args.analysis.now in
     entered-row a c.args.analysis.now.whole s (λ (n : ℕ). store_of c.args.places.now c.args.row.now n) k (store_of c.args.places.now c.loop-place.row k) c.args._function (sym (c.requires.defs k) ∙ h)
-    (filled-all c.args.places.now c.loop-place.place-index k (store_of c.args.places.now c.loop-place.row k) (stored a.ladder (every_value a.program (cell_of (setting_of a) k))) (store_of c.args.places.now c.args.row.now k)
+    (filled-all c.args.places.now c.loop-place.place-index k (store_of c.args.places.now c.loop-place.row k) (stored a.grid (every_value a.program (cell_of (setting_of a) k))) (store_of c.args.places.now c.args.row.now k)
     (omega (arith, c.loop-place-test.false)) h (c.loop-place.invariant k))
 
 pub loop-place-preserved : goal.loop-place-preserved
 loop-place-preserved c =
     let a = analysed_of c.args.analysis.now in
-    filled-next (λ (n : ℕ). stored a.ladder (every_value a.program (cell_of (setting_of a) n))) c.args.places.now c.loop-place.place-index
+    filled-next (λ (n : ℕ). stored a.grid (every_value a.program (cell_of (setting_of a) n))) c.args.places.now c.loop-place.place-index
     (λ (n : ℕ). store_of c.args.places.now c.args.row.now n) (λ (n : ℕ). store_of c.args.places.now c.loop-place.row n) (λ (n : ℕ). store_of c.args.places.now c.put_at.new.row n)
     c.loop-place-test.true c.loop-place.invariant (get_or c.args.places.now c.loop-place.place-index 0) refl (c.put_at.ensures.there ∙ c.in_ok-slot.ensures) c.put_at.ensures.others

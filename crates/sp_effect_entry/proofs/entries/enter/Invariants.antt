@@ -11,4 +11,4 @@ use Rattle.sp_effect_entry.proofs.entries.enter.Given as goal
 -- the first places are filled
 abbrev pub invariant-loop-place : goal.invariant-loop-place
 invariant-loop-place l = (k : ℕ) → store_of l.places l.row k
-    ≡ cond (has k (take l.place-index l.places)) (stored l.analysis.ladder (every_value (analysed_of l.analysis).program (cell_of (setting_of (analysed_of l.analysis)) k))) (store_of l.places l.fn.row k)
+    ≡ cond (has k (take l.place-index l.places)) (stored l.analysis.grid (every_value (analysed_of l.analysis).program (cell_of (setting_of (analysed_of l.analysis)) k))) (store_of l.places l.fn.row k)

@@ -8,4 +8,4 @@ pub stored-requires : goal.stored-requires
 stored-requires c = c.args.analysis.now.points
 
 pub returns : goal.returns
-returns c = c.in_ok-slot.ensures ∙ ap (stored c.args.analysis.now.ladder) (c.every_value-value.ensures ∙ ap (every_value (analysed_of c.args.analysis.now).program) c.region.ensures)
+returns c = c.in_ok-slot.ensures ∙ ap (stored c.args.analysis.now.grid) (c.every_value-value.ensures ∙ ap (every_value (analysed_of c.args.analysis.now).program) c.region.ensures)

@@ -13,4 +13,4 @@ stored-requires c = c.args.analysis.now.points
 pub returns : goal.returns
 returns c = λ l h. c.in_ok-join_each.ensures l h
     ∙ ap (λ x. slot_join (store_of c.args.places.now c.args.row.now l) (joins (slot_at (analysed_of c.args.analysis.now) x l) c.args.cells.now))
-    (c.in_ok-slot.ensures ∙ ap (stored c.args.analysis.now.ladder) c.zero_value.ensures)
+    (c.in_ok-slot.ensures ∙ ap (stored c.args.analysis.now.grid) c.zero_value.ensures)

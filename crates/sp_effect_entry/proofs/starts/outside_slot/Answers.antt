@@ -12,7 +12,7 @@ stored-requires c = c.args.analysis.now.points
 pub returns : goal.returns
 returns c =
     let p = (analysed_of c.args.analysis.now).program in
-    c.in_ok-slot.ensures ∙ ap (stored c.args.analysis.now.ladder)
+    c.in_ok-slot.ensures ∙ ap (stored c.args.analysis.now.grid)
     (ap known_of c.in_ok-both.ensures
     ∙ ap (λ v. known_join v (known_of c.in_ok-passed.passed)) c.elsewhere_at-elsewhere.ensures
     ∙ ap (λ v. known_join (elsewhere_at p c.region-region.result) v) c.in_ok-passed.ensures

@@ -20,10 +20,10 @@ returns g c = λ l h.
     let a = analysed_of c.args.analysis.now in
     let to = lvalue_of c.args.to.now in
     let s : ℕ → _ = λ n. g.V.View.store c.args.view.now n in
-    stored-row a to (λ t q k. converted (lvalue_type to) (known_of c.args.given.now)) (λ q k. stored a.ladder (fitted (scene_of a) k (known_of c.in_ok-value.value))) s (λ (n : ℕ). store_of c.args.places.now c.args.row.now n) l
+    stored-row a to (λ t q k. converted c.args.analysis.now.grid.sharp (lvalue_type to) (known_of c.args.given.now)) (λ q k. stored a.grid (fitted (scene_of a) k (known_of c.in_ok-value.value))) s (λ (n : ℕ). store_of c.args.places.now c.args.row.now n) l
     (store_of c.args.places.now c.store_among.new.row l) c.args.analysis.now.locations.cells.items c.as_slice-targets.result.now (known_of c.in_ok-bottom.bottom)
     c.args.analysis.now.cells c.in_ok-bottom.ensures c.as_slice-targets.ensures
-    (λ q k. ap (λ (v : Known). stored a.ladder (fitted (scene_of a) k v)) (c.in_ok-value.ensures ∙ ap (λ t. converted t (known_of c.args.given.now)) c.of.ensures))
-    (given-among a (scene_lawful a c.args.analysis.now.whole) to s c.requires.below (λ q k. stored a.ladder (fitted (scene_of a) k (known_of c.in_ok-value.value))) c.args.analysis.now.locations.cells.items (known_of c.in_ok-bottom.bottom)
+    (λ q k. ap (λ (v : Known). stored a.grid (fitted (scene_of a) k v)) (c.in_ok-value.ensures ∙ ap (λ t. converted c.args.analysis.now.grid.sharp t (known_of c.args.given.now)) c.of.ensures))
+    (given-among a (scene_lawful a c.args.analysis.now.whole) to s c.requires.below (λ q k. stored a.grid (fitted (scene_of a) k (known_of c.in_ok-value.value))) c.args.analysis.now.locations.cells.items (known_of c.in_ok-bottom.bottom)
     c.as_slice-targets.result.now c.as_slice.result.now c.args.places.now (λ (n : ℕ). store_of c.args.places.now c.args.row.now n) l (store_of c.args.places.now c.store_among.new.row l)
     c.args.analysis.now.cells c.in_ok-bottom.ensures c.as_slice-targets.ensures (ap (has l) c.as_slice.ensures.value ∙ c.in_ok-hit.ensures l) h (c.in_ok-store_among.ensures l h))

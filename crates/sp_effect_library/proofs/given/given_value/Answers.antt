@@ -8,8 +8,8 @@ use Rattle.sp_effect_library.specs.Given.{number_of}
 use Rattle.sp_effect_library.proofs.GivenLaws.{number-formed}
 use Rattle.sp_effect_library.proofs.given.given_value.Goals as goal
 
-pub of_numbers-requires : goal.of_numbers-requires
-of_numbers-requires c =
+pub of_span-requires : goal.of_span-requires
+of_span-requires c =
     let p = lowered_of c.args.lowered.now in
     let v = known_of c.args.first.now in
     let w = known_of c.args.second.now in

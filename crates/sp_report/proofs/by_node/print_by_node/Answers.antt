@@ -11,11 +11,11 @@ add_node-requires g c = c.requires.proper (get_or c.args.nodes.now c.loop-k.k 0)
 pub loop-k-preserved : goal.loop-k-preserved
 loop-k-preserved g c =
     let added = rw (c.new-input.ensures.inputs, c.new-input.ensures.node) at c.in_ok-add_node.ensures in
-    ap (λ ms. ms ++ by_node_from c.args.names.now (lowered_of c.args.lowered.now)
-    c.args.locations.now.cells.items (g.I.Inputs.given c.args.inputs.now) (c.loop-k.k + 1)
+    ap (λ ms. ms ++ by_node_from c.args.names.now c.args.subject.now.sharp (lowered_of c.args.subject.now.lowered.now)
+    c.args.subject.now.locations.now.cells.items (g.I.Inputs.given c.args.inputs.now) (c.loop-k.k + 1)
     (drop (c.loop-k.k + 1) c.args.nodes.now)) added
-    ∙ by_node_step c.args.names.now (lowered_of c.args.lowered.now)
-    c.args.locations.now.cells.items (g.I.Inputs.given c.args.inputs.now) c.loop-k.k
+    ∙ by_node_step c.args.subject.now.sharp c.args.names.now (lowered_of c.args.subject.now.lowered.now)
+    c.args.subject.now.locations.now.cells.items (g.I.Inputs.given c.args.inputs.now) c.loop-k.k
     (get_or c.args.nodes.now c.loop-k.k 0) c.args.nodes.now c.loop-k.text.items
     c.loop-k-test.true refl
     ∙ c.loop-k.invariant

@@ -10,6 +10,6 @@ add_alarms-requires g c = c.requires.proper (get_or c.args.nodes.now c.loop-k.k 
 pub loop-k-preserved : goal.loop-k-preserved
 loop-k-preserved g c =
     let added = rw (c.new-input.ensures.inputs, c.new-input.ensures.node) at c.in_ok-add_alarms.ensures in
-    ap (λ ms. ms ++ alarms_from (lowered_of c.args.lowered.now) c.args.locations.now.cells.items (g.I.Inputs.given c.args.inputs.now) (c.loop-k.k + 1) (drop (c.loop-k.k + 1) c.args.nodes.now)) added
-    ∙ alarms_step (lowered_of c.args.lowered.now) c.args.locations.now.cells.items (g.I.Inputs.given c.args.inputs.now) c.loop-k.k (get_or c.args.nodes.now c.loop-k.k 0) c.args.nodes.now c.loop-k.alarms.items c.loop-k-test.true refl
+    ap (λ ms. ms ++ alarms_from c.args.subject.now.sharp (lowered_of c.args.subject.now.lowered.now) c.args.subject.now.locations.now.cells.items (g.I.Inputs.given c.args.inputs.now) (c.loop-k.k + 1) (drop (c.loop-k.k + 1) c.args.nodes.now)) added
+    ∙ alarms_step c.args.subject.now.sharp (lowered_of c.args.subject.now.lowered.now) c.args.subject.now.locations.now.cells.items (g.I.Inputs.given c.args.inputs.now) c.loop-k.k (get_or c.args.nodes.now c.loop-k.k 0) c.args.nodes.now c.loop-k.alarms.items c.loop-k-test.true refl
     ∙ c.loop-k.invariant

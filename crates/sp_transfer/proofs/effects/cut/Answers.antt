@@ -36,8 +36,8 @@ returns-in_ok-check-in-Some g c = λ l.
     let there = subst (λ ns. slice_get (map node_of ns) c.args.node ≡ Some (node_of c.in-Some.found.now)) c.deref.ensures.value (mapped-at node_of c.deref.result.now c.args.node c.in-Some.found.now c.in-Some.ensures.lookup.3.0 c.in-Some.ensures.lookup.1) in
     let seen = ap (map access_of) c.deref-in-Some.ensures.value ∙ c.in_ok-accesses-in-Some.ensures ∙ ap (λ x. accessed_by c.args.at.now.sharp (command_in x)) (sym there) in
     c.in_ok-check-in-Some.ensures l
-    ∙ ap (λ b. cond b (stored a.ladder (cut_by_all (scene_of a) (known_in_regions (scene_of a) s) (map access_of c.deref-in-Some.result.now) l (known_in old))) old) (c.requires.cuts.are l)
-    ∙ ap (λ xs. cond (cut_at a c.args.at.now.sharp c.args.node l) (stored a.ladder (cut_by_all (scene_of a) (known_in_regions (scene_of a) s) xs l (known_in old))) old) seen
+    ∙ ap (λ b. cond b (stored a.grid (cut_by_all (scene_of a) (known_in_regions (scene_of a) s) (map access_of c.deref-in-Some.result.now) l (known_in old))) old) (c.requires.cuts.are l)
+    ∙ ap (λ xs. cond (cut_at a c.args.at.now.sharp c.args.node l) (stored a.grid (cut_by_all (scene_of a) (known_in_regions (scene_of a) s) xs l (known_in old))) old) seen
 
 pub returns-in-None : goal.returns-in-None
 returns-in-None g c = λ l.
@@ -45,5 +45,5 @@ returns-in-None g c = λ l.
     let s = λ (k : ℕ). g.V.View.store c.args.view.now k in
     let old = store_of c.args.at.now.places.now c.args.row.now l in
     let past = command-past (lowered_of c.args.analysis.now.lowered).nodes c.args.node (let out = c.in-None.ensures.lookup.3 in omega (arith, out, length-map c.args.analysis.now.lowered.nodes.items node_of, ap length c.deref.ensures.value)) in
-    sym (ap (λ b. cond b (stored a.ladder (cut_by_all (scene_of a) (known_in_regions (scene_of a) s) (accessed_by c.args.at.now.sharp (command_at a.program c.args.node)) l (known_in old))) old)
+    sym (ap (λ b. cond b (stored a.grid (cut_by_all (scene_of a) (known_in_regions (scene_of a) s) (accessed_by c.args.at.now.sharp (command_at a.program c.args.node)) l (known_in old))) old)
     (nothing-cut a c.args.at.now.sharp c.args.node (command_at a.program c.args.node) l past))
